@@ -1,0 +1,6 @@
+pub mod Calls
+pub mod Files
+pub mod Memory
+pub mod MemoryFiles
+pub mod Outside
+pub mod Shelf

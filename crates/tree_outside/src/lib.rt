@@ -1,0 +1,26 @@
+//! Where bytes come from and go to: a source of bytes, a sink for them, and a shelf of files, each as a trait.
+//!
+//! Each has a count of its faults. A call answers `Failed` only where the count rose in that call, and where an object
+//! tells its content, a call says what it does to that. The objects in memory tell all, and fail at the calls that their
+//! maker names. The real ones are the edge of what is proved: they tell no content. A `Pending` is the pending file of a
+//! shelf as a sink.
+#![tactic(auto)]
+
+mod calls;
+mod memory;
+mod memory_shelf;
+mod pending;
+mod real;
+mod real_shelf;
+mod traits;
+mod unread;
+
+pub use memory::{MemorySink, MemorySource};
+pub use memory_shelf::MemoryShelf;
+pub use pending::Pending;
+pub use real::{RealSink, RealSource};
+pub use real_shelf::RealShelf;
+pub use traits::{Failed, Shelf, Sink, Source};
+
+#[cfg(test)]
+mod tests;

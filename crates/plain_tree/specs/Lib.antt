@@ -1,0 +1,13 @@
+pub mod Tree
+pub mod NodeTree
+pub mod Falls
+pub mod Numbers
+pub mod XmlNames
+pub mod Documents
+pub mod Visits
+pub mod Walks
+pub mod Seen
+pub mod Freeing
+pub mod Laws
+pub mod NamePlaces
+pub mod NameTable

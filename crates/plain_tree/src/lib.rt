@@ -1,0 +1,22 @@
+//! The plain tree of a document.
+//!
+//! A document is a tree of nodes, each with a kind, a name, a value and a list of kids. `Kind`, `Bytes`, `Node` and
+//! `Nodes` hold one; contracts speak of the tree for which a node stands. `Walk` goes over a tree in document order. `Names`
+//! and `Texts` hold what a document has beside its shape.
+#![tactic(auto)]
+
+mod bytes;
+mod kind;
+mod laws;
+mod names;
+mod nodes;
+mod texts;
+mod walk;
+
+pub use bytes::Bytes;
+pub use kind::Kind;
+pub use laws::{nodes_are_counted, visits_open_nodes};
+pub use names::Names;
+pub use nodes::{Node, Nodes};
+pub use texts::Texts;
+pub use walk::{Visit, Walk};

@@ -1,0 +1,11 @@
+pub mod Lists
+pub mod Tagging
+pub mod Found
+pub mod Cutting
+pub mod Steps
+pub mod Roots
+pub mod Turns
+pub mod One
+pub mod Lawful
+pub mod Saving
+pub mod Written

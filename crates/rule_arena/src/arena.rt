@@ -1,0 +1,214 @@
+// The arena: linked nodes in slots, seen as terms in preorder.
+ghost use Rattle.std.specs.Prelude.{◌≡◌, ◌≢◌, ◌+◌, ◌^◌, ◌<◌, ◌≤◌, ℕ, None, Some, length, OnOk, IsOk, List, slice_get, ◌∷◌};
+ghost use Rattle.rule_arena.specs.declared.key.Key.{Key};
+ghost use Rattle.rule_arena.specs.Slots.{Standing, Standing-prop, room};
+
+use crate::cell::Cell;
+use crate::item::Item;
+use crate::key::Key;
+use crate::kids::Kids;
+use crate::label::Label;
+use crate::slots::{adopt, cell_of, free, read, set_kid, set_label, set_parent};
+use read_steps::Steps;
+use slab::Slab;
+use std::alloc::{AllocError, Global};
+use std::marker::Model;
+use std::sync::ledger::Ledger;
+
+// A key has 32 bits.
+const MOST_NODES: usize = 1 << 32;
+
+/// Terms whose nodes have keys.
+///
+/// It is seen as a map from the numbers of roots to their terms: lists of nodes in preorder, each with its key, its label and the
+/// number of its children. Beside it stand `spare`, the number of adds for which there is room, and `limit`, which is above the
+/// number of every node. A key names its node until that node is freed, whatever happens to the nodes around it.
+#[derive(Drop)]
+pub struct Arena {
+    alloc: Global,
+    slots: Slab<Cell>,
+    ghost standing: { Standing slots } by { Standing-prop slots },
+}
+
+impl Model for Arena {
+    ghost use Rattle.rule_arena.specs.Terms.{Terms};
+
+    ghost Value = { Terms };
+
+    ghost use Rattle.rule_arena.specs.Slots.{terms_of};
+
+    ghost view = { λ a. terms_of a.slots a.standing };
+}
+
+impl Arena {
+    ghost use Rattle.rule_arena.specs.Preorder.{with_subterm, subterm};
+    ghost use Rattle.rule_arena.specs.Terms.{Node, Apart, AreDistinct, AreRoots, At, IsRoot, IsSound, arity, joined, key_in, kids_in, labelled, parent_in, term_at};
+
+    /// An arena with no term. It takes no memory.
+    pub fn new(alloc: Global) -> Arena
+        ensures empty { (r : ℕ) → term_at result r ≡ None }
+        ensures spare { result.spare ≡ 0 }
+        ensures limit { result.limit ≡ 0 }
+    {
+        Arena {
+            alloc,
+            slots: Slab::new(alloc),
+        }
+    }
+
+    /// Makes room: the next `more` adds need no memory. Where there is room already, none is taken.
+    ///
+    /// It fails where memory is refused, and where there would be more than 2^32 nodes. The terms then stand as before, and so
+    /// does the room, unless the allocator gave more slots than there are keys: then no node is added any more.
+    pub fn reserve(&mut self, more: usize) -> Result<(), AllocError>
+        ensures room { OnOk result (more ≤ self.new.spare) }
+        ensures grown { OnOk result (self.old.spare ≤ self.new.spare) }
+        ensures kept { self.new.limit ≤ 2 ^ 32 → self.old.spare ≤ self.new.spare }
+        ensures succeeds { more ≤ self.old.spare → IsOk result }
+        ensures terms { (r : ℕ) → term_at self.new r ≡ term_at self.old r }
+        ensures limit { self.old.limit ≤ self.new.limit }
+    {
+        if more <= room_in(&self.slots) {
+            return Ok(());
+        }
+        let len = self.slots.len();
+        if len > MOST_NODES || more > MOST_NODES - len {
+            return Err(AllocError);
+        }
+        // By the double at least, so that many small calls copy each node a few times in all.
+        self.slots
+            .reserve_exact(more.max(len).min(MOST_NODES - len))?;
+        if more <= room_in(&self.slots) {
+            Ok(())
+        } else {
+            Err(AllocError)
+        }
+    }
+
+    /// Above the number of every node, and of every node that the adds make for which there is room.
+    pub fn limit(&self) -> usize
+        ensures value { result ≡ self.now.limit }
+        ensures sound { IsSound self.now }
+    {
+        self.slots.capacity()
+    }
+
+    /// A new root over these roots, at most eight, which become its children. It takes no memory.
+    pub fn add(&mut self, label: Label, kids: &[Key]) -> Key
+        requires room { 0 < self.old.spare }
+        requires few { length kids.now ≤ 8 }
+        requires roots { AreRoots self.old kids.now }
+        requires distinct { AreDistinct kids.now }
+
+        // The key is new.
+        ensures vacant { term_at self.old result.number ≡ None }
+        ensures fresh { ¬ At self.old result }
+        ensures term { term_at self.new result.number
+            ≡ Some (record { key = result; label = label; kids = length kids.now } ∷ joined self.old kids.now) }
+        ensures gone { (i : ℕ) (k : Key) → slice_get kids.now i ≡ Some k → term_at self.new k.number ≡ None }
+        ensures others { (r : ℕ) → r ≢ result.number → Apart kids.now r → term_at self.new r ≡ term_at self.old r }
+        ensures spare { self.new.spare + 1 ≡ self.old.spare }
+        ensures limit { self.new.limit ≡ self.old.limit }
+        ensures below { result.number < self.new.limit }
+    {
+        let cell = Cell::new(label, Kids::of(self.alloc, kids));
+        let key = Key::of(self.slots.insert_reserved(cell));
+        adopt(&mut self.slots, key, kids);
+        key
+    }
+
+    /// What stands at a node. One step.
+    pub fn item<L: Ledger>(&self, key: Key, steps: &mut Steps<L>) -> Item
+        requires { At self.now key }
+        ensures node { (x : At self.now key) → slice_get x.nodes x.place
+            ≡ Some (record { key = key; label = result.label; kids = length result.kids }) }
+        ensures parent { (x : At self.now key) → parent_in x.nodes x.place ≡ result.parent }
+        ensures kids { (x : At self.now key) → kids_in x.nodes x.place ≡ result.kids }
+        ensures step { steps.new ≡ steps.old + 1 }
+    {
+        let cell = read(&self.slots, key, steps);
+        Item {
+            label: cell.label(),
+            parent: cell.parent(),
+            kids: cell.kids().copy(self.alloc),
+        }
+    }
+
+    /// The next node of the same term in preorder. One step.
+    pub fn next_in_preorder<L: Ledger>(&self, key: Key, steps: &mut Steps<L>) -> Option<Key>
+        requires { At self.now key }
+        ensures next { (x : At self.now key) → key_in x.nodes (x.place + 1) ≡ result }
+        ensures step { steps.new ≡ steps.old + 1 }
+    {
+        let here = read(&self.slots, key, steps);
+        if let Some(first) = here.kids().get(0) {
+            return Some(first);
+        }
+        let mut at = here.parent();
+        while let Some(link) = at {
+            let (up, place) = link;
+            let above = cell_of(&self.slots, up);
+            if let Some(next) = above.kids().get(place) {
+                return Some(next);
+            }
+            at = above.parent();
+        }
+        None
+    }
+
+    /// Gives a node another label.
+    pub fn relabel(&mut self, at: Key, label: Label)
+        requires { At self.old at }
+        ensures changed { (x : At self.old at) → term_at self.new x.root ≡ Some (labelled x.nodes x.place label) }
+        ensures others { (x : At self.old at) (r : ℕ) → r ≢ x.root → term_at self.new r ≡ term_at self.old r }
+        ensures spare { self.new.spare ≡ self.old.spare }
+        ensures limit { self.new.limit ≡ self.old.limit }
+    {
+        set_label(&mut self.slots, at, label);
+    }
+
+    /// Puts the term of `root` in the place of the node `at`, whose term becomes a root.
+    pub fn splice(&mut self, at: Key, root: Key)
+        requires root { IsRoot self.old root }
+        requires inner { (x : At self.old at) × ((0 < x.place) × (x.root ≢ root.number)) }
+        ensures moved { (x : At self.old at) (ms : List Node) → term_at self.old root.number ≡ Some ms
+            → term_at self.new x.root ≡ Some (with_subterm arity x.nodes x.place ms) }
+        ensures freed { (x : At self.old at) → term_at self.new at.number ≡ Some (subterm arity x.nodes x.place) }
+        ensures gone { term_at self.new root.number ≡ None }
+        ensures others { (x : At self.old at) (r : ℕ) → r ≢ x.root → r ≢ at.number → r ≢ root.number
+            → term_at self.new r ≡ term_at self.old r }
+        ensures spare { self.new.spare ≡ self.old.spare }
+        ensures limit { self.new.limit ≡ self.old.limit }
+    {
+        let (up, place) = cell_of(&self.slots, at).parent().unwrap();
+        set_parent(&mut self.slots, at, None);
+        set_parent(&mut self.slots, root, Some((up, place)));
+        set_kid(&mut self.slots, up, place - 1, root);
+    }
+
+    /// Frees a whole term.
+    pub fn cut(&mut self, root: Key)
+        requires { IsRoot self.old root }
+        ensures gone { term_at self.new root.number ≡ None }
+        ensures others { (r : ℕ) → r ≢ root.number → term_at self.new r ≡ term_at self.old r }
+        // Each node's room is there again, as long as there are not more slots than keys.
+        ensures freed { (ns : List Node) → term_at self.old root.number ≡ Some ns → self.old.limit ≤ 2 ^ 32
+            → self.new.spare ≡ self.old.spare + length ns }
+        ensures spare { self.old.spare ≤ self.new.spare }
+        ensures limit { self.new.limit ≡ self.old.limit }
+    {
+        free(&mut self.slots, root);
+    }
+}
+
+// How many more nodes have room.
+fn room_in(slots: &Slab<Cell>) -> usize
+    ensures { result ≡ room slots.now }
+{
+    let capacity = slots.capacity();
+    if capacity > MOST_NODES {
+        0
+    } else {
+        capacity - slots.len()
+    }
+}

@@ -1,0 +1,69 @@
+// The children of a node.
+ghost use Rattle.std.specs.Prelude.{◌≡◌, ◌<◌, ◌≤◌, length, slice_get, slice_set};
+
+use crate::key::Key;
+use smallvec::SmallVec;
+use std::alloc::Global;
+use std::marker::Model;
+
+/// The children of a node in order, at most eight. It is seen as the list of their keys.
+#[derive(Drop)]
+pub struct Kids {
+    keys: SmallVec<Key, 8>,
+}
+
+impl Model for Kids {
+    ghost use Rattle.std.specs.Prelude.{List, ◌≤◌, length};
+    ghost use Rattle.rule_arena.specs.NodeKey.{NodeKey};
+
+    ghost Value = { List NodeKey };
+
+    ghost view = { λ k. k.keys.items };
+
+    ghost invariant = { λ k. length k.keys.items ≤ 8 };
+}
+
+impl Kids {
+    // These keys, at most eight: so no memory is taken.
+    pub(crate) fn of(alloc: Global, keys: &[Key]) -> Kids
+        requires { length keys.now ≤ 8 }
+        ensures { result ≡ keys.now }
+    {
+        Kids {
+            keys: SmallVec::from_slice(alloc, keys).unwrap(),
+        }
+    }
+
+    // The same list once more.
+    pub(crate) fn copy(&self, alloc: Global) -> Kids
+        ensures { result ≡ self.now }
+    {
+        Kids {
+            keys: SmallVec::from_slice(alloc, self.keys.as_slice()).unwrap(),
+        }
+    }
+
+    /// How many children there are.
+    pub fn len(&self) -> usize
+        ensures value { result ≡ length self.now }
+        ensures few { result ≤ 8 }
+    {
+        self.keys.len()
+    }
+
+    /// The child at a place from 0, and none past the end.
+    pub fn get(&self, at: usize) -> Option<Key>
+        ensures { result ≡ slice_get self.now at }
+    {
+        self.keys.as_slice().get(at).copied()
+    }
+
+    // Puts another key at a place.
+    pub(crate) fn set(&mut self, at: usize, key: Key)
+        requires { at < length self.old }
+        ensures { self.new ≡ slice_set self.old at key }
+    {
+        let keys = self.keys.as_mut_slice();
+        keys[at] = key;
+    }
+}

@@ -1,0 +1,14 @@
+pub mod Names
+pub mod Bodies
+pub mod Algebras
+pub mod Terms
+pub mod Grammars
+pub mod Substitution
+pub mod Editing
+pub mod Faults
+pub mod Coding
+pub mod Standing
+pub mod Laws
+pub mod Keyed
+pub mod Holding
+pub mod Building

@@ -1,0 +1,5 @@
+pub mod LabelLemmas
+pub mod InternLemmas
+pub mod LawfulLemmas
+pub mod VisitLemmas
+pub mod Stands

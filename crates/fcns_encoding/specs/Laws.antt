@@ -1,0 +1,49 @@
+-- What holds of codes and of the names that they use.
+use Rattle.std.specs.Prelude.{◌≡◌, ℕ, List, [], ◌∷◌, Some, slice_get}
+use Rattle.rule_arena.specs.declared.label.Label.{Label}
+use Rattle.plain_tree.specs.declared.kind.Kind.{Kind}
+use Rattle.plain_tree.specs.Tree.{Tree, Trees, none, more}
+use Rattle.plain_tree.specs.Numbers.{texts}
+use Rattle.plain_tree.specs.Documents.{IsDocument}
+use Rattle.plain_tree.specs.NameTable.{AreDistinct}
+use Rattle.slt_grammar.specs.Terms.{Term, holes_of}
+use Rattle.slt_grammar.specs.Grammars.{IsGrammar, IsSwept, value}
+use Rattle.slt_grammar.specs.Coding.{Codes}
+use Rattle.slt_grammar.specs.Standing.{IsLawfulPair, StandsFor}
+use Rattle.slt_grammar.specs.declared.rules.Rule.{Rule}
+use Rattle.fcns_encoding.specs.Labels.{labels_of, one_rule}
+use Rattle.fcns_encoding.specs.Interning.{Pair, Interns, pairs_of_tree}
+
+-- each pair of a table is allowed
+abbrev pub AreLawful : List Pair → Type 0
+AreLawful names = (i : ℕ) (kind : Kind) (name : List ℕ) → slice_get names i ≡ Some (kind, name) → IsLawfulPair kind name
+
+-- the one rule of a term without holes is a swept grammar, and its value is the term
+abbrev pub OneRuleMeansItsTerm : Type 0
+OneRuleMeansItsTerm = (term : Term) → holes_of term ≡ [] → IsGrammar (one_rule term) × IsSwept (one_rule term) × (value (one_rule term) ≡ term)
+
+-- the one rule of a document's code stands, with the document's texts, for the document
+abbrev pub OneRuleStandsForItsDocument : Type 0
+OneRuleStandsForItsDocument =
+    (t : Tree) (names : List Pair) (term : Term) → IsDocument t → AreDistinct names → AreLawful names → Codes names (more t none) term
+    → IsGrammar (one_rule term) × IsSwept (one_rule term) × StandsFor (one_rule term) names (texts t) t
+
+-- what encode answers stands, as the body of the one rule and with the names that have grown, for the document
+abbrev pub EncodedStandsForItsDocument : Type 0
+EncodedStandsForItsDocument =
+    (t : Tree) (old new : List Pair) (body : List Label) → IsDocument t → AreDistinct old → AreLawful old → Interns old (pairs_of_tree t) new
+    → ((term : Term) × Codes new (more t none) term × (body ≡ labels_of term)) → let G : List Rule = record { rank = 0; body = body } ∷ [] in IsGrammar G × IsSwept G × StandsFor G new (texts t) t
+
+-- names that have grown have each earlier name at its place, so that what was a code is one
+abbrev pub CodesAreKept : Type 0
+CodesAreKept =
+    (old pairs new : List Pair) → Interns old pairs new
+    → ((i : ℕ) (pair : Pair) → slice_get old i ≡ Some pair → slice_get new i ≡ Some pair) × ((ts : Trees) (term : Term) → Codes old ts term → Codes new ts term)
+
+-- no pair stands twice in names that have grown
+abbrev pub NamesStayDistinct : Type 0
+NamesStayDistinct = (old pairs new : List Pair) → Interns old pairs new → AreDistinct old → AreDistinct new
+
+-- lawful names that have grown by a document's pairs are lawful
+abbrev pub NamesAreLawful : Type 0
+NamesAreLawful = (t : Tree) (old new : List Pair) → IsDocument t → Interns old (pairs_of_tree t) new → AreLawful old → AreLawful new

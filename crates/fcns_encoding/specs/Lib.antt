@@ -1,0 +1,4 @@
+pub mod Labels
+pub mod Interning
+pub mod Visiting
+pub mod Laws

@@ -1,0 +1,90 @@
+// The code of a node.
+ghost use Rattle.std.specs.Prelude.{◌≡◌, ◌++◌, [], ◌∷◌, ℕ, IfOk, OnOk, OnErr, take, slice_get, Some};
+ghost use Rattle.rule_arena.specs.declared.label.Label.{Label as NodeLabel};
+ghost use Rattle.rule_arena.specs.declared.label.Label.TheVariants.{Symbol, Bottom};
+ghost use Rattle.plain_tree.specs.Tree.{none, more};
+ghost use Rattle.plain_tree.specs.NodeTree.{tree_of};
+ghost use Rattle.plain_tree.specs.Numbers.{has_value, texts};
+ghost use Rattle.plain_tree.specs.Seen.{visit_of};
+ghost use Rattle.slt_grammar.specs.Terms.{Term};
+ghost use Rattle.slt_grammar.specs.Coding.{Codes};
+ghost use Rattle.fcns_encoding.specs.Labels.{labels_of};
+ghost use Rattle.fcns_encoding.specs.Interning.{Interns, pair_of, pairs_of_tree};
+ghost use Rattle.fcns_encoding.specs.Visiting.{IsLabelOf, pairs_at, texts_at, text_of};
+
+use plain_tree::{Bytes, Kind, Names, Node, Texts, Visit, Walk};
+use slt_grammar::{Body, Label};
+use std::alloc::{AllocError, Global};
+
+/// The code of nodes as the labels of its term in preorder, and the values, in document order, of all nodes that have one.
+#[derive(Drop)]
+pub struct Coded {
+    pub body: Body,
+    pub texts: Texts,
+}
+
+/// The code of the list of this one node, and its texts.
+///
+/// The names grow by the pairs of the tree's nodes in document order, without repeats and without what was there. It is
+/// refused only for want of memory, and then the names have grown by the pairs of some of the first nodes.
+pub fn encode(alloc: Global, node: &Node, names: &mut Names) -> Result<Coded, AllocError>
+    ensures code { IfOk result (λ c. (term : Term) × Codes names.new (more (tree_of node.now) none) term × (c.body ≡ labels_of term)) }
+    ensures texts { IfOk result (λ c. c.texts ≡ texts (tree_of node.now)) }
+    ensures names { OnOk result (Interns names.old (pairs_of_tree (tree_of node.now)) names.new) }
+    ensures refused { OnErr result ((k : ℕ) × Interns names.old (take k (pairs_of_tree (tree_of node.now))) names.new) }
+{
+    let mut coded = Coded {
+        body: Body::new(alloc),
+        texts: Texts::new(alloc),
+    };
+    let mut walk = Walk::new(alloc, node);
+    while let Some(visit) = walk.next()? {
+        coded.add(alloc, visit, names)?;
+    }
+    coded.body.push(Label::Bottom)?;
+    Ok(coded)
+}
+
+impl Coded {
+    // Adds the label of a visit: a node's symbol where it is opened, and where it is closed the bottom at the end of its
+    // kids.
+    fn add(&mut self, alloc: Global, visit: Visit<'_>, names: &mut Names) -> Result<(), AllocError>
+        ensures label { OnOk result ((label : NodeLabel) × IsLabelOf names.new (visit_of visit.entry) label × (self.new.body ≡ self.old.body ++ label ∷ [])) }
+        ensures texts { OnOk result (self.new.texts ≡ self.old.texts ++ texts_at (visit_of visit.entry)) }
+        ensures names { OnOk result (Interns names.old (pairs_at (visit_of visit.entry)) names.new) }
+        ensures refused { OnErr result ((k : ℕ) × Interns names.old (take k (pairs_at (visit_of visit.entry))) names.new) }
+    {
+        match visit {
+            Visit::Open(node) => self.open(alloc, node, names),
+            Visit::Close(_) => self.body.push(Label::Bottom),
+        }
+    }
+
+    // Adds the symbol of a node, and its value where its kind has one.
+    fn open(&mut self, alloc: Global, node: &Node, names: &mut Names) -> Result<(), AllocError>
+        ensures label { OnOk result ((symbol : ℕ) × (slice_get names.new symbol ≡ Some (pair_of (tree_of node.now))) × (self.new.body ≡ self.old.body ++ Symbol symbol ∷ [])) }
+        ensures texts { OnOk result (self.new.texts ≡ self.old.texts ++ text_of (tree_of node.now)) }
+        ensures names { OnOk result (Interns names.old (pair_of (tree_of node.now) ∷ []) names.new) }
+        ensures refused { OnErr result ((k : ℕ) × Interns names.old (take k (pair_of (tree_of node.now) ∷ [])) names.new) }
+    {
+        let symbol = names.intern(alloc, node.kind, node.name.as_slice())?;
+        self.body.push(Label::Symbol(symbol))?;
+        if has_value(node.kind) {
+            let value = Bytes::from_slice(alloc, node.value.as_slice())?;
+            self.texts.push(value)?;
+        }
+        Ok(())
+    }
+}
+
+fn has_value(kind: Kind) -> bool
+    ensures { result ≡ has_value kind }
+{
+    match kind {
+        Kind::Document | Kind::Element => false,
+        Kind::Attribute | Kind::Text | Kind::Comment | Kind::Instruction => true,
+    }
+}
+
+#[cfg(test)]
+mod tests;

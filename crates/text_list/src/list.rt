@@ -1,0 +1,68 @@
+// The list of the texts of a document.
+ghost use Rattle.std.specs.Prelude.{◌≡◌, length, slice_get};
+ghost use Rattle.std.specs.Option.{option_copied};
+
+use plain_tree::Texts;
+use std::marker::Model;
+
+/// A list of texts; contracts see a list of lists of bytes.
+#[derive(Drop)]
+pub struct TextList {
+    texts: Texts,
+}
+
+impl Model for TextList {
+    ghost use Rattle.std.specs.Prelude.{List, ℕ};
+
+    ghost Value = { List (List ℕ) };
+
+    ghost view = { λ t. t.texts };
+}
+
+impl TextList {
+    /// The list of these texts. It takes no memory.
+    pub fn new(texts: Texts) -> TextList
+        ensures { result ≡ texts }
+    {
+        TextList { texts }
+    }
+
+    pub fn len(&self) -> u64
+        ensures { result ≡ length self.now }
+    {
+        self.texts.len() as u64
+    }
+
+    /// The text at a place, and None exactly where the place isn't below the length.
+    pub fn get(&self, at: u64) -> Option<&[u8]>
+        ensures { option_copied result ≡ slice_get self.now at }
+    {
+        match self.texts.get(at as usize) {
+            Some(text) => Some(text.as_slice()),
+            None => None,
+        }
+    }
+}
+
+#[cfg(test)]
+mod tests {
+    use super::*;
+    use plain_tree::Bytes;
+    use std::test::Fail;
+
+    #[test]
+    fn texts_are_got_by_their_place(rt: HostRuntime) -> Result<(), Fail> {
+        let alloc = rt.alloc();
+        let mut texts = Texts::new(alloc);
+        texts.push(Bytes::from_slice(alloc, b"x")?)?;
+        texts.push(Bytes::from_slice(alloc, b"")?)?;
+        texts.push(Bytes::from_slice(alloc, b"x")?)?;
+        let list = TextList::new(texts);
+        assert_eq!(rt; list.len(), 3);
+        assert_eq!(rt; list.get(0).ok_or("no text")?, b"x".as_slice());
+        assert_eq!(rt; list.get(1).ok_or("no text")?, b"".as_slice());
+        assert!(rt; list.get(3).is_none());
+        assert!(rt; list.get(u64::MAX).is_none());
+        Ok(())
+    }
+}

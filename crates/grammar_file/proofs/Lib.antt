@@ -1,0 +1,7 @@
+pub mod ListLemmas
+pub mod Listing
+pub mod NumberLemmas
+pub mod Putting
+pub mod Sizes
+pub mod Walking
+pub mod Unique

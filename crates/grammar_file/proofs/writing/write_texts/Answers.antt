@@ -1,0 +1,40 @@
+use Rattle.std.proofs.Common.{ℕ, List, length, sym, arith}
+use Rattle.std.proofs.lemmas.Option.{slice_get_within}
+use Rattle.std.proofs.lemmas.Result.{err_from_is_err_and}
+use Rattle.grammar_file.specs.FileBytes.{list_bytes, text_bytes}
+use Rattle.grammar_file.specs.Numbers.{number_bytes}
+use Rattle.grammar_file.proofs.Listing.{each_begins, each_goes, each_fails, each_ends, each_short}
+use Rattle.grammar_file.proofs.Sizes.{text_size, length-text, length-texts}
+use Rattle.grammar_file.proofs.writing.write_texts.Goals as goal
+
+pub loop-text-init : goal.loop-text-init
+loop-text-init g c =
+    each_begins text_bytes text_size c.args.texts.now (number_bytes (length c.args.texts.now)) _ _ (rw c.len.ensures at c.in_ok-number.ensures)
+
+pub returns-in_err-write_text-clause-puts : goal.returns-in_err-write_text-clause-puts
+returns-in_err-write_text-clause-puts g c =
+    let x : List ℕ = c.in-Some.text.now in
+    each_fails text_bytes text_size c.args.texts.now (list_bytes text_bytes c.args.texts.now) c.loop-text.place _ _ _ x _ c.from_residual-in_err-write_text.result c.loop-text.invariant (sym c.in-Some.ensures)
+    c.in_err-write_text.ensures.puts (err_from_is_err_and c.from_residual-in_err-write_text.result c.from_residual-in_err-write_text.ensures.1).1
+
+pub overflow_add-place : goal.overflow_add-place
+overflow_add-place g c =
+    let x : List ℕ = c.in-Some.text.now in
+    omega (arith, slice_get_within c.args.texts.now c.loop-text.place x (sym c.in-Some.ensures), c.len.ensures, c.len.type_inv)
+
+pub loop-text-smaller : goal.loop-text-smaller
+loop-text-smaller g c =
+    let x : List ℕ = c.in-Some.text.now in
+    omega (arith, slice_get_within c.args.texts.now c.loop-text.place x (sym c.in-Some.ensures))
+
+pub loop-text-preserved : goal.loop-text-preserved
+loop-text-preserved g c =
+    let x : List ℕ = c.in-Some.text.now in
+    each_goes text_bytes text_size c.args.texts.now (list_bytes text_bytes c.args.texts.now) c.loop-text.place _ _ _ x c.loop-text.invariant (sym c.in-Some.ensures) c.in_ok-write_text.ensures.puts (length-text c.in-Some.text.now c.in_ok-write_text.ensures.small)
+
+pub returns-clause-puts : goal.returns-clause-puts
+returns-clause-puts g c = each_ends text_bytes text_size c.args.texts.now (list_bytes text_bytes c.args.texts.now) c.loop-text.place _ _ c.loop-text.invariant (sym c.in_default.ensures)
+
+pub returns-clause-small : goal.returns-clause-small
+returns-clause-small g c =
+    length-texts c.args.texts.now (omega (arith, c.len.ensures, c.len.type_inv)) (each_short text_bytes text_size c.args.texts.now (list_bytes text_bytes c.args.texts.now) c.loop-text.place _ _ c.loop-text.invariant (sym c.in_default.ensures))

@@ -1,0 +1,60 @@
+-- What an opened file says of the files.
+use Rattle.std.specs.Prelude.{◌≡◌, ◌≤◌, ◌^◌, ℕ, List, [], length, replicate, Bool, true, false, Option, Some, None, IfSome, is_some, unwrap_or, refl}
+use Rattle.std.proofs.Common.{ap, subst, inl, arith}
+use Rattle.std.proofs.lemmas.List.{length-replicate}
+use Rattle.std.specs.FinMap.{get}
+use Rattle.tree_outside.specs.Files.{Told}
+use Rattle.tree_outside.specs.Shelf.{Goes, opened}
+use Rattle.store_core.specs.Acts.{Load}
+use Rattle.store_core.specs.Worlds.{State, World, HasFile, HasNoFile, world}
+use Rattle.store_core.specs.Refusals.{IsReady, ReadsNoDocument}
+
+-- there is a file with this name exactly where an opening said so
+abbrev pub Finds : Option Told → List ℕ → Bool → Type 0
+Finds told name found = IfSome told (λ t. found ≡ is_some (get t.files name))
+
+is_none : (o : Option (List ℕ)) → false ≡ is_some o → o ≡ None
+is_none None e = refl
+is_none (Some x) e = cc
+
+is_value : (o : Option (List ℕ)) (bytes : List ℕ) → true ≡ is_some o → unwrap_or o [] ≡ bytes → o ≡ Some bytes
+is_value None bytes e h = cc
+is_value (Some x) bytes e h = ap Some h
+
+-- an opening that found no file says that there is none
+pub no_file : (told : Option Told) (name : List ℕ) (state : State) (count : ℕ) → Finds told name false → HasNoFile (world state told count) name
+no_file None name state count finds = tt
+no_file (Some t) name state count finds = is_none (get t.files name) finds
+
+-- one that found a file says that there is one
+pub some_file : (told : Option Told) (name : List ℕ) (state : State) (count : ℕ) → Finds told name true → (bytes : List ℕ) × HasFile (world state told count) name bytes
+some_file None name state count finds = ([], tt)
+some_file (Some t) name state count finds = (unwrap_or (get t.files name) [], is_value (get t.files name) (unwrap_or (get t.files name) []) finds refl)
+
+-- with the file that it reads, a loading is ready
+pub ready_to_load : (old : World) (name bytes : List ℕ) → HasFile old name bytes → IsReady (Load name) old
+ready_to_load old name bytes has = record {
+  document = λ needs. cc;
+  file = λ other same. let e : name ≡ other = cc in subst (λ n. (bytes : List ℕ) × HasFile old n bytes) e (bytes, has);
+}
+
+-- a loading whose file was found is ready
+pub found_to_load : (told : Option Told) (name : List ℕ) (state : State) (count : ℕ) → Finds told name true → IsReady (Load name) (world state told count)
+found_to_load told name state count finds = let some = some_file told name state count finds in ready_to_load (world state told count) name some.0 some.1
+
+-- a list that is long enough
+some_long : (n : ℕ) → (xs : List ℕ) × (n ≤ length xs)
+some_long n = let zero : ℕ = 0 in (replicate n zero, omega (arith, length-replicate n zero))
+
+-- a file that gave so many bytes is not read as a document
+pub long_file :
+    (old opening : Option Told) (name : List ℕ) (state : State) (count : ℕ) → Finds old name true → Goes old opening (opened name)
+    → IfSome opening (λ t. 2 ^ 30 ≤ length t.left) → ReadsNoDocument (Load name) (world state old count)
+long_file None opening name state count finds opens left =
+    let some = some_long (2 ^ 30) in
+    record { name = name; bytes = some.0; reads = refl; file = tt; bad = inl some.1 }
+long_file (Some t) opening name state count finds opens left =
+    let P : Option Told → Type 0 = λ o. IfSome o (λ t. 2 ^ 30 ≤ length t.left) in
+    let long = subst P opens left in
+    let bytes = unwrap_or (get t.files name) [] in
+    record { name = name; bytes = bytes; reads = refl; file = is_value (get t.files name) bytes finds refl; bad = inl long }

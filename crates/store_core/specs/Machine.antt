@@ -1,0 +1,78 @@
+-- One step of the plain tree machine: what a command prints and what it leaves.
+use Rattle.std.specs.Prelude.{◌≡◌, ◌≤◌, ◌<◌, ◌⊎◌, ◌^◌, ℕ, List, [], length, Some, IfSome, Result, MatchResult}
+use Rattle.std.specs.FinMap.{insert}
+use Rattle.tree_outside.specs.Outside.{Stays}
+use Rattle.plain_tree.specs.Tree.{Tree, node_count}
+use Rattle.xml_profile.specs.Spelling.{Spells}
+use Rattle.xml_profile.specs.Saved.{saved_bytes}
+use Rattle.slt_grammar.specs.Grammars.{size}
+use Rattle.fcns_encoding.specs.Interning.{Interns, pairs_of_tree}
+use Rattle.grammar_file.specs.FileBytes.{file_bytes}
+use Rattle.store_core.specs.Acts.{Act, Load, Save, SaveGrammar}
+use Rattle.store_core.specs.Worlds.{Parts, StandFor, World, Same, HasFile}
+use Rattle.store_core.specs.Texts.{answer_line, refusal_line}
+use Rattle.store_core.specs.Refusals.{Cause}
+use Rattle.store_core.specs.declared.answer.Answer.{Answer}
+use Rattle.store_core.specs.declared.answer.Answer.TheVariants as ok
+use Rattle.store_core.specs.declared.answer.Refusal.{Refusal}
+
+-- what a loading makes of a document: names in the order of their first nodes, and a grammar of one rule
+pub record Encodes (tree : Tree) (parts : Parts) : Type 0 where
+  pub stand : StandFor parts tree
+  pub names : Interns [] (pairs_of_tree tree) parts.names
+  pub one : length parts.rules ≡ 1
+
+-- the document is the one that the file's bytes spell
+pub record Loads (name : List ℕ) (old : World) (out : List ℕ) (new : World) : Type 0 where
+  pub bytes : List ℕ
+  pub tree : Tree
+  pub parts : Parts
+  pub file : HasFile old name bytes
+  pub short : length bytes < 2 ^ 30
+  pub spelled : Spells bytes tree
+  pub encoded : Encodes tree parts
+  pub state : new.state ≡ Some parts
+  pub files : Stays old.files new.files
+  pub printed : out ≡ answer_line (ok.Nodes (node_count tree))
+
+-- the file has these bytes, and nothing else changes
+pub record WritesFile (name bytes : List ℕ) (old new : World) : Type 0 where
+  pub state : new.state ≡ old.state
+  pub files : IfSome old.files (λ files. new.files ≡ Some (insert files name bytes))
+
+-- the file has the document's saved bytes
+pub record Saves (name : List ℕ) (old : World) (out : List ℕ) (new : World) : Type 0 where
+  pub parts : Parts
+  pub tree : Tree
+  pub held : old.state ≡ Some parts
+  pub stand : StandFor parts tree
+  pub written : WritesFile name (saved_bytes tree) old new
+  pub printed : out ≡ answer_line (ok.Bytes (length (saved_bytes tree)))
+
+-- the file has the names, the grammar and the texts
+pub record SavesGrammar (name : List ℕ) (old : World) (out : List ℕ) (new : World) : Type 0 where
+  pub parts : Parts
+  pub held : old.state ≡ Some parts
+  pub written : WritesFile name (file_bytes parts.names parts.rules parts.texts) old new
+  pub printed : out ≡ answer_line (ok.Grammar (length parts.rules) (size parts.rules) (length (file_bytes parts.names parts.rules parts.texts)))
+
+-- the command is done
+abbrev pub Does : Act → World → List ℕ → World → Type 0
+Does (Load name) old out new = Loads name old out new
+Does (Save name) old out new = Saves name old out new
+Does (SaveGrammar name) old out new = SavesGrammar name old out new
+
+-- what a command comes to: it is done, or it is refused for this cause and changes nothing
+abbrev pub Comes : Act → World → Result Answer Refusal → World → Type 0
+Comes act old outcome new = MatchResult outcome (λ answer. Does act old (answer_line answer) new) (λ refusal. Cause refusal act old new × Same old new)
+
+-- the command is refused for this cause, and changes nothing
+pub record Refuses (act : Act) (old : World) (out : List ℕ) (new : World) : Type 0 where
+  pub refusal : Refusal
+  pub cause : Cause refusal act old new
+  pub same : Same old new
+  pub printed : out ≡ refusal_line refusal
+
+pub record Step (act : Act) (old : World) (out : List ℕ) (new : World) : Type 0 where
+  pub later : old.count ≤ new.count
+  pub done : Does act old out new ⊎ Refuses act old out new

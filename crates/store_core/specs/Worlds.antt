@@ -1,0 +1,63 @@
+-- What a command finds and leaves.
+use Rattle.std.specs.Prelude.{◌≡◌, ◌<◌, ◌^◌, ℕ, List, length, Option, IfSome, Some, None}
+use Rattle.std.specs.FinMap.{get}
+use Rattle.std.specs.Option.{option_map}
+use Rattle.plain_tree.specs.declared.kind.Kind.{Kind}
+use Rattle.plain_tree.specs.Tree.{Tree, node_count}
+use Rattle.slt_grammar.specs.declared.rules.Rule.{Rule}
+use Rattle.slt_grammar.specs.Grammars.{IsGrammar, IsSwept}
+use Rattle.slt_grammar.specs.Standing.{StandsFor}
+use Rattle.tree_outside.specs.Files.{Files, Told}
+use Rattle.tree_outside.specs.Outside.{Stays}
+
+-- what is held of a document: the names of its nodes, the rules of its grammar, the values of its nodes
+pub record Parts : Type 0 where
+  pub names : List (Kind × List ℕ)
+  pub rules : List Rule
+  pub texts : List (List ℕ)
+
+-- the parts stand for the document
+abbrev pub StandFor : Parts → Tree → Type 0
+StandFor parts t = StandsFor parts.rules parts.names parts.texts t
+
+-- the rules are a swept grammar, and the parts stand for a document of fewer than 2^63 nodes
+pub record AreHeld (parts : Parts) : Type 0 where
+  pub tree : Tree
+  pub stand : StandFor parts tree
+  pub small : node_count tree < 2 ^ 63
+  pub grammar : IsGrammar parts.rules
+  pub swept : IsSwept parts.rules
+  -- as yet the start is the only rule
+  pub one : length parts.rules ≡ 1
+
+-- nothing, or what is held of the document that is loaded
+abbrev pub State : Type 0
+State = Option Parts
+
+abbrev pub IsHeld : State → Type 0
+IsHeld state = IfSome state AreHeld
+
+-- the session's state, the shelf's files where it tells them, and the count of its faults
+pub record World : Type 0 where
+  pub state : State
+  pub files : Option Files
+  pub count : ℕ
+
+abbrev pub files_of : Option Told → Option Files
+files_of told = option_map (λ t. t.files) told
+
+abbrev pub world : State → Option Told → ℕ → World
+world state told count = record { state = state; files = files_of told; count = count }
+
+-- state and files are as before
+pub record Same (old new : World) : Type 0 where
+  pub state : new.state ≡ old.state
+  pub files : Stays old.files new.files
+
+-- where the files are told, these are the bytes of the file with this name
+abbrev pub HasFile : World → List ℕ → List ℕ → Type 0
+HasFile w name bytes = IfSome w.files (λ files. get files name ≡ Some bytes)
+
+-- where the files are told, there is none with this name
+abbrev pub HasNoFile : World → List ℕ → Type 0
+HasNoFile w name = IfSome w.files (λ files. get files name ≡ None)

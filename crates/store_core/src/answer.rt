@@ -1,0 +1,145 @@
+// What a command answers, and the line that says so.
+ghost use Rattle.std.specs.Prelude.{◌≡◌, ◌+◌, ◌≤◌, ◌++◌, [], length, codes};
+ghost use Rattle.tree_outside.specs.Outside.{HasCause, Writes};
+ghost use Rattle.store_core.specs.Texts.{line_of, answer_line, refusal_line};
+
+use itoa::{Buffer, Integer};
+use std::marker::Model;
+use tree_outside::{Failed, Sink};
+
+/// What a command says that was done.
+#[derive(Clone, Copy, Debug, PartialEq, Eq)]
+pub enum Answer {
+    /// The document has this many nodes.
+    Nodes(u64),
+    /// This many bytes were written.
+    Bytes(u128),
+    /// A grammar with so many rules and nodes was written, in so many bytes.
+    Grammar {
+        rules: usize,
+        size: u64,
+        bytes: u128,
+    },
+}
+
+/// Why a command was not done.
+#[derive(Clone, Copy, Debug, PartialEq, Eq)]
+pub enum Refusal {
+    NoDocument,
+    ReadFault,
+    NoFile,
+    WriteFault,
+    BadXml,
+    Memory,
+}
+
+/// Writes the line of what a command came to, with one write of the sink.
+pub(crate) fn write_line<K: Sink>(
+    outcome: Result<Answer, Refusal>,
+    sink: &mut K,
+) -> Result<(), Failed>
+    ensures content { Writes (K.got sink.old) (K.got sink.new) result (line_of outcome) }
+    ensures cause { HasCause (K.faults sink.old) (K.faults sink.new) result }
+{
+    match outcome {
+        Ok(Answer::Nodes(count)) => write_count(b"ok nodes ", count, sink),
+        Ok(Answer::Bytes(count)) => write_count(b"ok bytes ", count, sink),
+        Ok(Answer::Grammar { rules, size, bytes }) => write_grammar(rules, size, bytes, sink),
+        Err(refusal) => sink.write(text_of(refusal)),
+    }
+}
+
+fn text_of(refusal: Refusal) -> &'static [u8]
+    ensures { result.now ≡ refusal_line refusal }
+{
+    match refusal {
+        Refusal::NoDocument => b"! no-document\n",
+        Refusal::ReadFault => b"! read-fault\n",
+        Refusal::NoFile => b"! no-file\n",
+        Refusal::WriteFault => b"! write-fault\n",
+        Refusal::BadXml => b"! bad-xml\n",
+        Refusal::Memory => b"! memory\n",
+    }
+}
+
+fn write_count<K: Sink, I: Integer>(words: &[u8], count: I, sink: &mut K) -> Result<(), Failed>
+    requires { length words.now ≤ 40 }
+    ensures content { Writes (K.got sink.old) (K.got sink.new) result (words.now ++ I.text count ++ codes "\n") }
+    ensures cause { HasCause (K.faults sink.old) (K.faults sink.new) result }
+{
+    let mut line = Line::new();
+    line.add(words);
+    line.add_number(count);
+    line.add(b"\n");
+    sink.write(line.as_slice())
+}
+
+fn write_grammar<K: Sink>(rules: usize, size: u64, bytes: u128, sink: &mut K) -> Result<(), Failed>
+    ensures content { Writes (K.got sink.old) (K.got sink.new) result (answer_line (Answer.Grammar rules size bytes)) }
+    ensures cause { HasCause (K.faults sink.old) (K.faults sink.new) result }
+{
+    let mut line = Line::new();
+    line.add(b"ok rules ");
+    line.add_number(rules);
+    line.add(b" size ");
+    line.add_number(size);
+    line.add(b" bytes ");
+    line.add_number(bytes);
+    line.add(b"\n");
+    sink.write(line.as_slice())
+}
+
+// Room for the longest answer: its words and a line feed, and three numbers of at most 40 digits.
+const LINE: usize = 160;
+
+// A line as far as it was put together; contracts see its bytes.
+#[derive(Drop)]
+struct Line {
+    bytes: [u8; LINE],
+    len: usize,
+}
+
+impl Model for Line {
+    ghost use Rattle.std.specs.Prelude.{◌≤◌, ℕ, List, take};
+
+    ghost Value = { List ℕ };
+
+    ghost view = { λ a. take a.len a.bytes };
+
+    ghost invariant = { λ a. a.len ≤ 160 };
+}
+
+impl Line {
+    fn new() -> Line
+        ensures { result ≡ [] }
+    {
+        Line {
+            bytes: [0; LINE],
+            len: 0,
+        }
+    }
+
+    fn add(&mut self, text: &[u8])
+        requires { length self.old + length text.now ≤ 160 }
+        ensures { self.new ≡ self.old ++ text.now }
+    {
+        let end = self.len + text.len();
+        self.bytes[self.len..end].copy_from_slice(text);
+        self.len = end;
+    }
+
+    fn add_number<I: Integer>(&mut self, number: I)
+        requires { length self.old + 40 ≤ 160 }
+        ensures text { self.new ≡ self.old ++ I.text number }
+        ensures short { length self.new ≤ length self.old + 40 }
+    {
+        let mut buffer = Buffer::new();
+        self.add(buffer.format(number).as_bytes());
+    }
+
+    fn as_slice(&self) -> &[u8]
+        ensures { result.now ≡ self.now }
+    {
+        &self.bytes[..self.len]
+    }
+}

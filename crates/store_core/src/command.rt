@@ -1,0 +1,21 @@
+// Commands and settings.
+
+/// What a session is asked to do. Names of files are any text that isn't empty.
+#[derive(Clone, Copy, Debug)]
+pub enum Command<'a> {
+    /// The document becomes that of the XML file with this name.
+    Load { name: &'a str },
+    /// The document is written to the file with this name.
+    Save { name: &'a str },
+    /// The names, the grammar and the texts are written to the file with this name.
+    SaveGrammar { name: &'a str },
+}
+
+/// How a session keeps its grammar small.
+#[derive(Clone, Copy, Debug, PartialEq, Eq)]
+pub struct Settings {
+    /// The greatest rank of a new rule, from 1 to 8.
+    pub rank: usize,
+    /// After how many accepted edits the grammar is settled; 0 means never.
+    pub repair: u64,
+}

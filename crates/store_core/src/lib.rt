@@ -1,0 +1,19 @@
+//! The session: one document and the commands that read, change and write it.
+//!
+//! `Session::command` is one step of the plain tree machine (specs/Machine): what the command prints, what it leaves of the
+//! session and of the shelf's files. The document is held as a `Store`. Commands are in `loading` and `saving`, the walk that
+//! writes a document is in `writing`; `answer` has the lines that commands print.
+#![tactic(auto)]
+
+mod answer;
+mod command;
+mod loading;
+mod saving;
+mod session;
+mod store;
+mod writing;
+
+pub use answer::{Answer, Refusal};
+pub use command::{Command, Settings};
+pub use session::{Session, SinkFailed};
+pub use store::Store;

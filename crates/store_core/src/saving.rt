@@ -1,0 +1,114 @@
+// Writing a document, or what is held of it, to the shelf.
+ghost use Rattle.std.specs.Prelude.{◌≡◌, ◌≤◌, Some, IfOk, IfErr, IsErrOf, OnOk, OnErr, length};
+ghost use Rattle.tree_outside.specs.Outside.{Gets, Rose, Stays};
+ghost use Rattle.tree_outside.specs.Shelf.{beside_of, pending_bytes};
+ghost use Rattle.slt_grammar.specs.Keyed.{rules_of};
+ghost use Rattle.grammar_file.specs.FileBytes.{file_bytes};
+ghost use Rattle.store_core.specs.Acts as act;
+ghost use Rattle.store_core.specs.Worlds.{AreHeld, files_of, world};
+ghost use Rattle.store_core.specs.StoreOf.{parts_of, start_text};
+ghost use Rattle.store_core.specs.Refusals.{Cause};
+ghost use Rattle.store_core.specs.Machine.{Saves, SavesGrammar};
+ghost use Rattle.store_core.specs.Texts.{answer_line};
+
+use crate::answer::{Answer, Refusal};
+use crate::store::Store;
+use crate::writing::{WriteError, write_document};
+use read_steps::Steps;
+use std::alloc::Global;
+use std::sync::ledger::Ledger;
+use tree_outside::{Failed, Pending, Shelf};
+
+/// Writes the document to the file with this name, and answers how many bytes that were.
+pub(crate) fn save_document<F: Shelf, L: Ledger>(
+    alloc: Global,
+    name: &str,
+    store: &Store,
+    shelf: &mut F,
+    steps: &mut Steps<L>,
+) -> Result<u128, Refusal>
+    requires { AreHeld (parts_of store.now) }
+    ensures later { F.faults shelf.old ≤ F.faults shelf.new }
+    ensures saves { IfOk result (λ count. let state = Some (parts_of store.now) in
+        Saves name.now (world state (F.told shelf.old) (F.faults shelf.old)) (answer_line (Answer.Bytes count)) (world state (F.told shelf.new) (F.faults shelf.new))) }
+    ensures refused { IfErr result (λ refusal. let state = Some (parts_of store.now) in
+        Cause refusal (act.Save name.now) (world state (F.told shelf.old) (F.faults shelf.old)) (world state (F.told shelf.new) (F.faults shelf.new))) }
+    ensures files { OnErr result (Stays (files_of (F.told shelf.old)) (files_of (F.told shelf.new))) }
+{
+    if shelf.create(name).is_err() {
+        return Err(Refusal::WriteFault);
+    }
+    let count = match write_pending(alloc, store, shelf, steps) {
+        Ok(count) => count,
+        Err(WriteError::Fault) => return Err(Refusal::WriteFault),
+        Err(WriteError::Memory) => return Err(Refusal::Memory),
+    };
+    match shelf.seal() {
+        Ok(()) => Ok(count),
+        Err(Failed) => Err(Refusal::WriteFault),
+    }
+}
+
+// Adds the document to the pending file, and answers how many bytes that is.
+fn write_pending<F: Shelf, L: Ledger>(
+    alloc: Global,
+    store: &Store,
+    shelf: &mut F,
+    steps: &mut Steps<L>,
+) -> Result<u128, WriteError>
+    ensures written { OnOk result (Gets (pending_bytes (F.told shelf.old)) (pending_bytes (F.told shelf.new)) (start_text store.now)) }
+    ensures count { IfOk result (λ count. count ≡ length (start_text store.now)) }
+    ensures beside { Stays (beside_of (F.told shelf.old)) (beside_of (F.told shelf.new)) }
+    ensures later { F.faults shelf.old ≤ F.faults shelf.new }
+    ensures fault { IsErrOf result WriteError.Fault → Rose (F.faults shelf.old) (F.faults shelf.new) }
+{
+    let mut pending = Pending::new(shelf);
+    write_document(alloc, store, &mut pending, steps)
+}
+
+/// Writes the names, the grammar and the texts to the file with this name, and answers how much that was.
+pub(crate) fn save_grammar<F: Shelf>(
+    name: &str,
+    store: &Store,
+    shelf: &mut F,
+) -> Result<Answer, Refusal>
+    ensures later { F.faults shelf.old ≤ F.faults shelf.new }
+    ensures saves { IfOk result (λ answer. let state = Some (parts_of store.now) in
+        SavesGrammar name.now (world state (F.told shelf.old) (F.faults shelf.old)) (answer_line answer) (world state (F.told shelf.new) (F.faults shelf.new))) }
+    ensures refused { IfErr result (λ refusal. let state = Some (parts_of store.now) in
+        Cause refusal (act.SaveGrammar name.now) (world state (F.told shelf.old) (F.faults shelf.old)) (world state (F.told shelf.new) (F.faults shelf.new))) }
+    ensures files { OnErr result (Stays (files_of (F.told shelf.old)) (files_of (F.told shelf.new))) }
+{
+    if shelf.create(name).is_err() {
+        return Err(Refusal::WriteFault);
+    }
+    let bytes = match write_grammar(store, shelf) {
+        Ok(bytes) => bytes,
+        Err(WriteError::Fault) => return Err(Refusal::WriteFault),
+        Err(WriteError::Memory) => return Err(Refusal::Memory),
+    };
+    match shelf.seal() {
+        Ok(()) => Ok(Answer::Grammar {
+            rules: store.grammar.rules(),
+            size: store.grammar.size(),
+            bytes,
+        }),
+        Err(Failed) => Err(Refusal::WriteFault),
+    }
+}
+
+// Adds the grammar file to the pending file, and answers how many bytes it has.
+fn write_grammar<F: Shelf>(store: &Store, shelf: &mut F) -> Result<u128, WriteError>
+    ensures written { OnOk result (Gets (pending_bytes (F.told shelf.old)) (pending_bytes (F.told shelf.new)) (file_bytes store.now.names (rules_of store.now.grammar.rules) store.now.texts)) }
+    ensures count { IfOk result (λ count. count ≡ length (file_bytes store.now.names (rules_of store.now.grammar.rules) store.now.texts)) }
+    ensures beside { Stays (beside_of (F.told shelf.old)) (beside_of (F.told shelf.new)) }
+    ensures later { F.faults shelf.old ≤ F.faults shelf.new }
+    ensures fault { IsErrOf result WriteError.Fault → Rose (F.faults shelf.old) (F.faults shelf.new) }
+{
+    let mut pending = Pending::new(shelf);
+    match grammar_file::write(&store.grammar, &store.names, &store.texts, &mut pending) {
+        Ok(bytes) => Ok(bytes),
+        Err(grammar_file::WriteError::Failed) => Err(WriteError::Fault),
+        Err(grammar_file::WriteError::Memory) => Err(WriteError::Memory),
+    }
+}

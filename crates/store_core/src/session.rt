@@ -1,0 +1,154 @@
+// The session and its commands.
+ghost use Rattle.std.specs.Prelude.{◌≡◌, ◌≤◌, List, ℕ, None};
+ghost use Rattle.tree_outside.specs.Outside.{HasCause, Writes};
+
+use crate::answer::{Answer, Refusal, write_line};
+use crate::command::{Command, Settings};
+use crate::loading::load_document;
+use crate::saving::{save_document, save_grammar};
+use crate::store::Store;
+use read_steps::Steps;
+use std::alloc::Global;
+use std::marker::Model;
+use std::sync::ledger::Ledger;
+use tree_outside::{Failed, Shelf, Sink};
+
+/// The sink failed while it got the text of a command.
+#[derive(Clone, Copy, Debug, PartialEq, Eq)]
+pub struct SinkFailed;
+
+/// At most one document; contracts see what is held of it.
+#[derive(Drop)]
+pub struct Session {
+    store: Option<Store>,
+}
+
+impl Model for Session {
+    ghost use Rattle.store_core.specs.Worlds.{State};
+
+    ghost Value = { State };
+
+    ghost use Rattle.std.specs.Option.{option_map};
+    ghost use Rattle.store_core.specs.Worlds.{IsHeld};
+    ghost use Rattle.store_core.specs.StoreOf.{parts_of};
+
+    ghost view = { λ a. option_map parts_of a.store };
+
+    ghost invariant = { λ a. IsHeld (option_map parts_of a.store) };
+}
+
+impl Session {
+    ghost use Rattle.store_core.specs.Acts as act;
+    ghost use Rattle.store_core.specs.CommandOf.{act_of};
+    ghost use Rattle.store_core.specs.Machine.{Step, Comes};
+    ghost use Rattle.store_core.specs.Worlds.{IsHeld, world};
+    ghost use Rattle.store_core.specs.StoreOf.{parts_of};
+    ghost use Rattle.std.specs.Option.{option_map};
+
+    /// A session without a document. It takes no memory.
+    pub fn new() -> Session
+        ensures { result ≡ None }
+    {
+        Session { store: None }
+    }
+
+    /// The document, and None exactly where nothing is loaded.
+    pub fn document(&self) -> Option<&Store>
+        ensures sees { option_map (λ s. parts_of s.now) result ≡ self.now }
+        ensures held { IsHeld self.now }
+    {
+        self.store.as_ref()
+    }
+
+    /// Does one command and writes its line, with one write of the sink. `SinkFailed` comes only where the sink failed;
+    /// session and shelf are then as after the command, and the sink got a front of the line.
+    ///
+    /// The counter counts the reads of `save`. The settings serve commands that change a grammar, of which there is none yet.
+    pub fn command<K: Sink, F: Shelf, L: Ledger>(
+        &mut self,
+        alloc: Global,
+        command: Command<'_>,
+        settings: Settings,
+        sink: &mut K,
+        shelf: &mut F,
+        steps: &mut Steps<L>,
+    ) -> Result<(), SinkFailed>
+        requires rank { (1 ≤ settings.rank) × (settings.rank ≤ 8) }
+        ensures step { (out : List ℕ)
+            × Step (act_of command.entry)
+            (world self.old (F.told shelf.old) (F.faults shelf.old)) out
+            (world self.new (F.told shelf.new) (F.faults shelf.new))
+            × Writes (K.got sink.old) (K.got sink.new) result out }
+        ensures cause { HasCause (K.faults sink.old) (K.faults sink.new) result }
+    {
+        let outcome = self.outcome(alloc, command, shelf, steps);
+        match write_line(outcome, sink) {
+            Ok(()) => Ok(()),
+            Err(Failed) => Err(SinkFailed),
+        }
+    }
+
+    // Does a command, and answers what its line is to say.
+    fn outcome<F: Shelf, L: Ledger>(
+        &mut self,
+        alloc: Global,
+        command: Command<'_>,
+        shelf: &mut F,
+        steps: &mut Steps<L>,
+    ) -> Result<Answer, Refusal>
+        ensures later { F.faults shelf.old ≤ F.faults shelf.new }
+        ensures comes { Comes (act_of command.entry) (world self.old (F.told shelf.old) (F.faults shelf.old)) result (world self.new (F.told shelf.new) (F.faults shelf.new)) }
+    {
+        match command {
+            Command::Load { name } => self.load(alloc, name, shelf),
+            Command::Save { name } => self.save(alloc, name, shelf, steps),
+            Command::SaveGrammar { name } => self.save_grammar(name, shelf),
+        }
+    }
+
+    fn load<F: Shelf>(
+        &mut self,
+        alloc: Global,
+        name: &str,
+        shelf: &mut F,
+    ) -> Result<Answer, Refusal>
+        ensures later { F.faults shelf.old ≤ F.faults shelf.new }
+        ensures comes { Comes (act.Load name.now) (world self.old (F.told shelf.old) (F.faults shelf.old)) result (world self.new (F.told shelf.new) (F.faults shelf.new)) }
+    {
+        let loaded = load_document(alloc, name, shelf)?;
+        self.store = Some(loaded.store);
+        Ok(Answer::Nodes(loaded.count))
+    }
+
+    fn save<F: Shelf, L: Ledger>(
+        &self,
+        alloc: Global,
+        name: &str,
+        shelf: &mut F,
+        steps: &mut Steps<L>,
+    ) -> Result<Answer, Refusal>
+        ensures later { F.faults shelf.old ≤ F.faults shelf.new }
+        ensures comes { Comes (act.Save name.now) (world self.now (F.told shelf.old) (F.faults shelf.old)) result (world self.now (F.told shelf.new) (F.faults shelf.new)) }
+    {
+        match &self.store {
+            None => Err(Refusal::NoDocument),
+            Some(store) => {
+                let count = save_document(alloc, name, store, shelf, steps)?;
+                Ok(Answer::Bytes(count))
+            }
+        }
+    }
+
+    fn save_grammar<F: Shelf>(&self, name: &str, shelf: &mut F) -> Result<Answer, Refusal>
+        ensures later { F.faults shelf.old ≤ F.faults shelf.new }
+        ensures comes { Comes (act.SaveGrammar name.now) (world self.now (F.told shelf.old) (F.faults shelf.old)) result (world self.now (F.told shelf.new) (F.faults shelf.new)) }
+    {
+        match &self.store {
+            None => Err(Refusal::NoDocument),
+            Some(store) => save_grammar(name, store, shelf),
+        }
+    }
+}
+
+#[cfg(test)]
+mod tests;

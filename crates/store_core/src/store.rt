@@ -1,0 +1,12 @@
+// What a session holds of a document.
+use plain_tree::Names;
+use slt_grammar::Grammar;
+use text_list::TextList;
+
+/// A document, held as a grammar over a table of names beside its texts.
+#[derive(Drop)]
+pub struct Store {
+    pub grammar: Grammar,
+    pub names: Names,
+    pub texts: TextList,
+}

@@ -1,0 +1,74 @@
+-- How a script ends.
+use Rattle.std.specs.Prelude.{◌≡◌, ◌≤◌, ◌+◌, ℕ, List, [], ◌∷◌, ◌++◌, length, take, Option, Some, None, IfSome, Result, Ok, Err, is_err, MatchResult, true, false, refl}
+use Rattle.std.proofs.Common.{sym, ap, ◌∙◌, subst, inl, inr, arith, length-append}
+use Rattle.std.proofs.lemmas.List.{append_assoc, append-nil, take-append-le, length-take-le}
+use Rattle.tree_outside.specs.Outside.{Stays, Takes, Writes}
+use Rattle.store_core.specs.Worlds.{World}
+use Rattle.store_shell.specs.Lines.{IsCut}
+use Rattle.store_shell.specs.Runs.{DoesLine}
+use Rattle.store_shell.specs.Feeding.{Feeds}
+use Rattle.store_shell.specs.Serving.{Script, IsWhole, Serves}
+use Rattle.store_shell.specs.declared.script.Status.{Status}
+use Rattle.store_shell.specs.declared.script.Status.TheVariants as status
+use Rattle.store_shell.proofs.Cuts.{cut_none, nothing}
+use Rattle.store_shell.proofs.Pieces.{Feeds-on}
+use Rattle.store_shell.proofs.Runs.{Did-one, Did-append, Stops-one, Stops-after}
+
+-- ---- what was taken
+pub Takes-nil : (a : Option (List ℕ)) → Takes a a []
+Takes-nil None = tt
+Takes-nil (Some all) = (all, refl, refl)
+
+pub Takes-append : (a b c : Option (List ℕ)) (x y : List ℕ) → Takes a b x → Takes b c y → Takes a c (x ++ y)
+Takes-append None b c x y h k = tt
+Takes-append (Some all) b c x y h k =
+    let P : Option (List ℕ) → Type 0 = λ o. Takes o c y in
+    let r = subst P h.2 k in
+    (r.0, h.1 ∙ (ap (λ z. x ++ z) r.1 ∙ sym (append_assoc x y r.0)), r.2)
+
+pub Takes-stays : (a b c : Option (List ℕ)) (x : List ℕ) → Takes a b x → Stays b c → Takes a c x
+Takes-stays None b c x h k = tt
+Takes-stays (Some all) b c x h k =
+    let P : Option (List ℕ) → Type 0 = λ o. Stays o c in
+    (h.0, h.1, subst P h.2 k)
+
+pub Takes-all : (a b : Option (List ℕ)) (x : List ℕ) → Takes a b x → IfSome b (λ rest. rest ≡ []) → IfSome a (λ all. all ≡ x)
+Takes-all None b x h k = tt
+Takes-all (Some all) b x h k =
+    let P : Option (List ℕ) → Type 0 = λ o. IfSome o (λ rest. rest ≡ []) in
+    h.1 ∙ (ap (λ z. x ++ z) (subst P h.2 k) ∙ append-nil x)
+
+-- ---- the statuses
+-- nothing was taken
+abbrev pub no_script : Script
+no_script = record { bytes = []; lines = []; tail = []; cut = cut_none [] nothing }
+
+abbrev pub script_of : (bytes : List ℕ) (lines : List (List ℕ)) (tail : List ℕ) → IsCut bytes lines tail → Script
+script_of bytes lines tail cut = record { bytes = bytes; lines = lines; tail = tail; cut = cut }
+
+module _ {E : Type 0} where
+  -- the unfinished last line was done, or the sink failed at it
+  pub serves_last : (bytes out : List ℕ) (left : Option (List ℕ)) (r : Result (Unit {0}) E) (s : Status) (w m v : World) (x y z line : Option (List ℕ)) (f : Feeds {E = E} [] bytes (Ok tt) w m x y line) → IsWhole (script_of bytes f.lines f.tail f.cut) left → MatchResult r (λ _. s ≡ status.Done) (λ _. s ≡ status.WriteFault) → DoesLine f.tail m out v → Writes y z r out → Serves (script_of bytes f.lines f.tail f.cut) left s w v x z
+  serves_last bytes out left (Ok u) s w m v x y z line f whole is d h =
+      rw is (whole, Did-append f.lines (f.tail ∷ []) w m v x y z f.does.0 (Did-one f.tail m v out y z d h))
+  serves_last bytes out left (Err e) s w m v x y z line f whole is d h =
+      rw is (inr (whole, Stops-after f.lines (f.tail ∷ []) w m v x y z f.does.0 (Stops-one f.tail m v out y z d h)))
+
+  -- a piece at which the sink failed
+  pub serves_failed : (bytes : List ℕ) (left : Option (List ℕ)) (r : Result (Unit {0}) E) (w v : World) (x z line : Option (List ℕ)) (f : Feeds [] bytes r w v x z line) → is_err r ≡ true → Serves (script_of bytes f.lines f.tail f.cut) left status.WriteFault w v x z
+  serves_failed bytes left (Ok u) w v x z line f is = absurd (cc)
+  serves_failed bytes left (Err e) w v x z line f is = inl f.does
+
+  -- a piece that was done
+  pub went_on : (bytes : List ℕ) (r : Result (Unit {0}) E) (w v : World) (x z line : Option (List ℕ)) → is_err r ≡ false → Feeds [] bytes r w v x z line → Feeds {E = E} [] bytes (Ok tt) w v x z line
+  went_on bytes (Ok u) w v x z line is f = f
+  went_on bytes (Err e) w v x z line is f = absurd (cc)
+
+  -- one read more
+  pub fed_more : (bytes buf rest : List ℕ) (n : ℕ) (r : Result (Unit {0}) E) (w m v : World) (x y z line line' : Option (List ℕ)) → n ≤ length buf → (f : Feeds {E = E} [] bytes (Ok tt) w m x y line) → Feeds f.tail (take n (buf ++ rest)) r m v y z line' → Feeds [] (bytes ++ take n buf) r w v x z line'
+  fed_more bytes buf rest n r w m v x y z line line' le f k =
+      let P : List ℕ → Type 0 = λ c. Feeds f.tail c r m v y z line' in
+      Feeds-on [] bytes (take n buf) r w m v x y z line line' f (subst P (take-append-le n buf rest le) k)
+
+pub count_more : (bytes buf : List ℕ) (n taken : ℕ) → n ≤ length buf → length bytes ≡ taken → length (bytes ++ take n buf) ≡ taken + n
+count_more bytes buf n taken le e = omega (arith, length-append bytes (take n buf), length-take-le n buf le)

@@ -1,0 +1,74 @@
+-- A line has one form alone.
+use Rattle.std.specs.Prelude.{◌≡◌, ◌≤◌, ◌-◌, ℕ, List, [], ◌∷◌, ◌++◌, length, take, Bool, true, false, if◌then◌else◌, codes, nat_eq, get_or, refl}
+use Rattle.std.proofs.Common.{sym, ap, ◌∙◌, arith}
+use Rattle.std.specs.List.{ends_with}
+use Rattle.std.proofs.lemmas.List.{length-take}
+use Rattle.store_core.specs.Acts.{Act, Load, Save, SaveGrammar}
+use Rattle.store_shell.specs.Forms.{Form, Empty, Long, Bad, Command, IsForm, Asks, without_return}
+use Rattle.store_shell.specs.Lines.{longest}
+
+short_by : (b : Bool) (line : List ℕ) → (if b then take (length line - 1) line else line) ≡ [] → length line ≤ longest
+short_by true line e = omega (arith, ap length e, length-take {A = ℕ})
+short_by false line e = omega (arith, ap length e)
+
+-- a line without words is short
+short : (line : List ℕ) → without_return line ≡ [] → length line ≤ longest
+short line e = short_by (ends_with nat_eq line (13 ∷ [])) line e
+
+-- a byte of the words of a command
+abbrev byte_at : ℕ → Act → ℕ
+byte_at place (Load n) = get_or (codes "load " ++ n) place 0
+byte_at place (Save n) = get_or (codes "save " ++ n) place 0
+byte_at place (SaveGrammar n) = get_or (codes "save-grammar " ++ n) place 0
+
+asked : (words : List ℕ) (place : ℕ) (a : Act) → Asks words a → byte_at place a ≡ get_or words place 0
+asked words place (Load n) h = ap (λ ws. get_or ws place 0) (sym h.1)
+asked words place (Save n) h = ap (λ ws. get_or ws place 0) (sym h.1)
+asked words place (SaveGrammar n) h = ap (λ ws. get_or ws place 0) (sym h.1)
+
+same_byte : (words : List ℕ) (place : ℕ) (a b : Act) → Asks words a → Asks words b → byte_at place a ≡ byte_at place b
+same_byte words place a b h k = asked words place a h ∙ sym (asked words place b k)
+
+asks-one : (words : List ℕ) (a b : Act) → Asks words a → Asks words b → a ≡ b
+asks-one words (Load n) (Load m) h k =
+    let e : codes "load " ++ n ≡ codes "load " ++ m = sym h.1 ∙ k.1 in
+    let same : n ≡ m = cc in
+    ap Load same
+asks-one words (Save n) (Save m) h k =
+    let e : codes "save " ++ n ≡ codes "save " ++ m = sym h.1 ∙ k.1 in
+    let same : n ≡ m = cc in
+    ap Save same
+asks-one words (SaveGrammar n) (SaveGrammar m) h k =
+    let e : codes "save-grammar " ++ n ≡ codes "save-grammar " ++ m = sym h.1 ∙ k.1 in
+    let same : n ≡ m = cc in
+    ap SaveGrammar same
+asks-one words (Load n) (Save m) h k = let same : ◌≡◌ {A = ℕ} 108 115 = same_byte words 0 (Load n) (Save m) h k in absurd (omega arith)
+asks-one words (Load n) (SaveGrammar m) h k = let same : ◌≡◌ {A = ℕ} 108 115 = same_byte words 0 (Load n) (SaveGrammar m) h k in absurd (omega arith)
+asks-one words (Save n) (Load m) h k = let same : ◌≡◌ {A = ℕ} 115 108 = same_byte words 0 (Save n) (Load m) h k in absurd (omega arith)
+asks-one words (Save n) (SaveGrammar m) h k = let same : ◌≡◌ {A = ℕ} 32 45 = same_byte words 4 (Save n) (SaveGrammar m) h k in absurd (omega arith)
+asks-one words (SaveGrammar n) (Load m) h k = let same : ◌≡◌ {A = ℕ} 115 108 = same_byte words 0 (SaveGrammar n) (Load m) h k in absurd (omega arith)
+asks-one words (SaveGrammar n) (Save m) h k = let same : ◌≡◌ {A = ℕ} 45 32 = same_byte words 4 (SaveGrammar n) (Save m) h k in absurd (omega arith)
+
+-- no command is asked for by no words
+asks_some : (words : List ℕ) (a : Act) → Asks words a → words ≡ [] → ⊥
+asks_some words (Load n) h e = let f : codes "load " ++ n ≡ [] = sym h.1 ∙ e in absurd (cc)
+asks_some words (Save n) h e = let f : codes "save " ++ n ≡ [] = sym h.1 ∙ e in absurd (cc)
+asks_some words (SaveGrammar n) h e = let f : codes "save-grammar " ++ n ≡ [] = sym h.1 ∙ e in absurd (cc)
+
+pub form-one : (line : List ℕ) (f g : Form) → IsForm line f → IsForm line g → f ≡ g
+form-one line Empty Empty h k = refl
+form-one line Empty Long h k = absurd (omega (arith, short line h))
+form-one line Empty Bad h k = absurd (k.1 h)
+form-one line Empty (Command a) h k = absurd (asks_some (without_return line) a k.1 h)
+form-one line Long Empty h k = absurd (omega (arith, short line k))
+form-one line Long Long h k = refl
+form-one line Long Bad h k = absurd (omega arith)
+form-one line Long (Command a) h k = absurd (omega arith)
+form-one line Bad Empty h k = absurd (h.1 k)
+form-one line Bad Long h k = absurd (omega arith)
+form-one line Bad Bad h k = refl
+form-one line Bad (Command a) h k = absurd (h.2 a k.1)
+form-one line (Command a) Empty h k = absurd (asks_some (without_return line) a h.1 k)
+form-one line (Command a) Long h k = absurd (omega arith)
+form-one line (Command a) Bad h k = absurd (k.2 a h.1)
+form-one line (Command a) (Command b) h k = ap Command (asks-one (without_return line) a b h.1 k.1)

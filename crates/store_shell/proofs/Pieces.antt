@@ -1,0 +1,81 @@
+-- A piece of a script, byte by byte.
+use Rattle.std.specs.Prelude.{◌≡◌, ◌<◌, ◌+◌, ℕ, List, [], ◌∷◌, ◌++◌, length, take, drop, Option, Some, Result, Ok, Err}
+use Rattle.std.proofs.Common.{sym, subst, get_or}
+use Rattle.std.proofs.lemmas.List.{append-nil, take_more, take-append-drop}
+use Rattle.tree_outside.specs.Outside.{Stays, Writes}
+use Rattle.store_core.specs.Worlds.{World}
+use Rattle.store_shell.specs.Lines.{IsOneLine, IsCut, kept}
+use Rattle.store_shell.specs.Runs.{DoesLine}
+use Rattle.store_shell.specs.Feeding.{Feeds}
+use Rattle.store_shell.proofs.Cuts.{cut_none, cut_one, cut_append, cut_of, one_more}
+use Rattle.store_shell.proofs.Kept.{kept-nil}
+use Rattle.store_shell.proofs.Runs.{Did-nil, Did-one, Did-append, Stops-one, Stops-more, Stops-after}
+
+module _ {E : Type 0} where
+  pub Feeds-nil : (p : List ℕ) (w : World) (x y line : Option (List ℕ)) → IsOneLine p → line ≡ kept p → Stays x y → Feeds {E = E} p [] (Ok tt) w w x y line
+  Feeds-nil p w x y line h e s = record {
+    lines = [];
+    tail = p;
+    cut = subst (λ (bytes : List ℕ). IsCut bytes [] p) (sym (append-nil p)) (cut_none p h);
+    does = (Did-nil w x y s, e);
+  }
+
+  -- one byte that ends no line
+  pub Feeds-byte : (p : List ℕ) (b : ℕ) (w : World) (x line : Option (List ℕ)) → IsOneLine p → (b ≡ 10 → ⊥) → line ≡ kept (p ++ b ∷ []) → Stays x x → Feeds {E = E} p (b ∷ []) (Ok tt) w w x x line
+  Feeds-byte p b w x line h ne e s = record {
+    lines = [];
+    tail = p ++ b ∷ [];
+    cut = cut_none (p ++ b ∷ []) (one_more p b h ne);
+    does = (Did-nil w x x s, e);
+  }
+
+  -- one line feed
+  pub Feeds-line : (p out : List ℕ) (r : Result (Unit {0}) E) (w v : World) (x y : Option (List ℕ)) → IsOneLine p → DoesLine p w out v → Writes x y r out → Feeds p (10 ∷ []) r w v x y (Some [])
+  Feeds-line p out (Ok u) w v x y h d g = record {
+    lines = p ∷ [];
+    tail = [];
+    cut = cut_one p h;
+    does = (Did-one p w v out x y d g, sym kept-nil);
+  }
+  Feeds-line p out (Err e) w v x y h d g = record {
+    lines = p ∷ [];
+    tail = [];
+    cut = cut_one p h;
+    does = Stops-one p w v out x y d g;
+  }
+
+  -- two pieces
+  pub Feeds-on : (p a b : List ℕ) (r : Result (Unit {0}) E) (w m v : World) (x y z line line' : Option (List ℕ)) → (f : Feeds {E = E} p a (Ok tt) w m x y line) → Feeds f.tail b r m v y z line' → Feeds p (a ++ b) r w v x z line'
+  Feeds-on p a b (Ok u) w m v x y z line line' f k = record {
+    lines = f.lines ++ k.lines;
+    tail = k.tail;
+    cut = cut_append p a b f.lines k.lines f.tail k.tail f.cut k.cut;
+    does = (Did-append f.lines k.lines w m v x y z f.does.0 k.does.0, k.does.1);
+  }
+  Feeds-on p a b (Err e) w m v x y z line line' f k = record {
+    lines = f.lines ++ k.lines;
+    tail = k.tail;
+    cut = cut_append p a b f.lines k.lines f.tail k.tail f.cut k.cut;
+    does = Stops-after f.lines k.lines w m v x y z f.does.0 k.does;
+  }
+
+  -- what comes after a failure
+  pub Feeds-failed : (p a b : List ℕ) (e e' : E) (w v : World) (x z line line' : Option (List ℕ)) → Feeds p a (Err e) w v x z line → Feeds p (a ++ b) (Err e') w v x z line'
+  Feeds-failed p a b e e' w v x z line line' f =
+      let more = cut_of f.tail b f.cut.rest in record {
+        lines = f.lines ++ more.lines;
+        tail = more.tail;
+        cut = cut_append p a b f.lines more.lines f.tail more.tail f.cut more.cut;
+        does = Stops-more f.lines more.lines w v x z f.does;
+      }
+
+  -- one byte more of a piece
+  pub Feeds-next : (p c : List ℕ) (i : ℕ) (r : Result (Unit {0}) E) (w m v : World) (x y z line line' : Option (List ℕ)) → i < length c → (f : Feeds {E = E} p (take i c) (Ok tt) w m x y line) → Feeds f.tail (get_or c i 0 ∷ []) r m v y z line' → Feeds p (take (i + 1) c) r w v x z line'
+  Feeds-next p c i r w m v x y z line line' lt f k =
+      rw (take_more c i 0 lt) (Feeds-on p (take i c) (get_or c i 0 ∷ []) r w m v x y z line line' f k)
+
+  -- a failure in the midst of a piece
+  pub Feeds-all : (p c : List ℕ) (n : ℕ) (e e' : E) (w v : World) (x z line : Option (List ℕ)) → Feeds p (take n c) (Err e) w v x z line → Feeds p c (Err e') w v x z line
+  Feeds-all p c n e e' w v x z line f =
+      let P : List ℕ → Type 0 = λ bytes. Feeds p bytes (Err e') w v x z line in
+      subst P (take-append-drop n c) (Feeds-failed p (take n c) (drop n c) e e' w v x z line line f)

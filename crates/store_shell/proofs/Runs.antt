@@ -1,0 +1,77 @@
+-- Runs of the machine, one after another.
+use Rattle.std.specs.Prelude.{ℕ, List, [], ◌∷◌, ◌++◌, Option, refl}
+use Rattle.std.proofs.Common.{sym, ap, ◌∙◌, subst}
+use Rattle.std.proofs.lemmas.List.{append_assoc, append-nil}
+use Rattle.tree_outside.specs.Outside.{Gets, GetsFront, Stays}
+use Rattle.tree_outside.proofs.Beside.{Stays-refl}
+use Rattle.store_core.specs.Worlds.{World}
+use Rattle.store_shell.specs.Runs.{DoesLine, Run}
+use Rattle.store_shell.specs.Serving.{Did, Stops}
+use Rattle.store_shell.proofs.Sinks.{Gets-append, Gets-nil}
+
+pub Run-one : (line : List ℕ) (w v : World) (out : List ℕ) → DoesLine line w out v → Run (line ∷ []) w out v
+Run-one line w v out h = (v, out, [], h, (refl, refl), sym (append-nil out))
+
+pub Run-append : (ls ms : List (List ℕ)) (w m v : World) (a b : List ℕ) → Run ls w a m → Run ms m b v → Run (ls ++ ms) w (a ++ b) v
+Run-append [] ms w m v a b h k =
+    let P : World → Type 0 = λ u. Run ms u b v in
+    let Q : List ℕ → Type 0 = λ z. Run ms w (z ++ b) v in
+    subst Q (sym h.0) (subst P h.1 k)
+Run-append (l ∷ ls) ms w m v a b h k =
+    (h.0, h.1, h.2 ++ b, h.3, Run-append ls ms h.0 m v h.2 b h.4 k, ap (λ z. z ++ b) h.5 ∙ append_assoc h.1 h.2 b)
+
+pub Did-nil : (w : World) (x y : Option (List ℕ)) → Stays x y → Did [] w w x y
+Did-nil w x y h = record { out = []; ran = (refl, refl); got = Gets-nil x y h }
+
+pub Did-one : (line : List ℕ) (w v : World) (out : List ℕ) (x y : Option (List ℕ)) → DoesLine line w out v → Gets x y out → Did (line ∷ []) w v x y
+Did-one line w v out x y h g = record { out = out; ran = Run-one line w v out h; got = g }
+
+pub Did-append : (ls ms : List (List ℕ)) (w m v : World) (x y z : Option (List ℕ)) → Did ls w m x y → Did ms m v y z → Did (ls ++ ms) w v x z
+Did-append ls ms w m v x y z h k = record {
+  out = h.out ++ k.out;
+  ran = Run-append ls ms w m v h.out k.out h.ran k.ran;
+  got = Gets-append x y z h.out k.out h.got k.got;
+}
+
+pub Stops-one : (line : List ℕ) (w v : World) (text : List ℕ) (x y : Option (List ℕ)) → DoesLine line w text v → GetsFront x y text → Stops (line ∷ []) w v x y
+Stops-one line w v text x y h g = record {
+  done = [];
+  last = line;
+  later = [];
+  whole = refl;
+  mid = w;
+  between = x;
+  did = Did-nil w x x (Stays-refl x);
+  text = text;
+  does = h;
+  got = g;
+}
+
+-- lines that come later change nothing
+pub Stops-more : (ls ms : List (List ℕ)) (w v : World) (x y : Option (List ℕ)) → Stops ls w v x y → Stops (ls ++ ms) w v x y
+Stops-more ls ms w v x y s = record {
+  done = s.done;
+  last = s.last;
+  later = s.later ++ ms;
+  whole = ap (λ all. all ++ ms) s.whole ∙ append_assoc s.done (s.last ∷ s.later) ms;
+  mid = s.mid;
+  between = s.between;
+  did = s.did;
+  text = s.text;
+  does = s.does;
+  got = s.got;
+}
+
+pub Stops-after : (ls ms : List (List ℕ)) (w m v : World) (x y z : Option (List ℕ)) → Did ls w m x y → Stops ms m v y z → Stops (ls ++ ms) w v x z
+Stops-after ls ms w m v x y z h s = record {
+  done = ls ++ s.done;
+  last = s.last;
+  later = s.later;
+  whole = ap (λ all. ls ++ all) s.whole ∙ sym (append_assoc ls s.done (s.last ∷ s.later));
+  mid = s.mid;
+  between = s.between;
+  did = Did-append ls s.done w m s.mid x y s.between h s.did;
+  text = s.text;
+  does = s.does;
+  got = s.got;
+}

@@ -1,0 +1,35 @@
+-- The word of a command, and what follows the space after it.
+use Rattle.std.specs.Prelude.{◌≡◌, ◌<◌, ℕ, nat_lt, List, ◌∷◌, ◌++◌, length, take, true, cond, Some, None, codes, refl}
+use Rattle.std.proofs.Common.{sym, ap, ◌∙◌, arith}
+use Rattle.std.specs.List.{position}
+use Rattle.std.proofs.lemmas.Bool.Decides.{nat_tests}
+use Rattle.std.proofs.lemmas.List.{take_at}
+use Rattle.std.proofs.lemmas.Option.{same_Some}
+use Rattle.store_core.specs.Acts.{Act, Load, Save, SaveGrammar}
+use Rattle.store_shell.specs.Forms.{Asks}
+use Rattle.store_shell.specs.Verbs.{text_of, is_space}
+use Rattle.store_shell.specs.declared.verb.Verb.{Verb}
+use Rattle.store_shell.specs.declared.verb.Verb.TheVariants as verb
+
+position_at : (n : ℕ) (words : List ℕ) → n < length words → cond (nat_lt n (length words)) (Some n) None ≡ Some n
+position_at n words lt =
+    let e : nat_lt n (length words) ≡ true = grind (arith, nat_tests) in
+    rw e refl
+
+-- where the first space is
+verb_at : (v : Verb) (rest : List ℕ) → position is_space (text_of v ++ 32 ∷ rest) ≡ Some (length (text_of v))
+verb_at verb.Load rest = position_at 4 (codes "load " ++ rest) (omega arith)
+verb_at verb.Save rest = position_at 4 (codes "save " ++ rest) (omega arith)
+verb_at verb.SaveGrammar rest = position_at 12 (codes "save-grammar " ++ rest) (omega arith)
+
+-- a word and a space are cut there
+word_at : (v : Verb) (rest words : List ℕ) (at : ℕ) → position is_space words ≡ Some at → words ≡ text_of v ++ 32 ∷ rest → take at words ≡ text_of v
+word_at v rest words at e is =
+    let end : at ≡ length (text_of v) = same_Some at (length (text_of v)) (sym e ∙ (ap (position is_space) is ∙ verb_at v rest)) in
+    rw (is, end) (take_at (text_of v) (32 ∷ rest) (length (text_of v)) refl)
+
+-- a command's word is one of the verbs
+pub no_verb : (words : List ℕ) (at : ℕ) (act : Act) → position is_space words ≡ Some at → ((v : Verb) → take at words ≡ text_of v → ⊥) → Asks words act → ⊥
+no_verb words at (Load name) e none h = none verb.Load (word_at verb.Load name words at e h.1)
+no_verb words at (Save name) e none h = none verb.Save (word_at verb.Save name words at e h.1)
+no_verb words at (SaveGrammar name) e none h = none verb.SaveGrammar (word_at verb.SaveGrammar name words at e h.1)

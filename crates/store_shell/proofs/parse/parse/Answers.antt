@@ -1,0 +1,32 @@
+use Rattle.std.proofs.Common.{◌≡◌, ℕ, List, length, ap, sym, ◌∙◌, arith, subst}
+use Rattle.std.specs.Option.{option_copied}
+use Rattle.std.proofs.lemmas.Bool.Decides.{nat_tests}
+use Rattle.std.proofs.lemmas.List.{nil_from_length}
+use Rattle.store_core.specs.CommandOf.{act_of}
+use Rattle.store_shell.specs.Forms.{without_return, Asks}
+use Rattle.store_shell.proofs.Kept.{too_long, not_long}
+use Rattle.store_shell.proofs.parse.parse.Goals as goal
+
+pub returns-in_default : goal.returns-in_default
+returns-in_default c = λ bytes e. too_long bytes (option_copied c.args.line) e (ap option_copied c.in_default.is)
+
+pub returns-then-is_empty : goal.returns-then-is_empty
+returns-then-is_empty c = λ bytes e.
+    let s = not_long bytes c.in-Some.line.now (option_copied c.args.line) e (ap option_copied c.in-Some.is) in
+    let none : length c.without_return-words.result.now ≡ 0 = grind (arith, nat_tests) in
+    ap without_return s.0 ∙ (sym c.without_return-words.ensures ∙ nil_from_length _ none)
+
+pub returns-in-Some-parse_command : goal.returns-in-Some-parse_command
+returns-in-Some-parse_command c = λ bytes e.
+    let s = not_long bytes c.in-Some.line.now (option_copied c.args.line) e (ap option_copied c.in-Some.is) in
+    let P : List ℕ → Type 0 = λ words. Asks words (act_of c.in-Some-parse_command.command) in
+    (s.1, subst P (c.without_return-words.ensures ∙ sym (ap without_return s.0)) c.in-Some-parse_command.ensures)
+
+pub returns-in-None : goal.returns-in-None
+returns-in-None c = λ bytes e.
+    let s = not_long bytes c.in-Some.line.now (option_copied c.args.line) e (ap option_copied c.in-Some.is) in
+    let same : without_return bytes ≡ c.without_return-words.result.now = ap without_return s.0 ∙ sym c.without_return-words.ensures in (
+      s.1,
+      λ none. let zero : length c.without_return-words.result.now ≡ 0 = ap length (sym same ∙ none) in grind (arith, nat_tests),
+      λ act asks. let P : List ℕ → Type 0 = λ words. Asks words act in c.in-None.ensures act (subst P same asks),
+    )

@@ -1,0 +1,35 @@
+-- What a line asks for.
+use Rattle.std.specs.Prelude.{◌≡◌, ◌≢◌, ◌<◌, ◌≤◌, ◌-◌, ℕ, List, [], ◌∷◌, ◌++◌, length, take, if◌then◌else◌, codes, nat_eq}
+use Rattle.std.specs.List.{ends_with}
+use Rattle.std.specs.Str.{IsUtf8}
+use Rattle.store_core.specs.Acts.{Act, Load, Save, SaveGrammar}
+use Rattle.store_shell.specs.Lines.{longest}
+
+pub data Form : Type 0 where
+  -- nothing
+  Empty : Form
+  -- it has too many bytes
+  Long : Form
+  -- it is in no command's form
+  Bad : Form
+  Command : (act : Act) → Form
+
+-- the words of a line: one carriage return at its end isn't part of them
+abbrev pub without_return : List ℕ → List ℕ
+without_return line = if ends_with nat_eq line (13 ∷ []) then take (length line - 1) line else line
+
+abbrev pub IsFileName : List ℕ → Type 0
+IsFileName name = (name ≢ []) × IsUtf8 name
+
+-- the words ask for this
+abbrev pub Asks : List ℕ → Act → Type 0
+Asks words (Load name) = IsFileName name × (words ≡ codes "load " ++ name)
+Asks words (Save name) = IsFileName name × (words ≡ codes "save " ++ name)
+Asks words (SaveGrammar name) = IsFileName name × (words ≡ codes "save-grammar " ++ name)
+
+-- a line has this form
+abbrev pub IsForm : List ℕ → Form → Type 0
+IsForm line Empty = without_return line ≡ []
+IsForm line Long = longest < length line
+IsForm line Bad = (length line ≤ longest) × (without_return line ≢ []) × ((act : Act) → Asks (without_return line) act → ⊥)
+IsForm line (Command act) = (length line ≤ longest) × Asks (without_return line) act

@@ -1,0 +1,12 @@
+-- What holds of all lines and forms.
+use Rattle.std.specs.Prelude.{◌≡◌, ℕ, List}
+use Rattle.store_shell.specs.Forms.{Form, IsForm}
+use Rattle.store_shell.specs.Lines.{IsCut}
+
+-- bytes are cut into lines and a tail in one way alone
+abbrev pub CutsOne : Type 0
+CutsOne = (bytes : List ℕ) (lines lines' : List (List ℕ)) (tail tail' : List ℕ) → IsCut bytes lines tail → IsCut bytes lines' tail' → (lines ≡ lines') × (tail ≡ tail')
+
+-- a line has one form alone
+abbrev pub HasOneForm : Type 0
+HasOneForm = (line : List ℕ) (form form' : Form) → IsForm line form → IsForm line form' → form ≡ form'

@@ -1,0 +1,12 @@
+// The laws of lines and forms, each on a public call that does nothing.
+ghost use Rattle.store_shell.specs.Laws.{CutsOne, HasOneForm};
+
+/// Bytes are cut into lines and a tail in one way alone.
+pub fn cuts_one()
+    ensures { CutsOne }
+{}
+
+/// A line has one form alone.
+pub fn has_one_form()
+    ensures { HasOneForm }
+{}

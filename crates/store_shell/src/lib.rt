@@ -1,0 +1,15 @@
+//! The shell: it reads a script line by line, does each line's command and writes its text.
+//!
+//! `line` gathers a line's bytes, `parse` reads what a line asks for, and `script` has `serve`, the top call. Its contract
+//! (specs/Serving) says that what is written and what is left are those of a run of the plain tree machine over the
+//! script's lines (specs/Lines, specs/Forms, specs/Runs). `laws` says that lines and forms are determined.
+#![tactic(auto)]
+
+mod laws;
+mod line;
+mod parse;
+mod script;
+mod verb;
+
+pub use laws::{cuts_one, has_one_form};
+pub use script::{Status, serve};

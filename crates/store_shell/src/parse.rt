@@ -1,0 +1,79 @@
+// What a line asks for.
+ghost use Rattle.std.specs.Prelude.{◌≡◌, ◌<◌, ℕ, List, length, IfSome, MatchOption};
+ghost use Rattle.std.specs.Option.{option_copied};
+ghost use Rattle.std.specs.List.{position};
+ghost use Rattle.store_core.specs.Acts.{Act};
+ghost use Rattle.store_core.specs.CommandOf.{act_of};
+ghost use Rattle.store_shell.specs.Lines.{kept};
+ghost use Rattle.store_shell.specs.Forms.{without_return, IsFileName, Asks, IsForm};
+ghost use Rattle.store_shell.specs.Parsed.{form_of};
+ghost use Rattle.store_shell.specs.Verbs.{is_space};
+
+use crate::verb::Verb;
+use store_core::Command;
+
+/// The form of a line.
+pub enum Parsed<'a> {
+    Empty,
+    Long,
+    Bad,
+    Command(Command<'a>),
+}
+
+/// Reads a line, which is None where it is too long.
+pub fn parse(line: Option<&[u8]>) -> Parsed<'_>
+    ensures { (bytes : List ℕ) → option_copied line.entry ≡ kept bytes → IsForm bytes (form_of result) }
+{
+    let Some(line) = line else {
+        return Parsed::Long;
+    };
+    let words = without_return(line);
+    if words.is_empty() {
+        return Parsed::Empty;
+    }
+    match parse_command(words) {
+        Some(command) => Parsed::Command(command),
+        None => Parsed::Bad,
+    }
+}
+
+/// One carriage return at a line's end isn't part of its words.
+fn without_return(line: &[u8]) -> &[u8]
+    ensures { result.now ≡ without_return line.now }
+{
+    match line.strip_suffix(b"\r") {
+        Some(words) => words,
+        None => line,
+    }
+}
+
+/// Reads a command: its verb, and after one space its arguments.
+fn parse_command(words: &[u8]) -> Option<Command<'_>>
+    ensures { MatchOption result ((act : Act) → Asks words.now act → ⊥) (λ command. Asks words.now (act_of command)) }
+{
+    let space = first_space(words)?;
+    let verb = Verb::of(&words[..space])?;
+    let arguments = &words[space + 1..];
+    match verb {
+        Verb::Load => file_name(arguments).map(|name| Command::Load { name }),
+        Verb::Save => file_name(arguments).map(|name| Command::Save { name }),
+        Verb::SaveGrammar => file_name(arguments).map(|name| Command::SaveGrammar { name }),
+    }
+}
+
+fn first_space(words: &[u8]) -> Option<usize>
+    ensures first { result ≡ position is_space words.now }
+    ensures within { IfSome result (λ at. at < length words.now) }
+{
+    words.iter().position(|byte| *byte == b' ')
+}
+
+/// The name of a file: any text that isn't empty.
+fn file_name(bytes: &[u8]) -> Option<&str>
+    ensures { MatchOption result (IsFileName bytes.now → ⊥) (λ name. (name.now ≡ bytes.now) × IsFileName bytes.now) }
+{
+    if bytes.is_empty() {
+        return None;
+    }
+    str::from_utf8(bytes).ok()
+}

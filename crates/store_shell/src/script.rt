@@ -1,0 +1,184 @@
+// The top call, which reads a script and does its lines.
+ghost use Rattle.std.specs.Prelude.{◌≡◌, ◌≢◌, ◌↔◌, ◌≤◌, ℕ, List, [], ◌∷◌, MatchResult};
+ghost use Rattle.std.specs.Option.{option_copied};
+ghost use Rattle.tree_outside.specs.Outside.{HasCause, Rose, Takes, Writes};
+ghost use Rattle.store_core.specs.Worlds.{world};
+ghost use Rattle.store_shell.specs.Lines.{IsOneLine, kept};
+ghost use Rattle.store_shell.specs.Runs.{DoesLine};
+ghost use Rattle.store_shell.specs.Feeding.{Feeds};
+ghost use Rattle.store_shell.specs.Serving.{Script, Serves};
+
+use crate::line::Line;
+use crate::parse::{Parsed, parse};
+use read_steps::Steps;
+use std::alloc::Global;
+use std::sync::ledger::Ledger;
+use store_core::{Session, Settings, SinkFailed};
+use tree_outside::{Failed, Shelf, Sink, Source};
+
+/// How many bytes of a script are taken.
+const SCRIPT_LIMIT: usize = 1 << 30;
+
+/// How many bytes of a script are read at once.
+const PIECE: usize = 4096;
+
+/// As yet no words change them.
+const SETTINGS: Settings = Settings { rank: 4, repair: 1 };
+
+/// How a script ended.
+#[derive(Clone, Copy, Debug, PartialEq, Eq)]
+pub enum Status {
+    /// It was read to its end, and each line was done.
+    Done,
+    /// There was no memory to begin with, and nothing was read.
+    Memory,
+    /// The words were refused, and nothing was read.
+    Words,
+    /// The source failed. The lines that had ended were done.
+    ReadFault,
+    /// The sink failed, and got a front of the text of the lines so far.
+    WriteFault,
+    /// The script has 2^30 bytes or more. The lines that had ended were done.
+    LongScript,
+}
+
+/// Reads the script from the source, does each line's command on the session and the shelf, and writes its text to the sink.
+/// As yet there are no words.
+pub fn serve<S: Source, K: Sink, F: Shelf, L: Ledger>(
+    alloc: Global,
+    words: &[String],
+    session: &mut Session,
+    source: &mut S,
+    sink: &mut K,
+    shelf: &mut F,
+    steps: &mut Steps<L>,
+) -> Status
+    ensures serves { (script : Script) × Takes (S.left source.old) (S.left source.new) script.bytes
+        × Serves script (S.left source.old) result
+        (world session.old (F.told shelf.old) (F.faults shelf.old)) (world session.new (F.told shelf.new) (F.faults shelf.new))
+        (K.got sink.old) (K.got sink.new) }
+    ensures words { (result ≡ Status.Words) ↔ (words.now ≢ []) }
+    ensures read_fault { result ≡ Status.ReadFault → Rose (S.faults source.old) (S.faults source.new) }
+    ensures write_fault { result ≡ Status.WriteFault → Rose (K.faults sink.old) (K.faults sink.new) }
+{
+    if !words.is_empty() {
+        return Status::Words;
+    }
+    let Ok(mut line) = Line::new(alloc) else {
+        return Status::Memory;
+    };
+    let mut piece = [0u8; PIECE];
+    let mut taken = 0;
+    while taken < SCRIPT_LIMIT {
+        let room = PIECE.min(SCRIPT_LIMIT - taken);
+        match source.read(&mut piece[..room]) {
+            Err(Failed) => return Status::ReadFault,
+            Ok(0) => {
+                let last = end_line(alloc, session, line.bytes(), sink, shelf, steps);
+                return last_status(last);
+            }
+            Ok(count) => {
+                taken += count;
+                let fed = feed(
+                    alloc,
+                    session,
+                    &mut line,
+                    &piece[..count],
+                    sink,
+                    shelf,
+                    steps,
+                );
+                if fed.is_err() {
+                    return Status::WriteFault;
+                }
+            }
+        }
+    }
+    Status::LongScript
+}
+
+/// The status after the unfinished last line.
+fn last_status(last: Result<(), SinkFailed>) -> Status
+    ensures { MatchResult last (λ _. result ≡ Status.Done) (λ _. result ≡ Status.WriteFault) }
+{
+    match last {
+        Ok(()) => Status::Done,
+        Err(SinkFailed) => Status::WriteFault,
+    }
+}
+
+/// Takes the next piece of the script, and does each line that ends in it.
+fn feed<K: Sink, F: Shelf, L: Ledger>(
+    alloc: Global,
+    session: &mut Session,
+    line: &mut Line,
+    piece: &[u8],
+    sink: &mut K,
+    shelf: &mut F,
+    steps: &mut Steps<L>,
+) -> Result<(), SinkFailed>
+    ensures feeds { (part : List ℕ) → IsOneLine part → line.old ≡ kept part → Feeds part piece.now result
+        (world session.old (F.told shelf.old) (F.faults shelf.old)) (world session.new (F.told shelf.new) (F.faults shelf.new))
+        (K.got sink.old) (K.got sink.new) line.new }
+    ensures cause { HasCause (K.faults sink.old) (K.faults sink.new) result }
+{
+    for byte in piece {
+        feed_byte(alloc, session, line, *byte, sink, shelf, steps)?;
+    }
+    Ok(())
+}
+
+/// Takes the next byte of the script, and does the line that it ends.
+fn feed_byte<K: Sink, F: Shelf, L: Ledger>(
+    alloc: Global,
+    session: &mut Session,
+    line: &mut Line,
+    byte: u8,
+    sink: &mut K,
+    shelf: &mut F,
+    steps: &mut Steps<L>,
+) -> Result<(), SinkFailed>
+    ensures feeds { (part : List ℕ) → IsOneLine part → line.old ≡ kept part → Feeds part (byte ∷ []) result
+        (world session.old (F.told shelf.old) (F.faults shelf.old)) (world session.new (F.told shelf.new) (F.faults shelf.new))
+        (K.got sink.old) (K.got sink.new) line.new }
+    ensures cause { HasCause (K.faults sink.old) (K.faults sink.new) result }
+{
+    if byte != b'\n' {
+        line.push(byte);
+        return Ok(());
+    }
+    let done = end_line(alloc, session, line.bytes(), sink, shelf, steps);
+    line.clear();
+    done
+}
+
+/// Does one line, which is None where it is too long.
+fn end_line<K: Sink, F: Shelf, L: Ledger>(
+    alloc: Global,
+    session: &mut Session,
+    line: Option<&[u8]>,
+    sink: &mut K,
+    shelf: &mut F,
+    steps: &mut Steps<L>,
+) -> Result<(), SinkFailed>
+    ensures does { (bytes : List ℕ) → option_copied line.entry ≡ kept bytes → (out : List ℕ)
+        × DoesLine bytes (world session.old (F.told shelf.old) (F.faults shelf.old)) out (world session.new (F.told shelf.new) (F.faults shelf.new))
+        × Writes (K.got sink.old) (K.got sink.new) result out }
+    ensures cause { HasCause (K.faults sink.old) (K.faults sink.new) result }
+{
+    match parse(line) {
+        Parsed::Empty => Ok(()),
+        Parsed::Long | Parsed::Bad => print(b"! bad-command\n", sink),
+        Parsed::Command(command) => session.command(alloc, command, SETTINGS, sink, shelf, steps),
+    }
+}
+
+fn print<K: Sink>(text: &[u8], sink: &mut K) -> Result<(), SinkFailed>
+    ensures writes { Writes (K.got sink.old) (K.got sink.new) result text.now }
+    ensures cause { HasCause (K.faults sink.old) (K.faults sink.new) result }
+{
+    match sink.write(text) {
+        Ok(()) => Ok(()),
+        Err(Failed) => Err(SinkFailed),
+    }
+}

@@ -1,0 +1,26 @@
+// The words that begin commands.
+/// What a command begins with.
+#[derive(Clone, Copy)]
+pub enum Verb {
+    Load,
+    Save,
+    SaveGrammar,
+}
+
+impl Verb {
+    ghost use Rattle.std.specs.Prelude.{◌≡◌, ◌≢◌, MatchOption};
+    ghost use Rattle.store_shell.specs.declared.verb.Verb.{Verb};
+    ghost use Rattle.store_shell.specs.Verbs.{text_of};
+
+    /// The verb that this word is, or None where it is none.
+    pub fn of(word: &[u8]) -> Option<Verb>
+        ensures { MatchOption result ((verb : Verb) → word.now ≢ text_of verb) (λ verb. word.now ≡ text_of verb) }
+    {
+        match word {
+            b"load" => Some(Verb::Load),
+            b"save" => Some(Verb::Save),
+            b"save-grammar" => Some(Verb::SaveGrammar),
+            _ => None,
+        }
+    }
+}

@@ -1,0 +1,82 @@
+//! The program: the shell over the real source, sink and shelf.
+#![tactic(auto)]
+
+ghost use Rattle.std.specs.Prelude.{◌≡◌, ◌<◌};
+
+use read_steps::Steps;
+use std::marker::Brand;
+use std::process::ExitCode;
+use std::rt::Env;
+use std::sync::ledger::{Blank, Ledger};
+use std::{env, io};
+use store_core::Session;
+use store_shell::{Status, serve};
+use tree_outside::{RealShelf, RealSink, RealSource};
+
+#[cfg(test)]
+mod tests;
+
+/// The number with which the program ends.
+fn number(status: Status) -> u8 {
+    match status {
+        Status::Done => 0,
+        Status::Memory => 1,
+        Status::Words => 2,
+        Status::ReadFault => 3,
+        Status::WriteFault => 4,
+        Status::LongScript => 5,
+    }
+}
+
+/// The line on standard error, empty where all was done.
+fn message(status: Status) -> &'static str {
+    match status {
+        Status::Done => "",
+        Status::Memory => "treestore: memory\n",
+        Status::Words => "treestore: bad words\n",
+        Status::ReadFault => "treestore: read fault\n",
+        Status::WriteFault => "treestore: write fault\n",
+        Status::LongScript => "treestore: long script\n",
+    }
+}
+
+/// The words behind the program's name, or none where there is no memory for them.
+fn words_of(rt: &HostRuntime) -> Option<Vec<String>> {
+    let mut words = Vec::new(rt.alloc());
+    for word in env::args(rt).ok()?.skip(1) {
+        words.push(word).ok()?;
+    }
+    Some(words)
+}
+
+/// Serves the script on standard input, with a counter of the ledger `L`.
+fn run<L: Ledger>(rt: &HostRuntime, blank: Blank) -> Status
+    requires name { blank.name ≡ L.name }
+    requires parts { blank.parts ≡ L.parts }
+    requires some { 0 < blank.parts }
+{
+    let Some(words) = words_of(rt) else {
+        return Status::Memory;
+    };
+    let alloc = rt.alloc();
+    let mut session = Session::new();
+    let mut source = RealSource::new(rt.reader());
+    let mut sink = RealSink::new(io::writer(rt));
+    let mut shelf = RealShelf::new(alloc, rt);
+    let mut steps: Steps<L> = Steps::new(blank);
+    serve(
+        alloc,
+        &words,
+        &mut session,
+        &mut source,
+        &mut sink,
+        &mut shelf,
+        &mut steps,
+    )
+}
+
+fn main(rt: HostRuntime) -> ExitCode {
+    let status = run::<Brand>(&rt, Blank::new(1));
+    let _ = rt.eprint(message(status));
+    ExitCode::from(number(status))
+}

@@ -11,3 +11,18 @@ pub enum Kind {
     Comment,
     Instruction,
 }
+
+impl Kind {
+    ghost use Rattle.std.specs.Prelude.{◌≡◌};
+    ghost use Rattle.plain_tree.specs.Numbers.{has_value};
+
+    /// Whether nodes of this kind have a value.
+    pub fn has_value(self) -> bool
+        ensures { result ≡ has_value self }
+    {
+        match self {
+            Kind::Document | Kind::Element => false,
+            Kind::Attribute | Kind::Text | Kind::Comment | Kind::Instruction => true,
+        }
+    }
+}

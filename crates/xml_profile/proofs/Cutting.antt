@@ -4,10 +4,15 @@ use Rattle.std.specs.List.{list_all}
 use Rattle.plain_tree.specs.Tree.{Tree}
 use Rattle.xml_profile.specs.Tokens.{Token, Space, Start, Empty, End, Begins, AreTokens, is_space}
 use Rattle.xml_profile.specs.Spelling.{is_misc}
-use Rattle.xml_profile.specs.Reading.{back}
-use Rattle.xml_profile.specs.Stack.{Reads, SameRoots}
+use Rattle.xml_profile.specs.Reading.{front, back}
+use Rattle.xml_profile.specs.Stack.{Reads}
 use Rattle.xml_profile.proofs.Lists.{and_true}
 use Rattle.xml_profile.proofs.Tagging.{same_token, shorter}
+
+-- two readings wait for the same roots
+pub record SameRoots (P Q : Tree → Type 0) : Type 0 where
+  pub to : (root : Tree) → P root → Q root
+  pub from : (root : Tree) → Q root → P root
 
 -- behind the first token
 pub cut_behind : (t : Token) (bytes mid : List ℕ) (us : List Token) → Begins t bytes mid → AreTokens us bytes []
@@ -98,6 +103,14 @@ front_cut body (c ∷ cs) cut = by_space (is_space c) refl (λ e. front_cut body
       let rest = behind e in
       (Space c ∷ rest.0, rest.1, (cs, space_begins c cs e, rest.2))
   by_space false e behind = ([], refl, rw e at cut)
+
+pub spaces_at_front : (bytes : List ℕ) → AreTokens (space_tokens (front is_space bytes)) bytes (back is_space bytes)
+spaces_at_front [] = refl
+spaces_at_front (c ∷ cs) = by_space (is_space c) refl (spaces_at_front cs) where
+  by_space : (b : Bool) → is_space c ≡ b → AreTokens (space_tokens (front is_space cs)) cs (back is_space cs)
+      → AreTokens (space_tokens (front is_space (c ∷ cs))) (c ∷ cs) (back is_space (c ∷ cs))
+  by_space true e behind = rw e (cs, space_begins c cs e, behind)
+  by_space false e behind = rw e refl
 
 -- and what follows them is behind it
 pub cut_front : (prolog body : List Token) (bytes : List ℕ) → list_all is_misc prolog ≡ true

@@ -4,10 +4,10 @@ use Rattle.std.specs.List.{list_all}
 use Rattle.plain_tree.specs.declared.kind.Kind.TheVariants.{Document}
 use Rattle.plain_tree.specs.Tree.{Tree, node, none, more, list_of}
 use Rattle.xml_profile.specs.Tokens.{Token, Space, Start, Empty, End, Begins, AreTokens, is_space}
-use Rattle.xml_profile.specs.Reading.{back}
-use Rattle.xml_profile.specs.Spelling.{IsElement, IsContent, IsRoot, Spells, is_misc}
-use Rattle.xml_profile.specs.Stack.{element, Closes, Completes, Reads, SameRoots}
-use Rattle.xml_profile.proofs.Cutting.{after_token, refused_token, no_token, front_cut, cut_front, spaces_cut, misc_spaces, cut_spaces, space_tokens}
+use Rattle.xml_profile.specs.Reading.{front, back}
+use Rattle.xml_profile.specs.Spelling.{IsElement, IsContent, IsRoot, Spells, BeginsElement, BeginsRoot, is_misc}
+use Rattle.xml_profile.specs.Stack.{element, Closes, Completes, Reads}
+use Rattle.xml_profile.proofs.Cutting.{SameRoots, after_token, refused_token, no_token, front_cut, cut_front, spaces_cut, misc_spaces, cut_spaces, space_tokens, spaces_at_front}
 use Rattle.xml_profile.proofs.Steps.{element-is, trees-list_of, first_token, start_name}
 
 root_starts : (n : List ℕ) (tokens after : List Token) (root : Tree) → IsElement root (Start n ∷ tokens) after → list_all is_misc after ≡ true
@@ -108,6 +108,27 @@ root_stops (node kind m v ks) tokens after bytes (inl leaf) cut =
 root_stops (node kind m v ks) tokens after bytes (inr parent) cut =
     let b = (starts_at (Start m) tokens parent.inner bytes parent.start_tag cut).1 in
     rw (b.whole, b.spelled.whole) refl
+
+-- the first tag of a root
+element_begins : (root : Tree) (tokens after : List Token) (bytes : List ℕ) → IsElement root tokens after → AreTokens tokens bytes [] → BeginsElement bytes
+element_begins (node kind m v ks) tokens after bytes (inl leaf) cut =
+    let b = starts_at (Empty m) tokens after bytes leaf.tag cut in
+    (m, b.0, inr b.1)
+element_begins (node kind m v ks) tokens after bytes (inr parent) cut =
+    let b = starts_at (Start m) tokens parent.inner bytes parent.start_tag cut in
+    (m, b.0, inl b.1)
+
+pub root-begins : (bytes : List ℕ) (root : Tree) → Reads IsRoot bytes root → BeginsElement bytes
+root-begins bytes root r = element_begins root r.tokens r.holds.after bytes r.holds.element r.cut
+
+pub begins-root : (bytes : List ℕ) → BeginsElement (back is_space bytes) → BeginsRoot bytes
+begins-root bytes tag = record {
+  prolog = space_tokens (front is_space bytes);
+  rest = back is_space bytes;
+  cut = spaces_at_front bytes;
+  before = misc_spaces (front is_space bytes);
+  tag = tag;
+}
 
 pub spells-root : (bytes : List ℕ) (root : Tree) → Reads IsRoot (back is_space bytes) root → Spells bytes (node Document [] [] (more root none))
 spells-root bytes root r =

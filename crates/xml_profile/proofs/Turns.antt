@@ -7,8 +7,8 @@ use Rattle.std.proofs.lemmas.List.{reverse-append}
 use Rattle.plain_tree.specs.Tree.{Tree}
 use Rattle.xml_profile.specs.declared.reader.OpenElement.{OpenElement}
 use Rattle.xml_profile.specs.Tokens.{Token, Space, Start, Empty, End, Begins}
-use Rattle.xml_profile.specs.Stack.{element, Closes, Completes, Reads, SameRoots}
-use Rattle.xml_profile.proofs.Cutting.{after_token, refused_token, no_token}
+use Rattle.xml_profile.specs.Stack.{element, Closes, Completes, Reads}
+use Rattle.xml_profile.proofs.Cutting.{SameRoots, after_token, refused_token, no_token}
 use Rattle.xml_profile.proofs.Steps.{start-opens, opens-start, leaf-adds, adds-leaf, end-closes, closes-end, refuses_space, wants_token}
 
 reverse-push : (xs : List OpenElement) (x : OpenElement) → reverse (xs ++ x ∷ []) ≡ x ∷ reverse xs

@@ -4,7 +4,7 @@ use Rattle.std.specs.List.{list_all}
 use Rattle.plain_tree.specs.declared.kind.Kind.{Kind}
 use Rattle.plain_tree.specs.declared.kind.Kind.TheVariants.{Document, Element}
 use Rattle.plain_tree.specs.Tree.{Tree, node, Trees, none, more}
-use Rattle.xml_profile.specs.Tokens.{Token, Space, Start, Empty, End, AreTokens}
+use Rattle.xml_profile.specs.Tokens.{Token, Space, Start, Empty, End, Begins, AreTokens}
 
 -- an element without kids, in one tag (production 44)
 pub record IsLeaf (kind : Kind) (name value : List ℕ) (kids : Trees) (tokens after : List Token) : Type 0 where
@@ -61,3 +61,15 @@ pub record Spells (bytes : List ℕ) (document : Tree) : Type 0 where
   pub tokens : List Token
   pub cut : AreTokens tokens bytes []
   pub spelled : AreDocument tokens document
+
+-- an element's first tag stands at the front of the bytes
+abbrev pub BeginsElement : List ℕ → Type 0
+BeginsElement bytes = (name after : List ℕ) × (Begins (Start name) bytes after ⊎ Begins (Empty name) bytes after)
+
+-- the first tag of a root stands in the bytes, and nothing in front of it that gives a node
+pub record BeginsRoot (bytes : List ℕ) : Type 0 where
+  pub prolog : List Token
+  pub rest : List ℕ
+  pub cut : AreTokens prolog bytes rest
+  pub before : list_all is_misc prolog ≡ true
+  pub tag : BeginsElement rest

@@ -32,8 +32,3 @@ pub record Reads (P : List Token → Tree → Type 0) (bytes : List ℕ) (root :
   pub tokens : List Token
   pub cut : AreTokens tokens bytes []
   pub holds : P tokens root
-
--- two readings wait for the same roots
-pub record SameRoots (P Q : Tree → Type 0) : Type 0 where
-  pub to : (root : Tree) → P root → Q root
-  pub from : (root : Tree) → Q root → P root

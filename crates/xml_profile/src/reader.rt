@@ -4,7 +4,7 @@ ghost use Rattle.plain_tree.specs.NodeTree.{tree_of};
 ghost use Rattle.plain_tree.specs.Tree.{Tree, node, more, none, node_count};
 ghost use Rattle.plain_tree.specs.Documents.{IsDocument};
 ghost use Rattle.plain_tree.specs.declared.kind.Kind.TheVariants.{Document};
-ghost use Rattle.xml_profile.specs.Spelling.{IsRoot, Spells};
+ghost use Rattle.xml_profile.specs.Spelling.{IsRoot, Spells, BeginsElement, BeginsRoot};
 ghost use Rattle.xml_profile.specs.Stack.{element, Closes, Completes, Reads};
 
 use crate::tokens::{FoundToken, is_all_space, next_token, skip_space};
@@ -41,10 +41,12 @@ impl<T: Drop> From<AllocFailed<T>> for XmlError {
     }
 }
 
-/// The document that the bytes spell, as yet one of bare elements. `Bad` comes exactly where they spell none, `Memory` for want of memory alone.
+/// The document that the bytes spell, as yet one of bare elements. `Bad` comes only where they spell none, `Memory` only for
+/// want of memory, which isn't asked for before the root's first tag: bytes in which no root begins are always `Bad`.
 pub fn read_document(alloc: Global, bytes: &[u8]) -> Result<Node, XmlError>
     ensures spelled { IfOk result (λ n. Spells bytes.now (tree_of n)) }
     ensures bad { result ≡ Err XmlError.Bad → (t : Tree) → Spells bytes.now t → ⊥ }
+    ensures memory { result ≡ Err XmlError.Memory → BeginsRoot bytes.now }
     ensures lawful { IfOk result (λ n. IsDocument (tree_of n)) }
     ensures small { IfOk result (λ n. node_count (tree_of n) ≤ length bytes.now) }
 {
@@ -57,6 +59,7 @@ pub fn read_document(alloc: Global, bytes: &[u8]) -> Result<Node, XmlError>
 fn read_root(alloc: Global, bytes: &[u8]) -> Result<Node, XmlError>
     ensures spelled { IfOk result (λ n. Reads IsRoot bytes.now (tree_of n)) }
     ensures bad { result ≡ Err XmlError.Bad → (root : Tree) → Reads IsRoot bytes.now root → ⊥ }
+    ensures memory { result ≡ Err XmlError.Memory → BeginsElement bytes.now }
 {
     match next_token(bytes) {
         Some((FoundToken::Start(name), rest)) => read_open(alloc, name, rest),

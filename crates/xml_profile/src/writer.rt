@@ -1,5 +1,5 @@
 // XML written to a sink, call by call.
-ghost use Rattle.std.specs.Prelude.{◌≡◌, ◌<◌, ◌+◌, ◌-◌, ◌^◌, min, [], ◌∷◌, ◌++◌, OnOk};
+ghost use Rattle.std.specs.Prelude.{◌≡◌, ◌<◌, ◌+◌, ◌-◌, ◌^◌, min, [], ◌∷◌, ◌++◌, OnOk, OnErr};
 ghost use Rattle.tree_outside.specs.Outside.{HasCause, Writes};
 ghost use Rattle.tree_outside.specs.Shelf.{Keeps};
 ghost use Rattle.xml_profile.specs.Pen.{Open, Close, call_text, pen_after, new_pen};
@@ -7,7 +7,8 @@ ghost use Rattle.xml_profile.specs.WriterOf.{pen_of, sink_of, sink_name, count_o
 
 use tree_outside::{Failed, Sink};
 
-/// Writes elements to a sink. After a call that answered `Failed` nothing is known of the pen, so no further call may be made.
+/// Writes elements to a sink. A call that answered `Failed` leaves pen and count as they were, though the sink may have got a
+/// front of what the call writes.
 #[derive(Drop)]
 pub struct Writer<'a, K: Sink> {
     sink: &'a mut K,
@@ -48,6 +49,8 @@ impl<'a, K: Sink> Writer<'a, K> {
         ensures written { Writes (K.got (sink_of self.old)) (K.got (sink_of self.new)) result (call_text (pen_of self.old) (Open name.now)) }
         ensures pen { OnOk result (pen_of self.new ≡ pen_after (pen_of self.old) (Open name.now)) }
         ensures count { OnOk result (count_of self.new ≡ counted (count_of self.old) (call_text (pen_of self.old) (Open name.now))) }
+        ensures failed_pen { OnErr result (pen_of self.new ≡ pen_of self.old) }
+        ensures failed_count { OnErr result (count_of self.new ≡ count_of self.old) }
         ensures kept { Keeps (K.kept (sink_of self.old)) (K.kept (sink_of self.new)) }
         ensures cause { HasCause (K.faults (sink_of self.old)) (K.faults (sink_of self.new)) result }
         ensures same_reference { sink_name self.new ≡ sink_name self.old }
@@ -66,6 +69,8 @@ impl<'a, K: Sink> Writer<'a, K> {
         ensures written { Writes (K.got (sink_of self.old)) (K.got (sink_of self.new)) result (call_text (pen_of self.old) (Close name.now)) }
         ensures pen { OnOk result (pen_of self.new ≡ pen_after (pen_of self.old) (Close name.now)) }
         ensures count { OnOk result (count_of self.new ≡ counted (count_of self.old) (call_text (pen_of self.old) (Close name.now))) }
+        ensures failed_pen { OnErr result (pen_of self.new ≡ pen_of self.old) }
+        ensures failed_count { OnErr result (count_of self.new ≡ count_of self.old) }
         ensures kept { Keeps (K.kept (sink_of self.old)) (K.kept (sink_of self.new)) }
         ensures cause { HasCause (K.faults (sink_of self.old)) (K.faults (sink_of self.new)) result }
         ensures same_reference { sink_name self.new ≡ sink_name self.old }

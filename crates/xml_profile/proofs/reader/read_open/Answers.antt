@@ -1,7 +1,8 @@
 use Rattle.std.proofs.Common.{rules, ◌≡◌, [], ap, sym, ◌∙◌, ◌∷◌, ◌++◌}
 use Rattle.plain_tree.specs.NodeTree.{tree_of}
 use Rattle.xml_profile.specs.Tokens.{Space, Start, Empty, End, Begins}
-use Rattle.xml_profile.specs.Stack.{Closes, Completes, Reads, SameRoots}
+use Rattle.xml_profile.specs.Stack.{Closes, Completes, Reads}
+use Rattle.xml_profile.proofs.Cutting.{SameRoots}
 use Rattle.xml_profile.specs.declared.reader.XmlError.TheVariants.{Bad}
 use Rattle.xml_profile.proofs.Turns.{opened, emptied, misnamed, spaced, ended, last_closed, one_closed, ok_from, bad_from, no_items}
 use Rattle.xml_profile.proofs.reader.read_open.Goals.{After-finish}

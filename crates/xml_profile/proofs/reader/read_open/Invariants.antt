@@ -1,6 +1,7 @@
 use Rattle.std.proofs.Common.{[], length}
 use Rattle.std.specs.Prelude.{reverse}
-use Rattle.xml_profile.specs.Stack.{Completes, Reads, SameRoots}
+use Rattle.xml_profile.specs.Stack.{Completes, Reads}
+use Rattle.xml_profile.proofs.Cutting.{SameRoots}
 use Rattle.xml_profile.proofs.reader.read_open.Given as goal
 
 abbrev pub invariant-loop-token : goal.invariant-loop-token

@@ -9,7 +9,7 @@ use Rattle.std.proofs.lemmas.Bool.Decides.{nat_tests}
 use Rattle.rule_arena.specs.declared.label.Label.{Label}
 use Rattle.rule_arena.specs.declared.label.Label.TheVariants.{Bottom, Symbol, Call, Param}
 use Rattle.slt_grammar.specs.Bodies.{params, real_nodes, calls_in, CallsBelow}
-use Rattle.slt_grammar.specs.Grammars.{no_rule, body_at, calls_of, whole}
+use Rattle.slt_grammar.specs.Grammars.{no_rule, body_at, calls_of, size, whole}
 use Rattle.slt_grammar.specs.declared.rules.Rule.{Rule}
 
 pub real_nodes-are : (ls : List Label) → real_nodes ls + params ls ≡ length ls
@@ -41,6 +41,19 @@ calls-room q (R ∷ Rs) (suc r) h =
       calls_in-few q R.body,
       sum_by-cons (λ (S : Rule). length S.body) R Rs,
       sum_by-cons (λ (S : Rule). calls_in q S.body) R (take r Rs),
+    )
+
+-- the nodes before a rule, and its labels, are among all labels
+pub nodes-room : (rules : List Rule) (r : ℕ) → r < length rules → size (take r rules) + length (body_at rules r) ≤ whole rules
+nodes-room [] r h = absurd (omega arith)
+nodes-room (R ∷ Rs) zero h = omega (arith, sum_by-cons (λ (S : Rule). length S.body) R Rs)
+nodes-room (R ∷ Rs) (suc r) h =
+    omega (
+      arith,
+      nodes-room Rs r (omega arith),
+      real_nodes-are R.body,
+      sum_by-cons (λ (S : Rule). length S.body) R Rs,
+      sum_by-cons (λ (S : Rule). real_nodes S.body) R (take r Rs),
     )
 
 -- one more label

@@ -7,11 +7,10 @@ use Rattle.rule_arena.specs.declared.label.Label.{Label}
 use Rattle.rule_arena.specs.declared.label.Label.TheVariants.{Bottom, Symbol, Call, Param}
 use Rattle.slt_grammar.specs.Bodies.{arity, params, CallsBelow}
 use Rattle.slt_grammar.specs.Algebras.{Algebra, meanings, rule_meanings, ranks_of, all_meanings}
-use Rattle.slt_grammar.specs.Substitution.{put, joined, AllTerms}
 use Rattle.slt_grammar.specs.Grammars.{IsGrammar, body_at, rank_at, no_rule}
-use Rattle.slt_grammar.specs.Editing.{with_body}
+use Rattle.slt_grammar.specs.Editing.{put, with_body}
 use Rattle.slt_grammar.specs.declared.rules.Rule.{Rule}
-use Rattle.slt_grammar.proofs.Substitutions.{params-put, AreTerms-joined}
+use Rattle.slt_grammar.proofs.Substitutions.{joined, AllTerms, params-put, AreTerms-joined}
 use Rattle.slt_grammar.proofs.RuleMeanings.{rank_at-ranks_of, rule-means}
 use Rattle.slt_grammar.proofs.Inlining.{meanings-inline, with_body-keeps}
 use Rattle.slt_grammar.proofs.Keeping.{CallsBelow-parts, CallsBelow-append, CallsBelow-take, CallsBelow-drop, grammar-with_subterm}

@@ -11,8 +11,12 @@ use Rattle.rule_arena.specs.declared.label.Label.TheVariants.{Bottom}
 use Rattle.rule_arena.proofs.PreorderLemmas.{AreTerms-one, AreTerms-rest, slice_get-left, slice_get-right}
 use Rattle.slt_grammar.specs.Bodies.{arity, IsTerm}
 use Rattle.slt_grammar.specs.Keyed.{labels_of, HasArities}
-use Rattle.slt_grammar.specs.Building.{AreBuilt, WereNone, Keeps}
+use Rattle.slt_grammar.specs.Building.{AreBuilt, Keeps}
 use Rattle.slt_grammar.proofs.Scans.{terms-few}
+
+-- these keys were no roots
+abbrev pub WereNone : Terms → List Key → Type 0
+WereNone a keys = (i : ℕ) (k : Key) → slice_get keys i ≡ Some k → term_at a k.number ≡ None
 
 -- what an add says of the arena before and after it
 pub record IsAdded (a b : Terms) (l : Label) (kids : List Key) (key : Key) : Type 0 where

@@ -8,12 +8,11 @@ use Rattle.rule_arena.specs.declared.label.Label.{Label}
 use Rattle.rule_arena.specs.declared.label.Label.TheVariants.{Bottom, Call}
 use Rattle.slt_grammar.specs.Bodies.{arity, params, IsTerm}
 use Rattle.slt_grammar.specs.Algebras.{Algebra, meanings, meaning, rule_meanings, ranks_of, all_meanings}
-use Rattle.slt_grammar.specs.Substitution.{put, joined, AllTerms}
 use Rattle.slt_grammar.specs.Grammars.{IsGrammar, body_at, rank_at, no_rule}
-use Rattle.slt_grammar.specs.Editing.{inlined, with_body}
+use Rattle.slt_grammar.specs.Editing.{put, inlined, with_body}
 use Rattle.slt_grammar.specs.declared.rules.Rule.{Rule}
 use Rattle.slt_grammar.proofs.Meanings.{meanings-append, meanings-whole, only}
-use Rattle.slt_grammar.proofs.Substitutions.{params-put, meanings-put, AreTerms-joined, AllTerms-terms}
+use Rattle.slt_grammar.proofs.Substitutions.{joined, AllTerms, params-put, meanings-put, AreTerms-joined, AllTerms-terms}
 use Rattle.slt_grammar.proofs.RuleMeanings.{rank_at-ranks_of, rule-means, rule_meanings-same, call-earlier}
 
 -- the first terms, one after another, are the first items

@@ -10,12 +10,11 @@ use Rattle.rule_arena.specs.declared.label.Label.{Label}
 use Rattle.rule_arena.specs.declared.label.Label.TheVariants.{Bottom, Symbol, Call, Param}
 use Rattle.slt_grammar.specs.Bodies.{arity, params, CallsBelow, IsTerm}
 use Rattle.slt_grammar.specs.Algebras.{ranks_of}
-use Rattle.slt_grammar.specs.Substitution.{put, joined}
 use Rattle.slt_grammar.specs.Grammars.{IsGrammar, IsLawfulAt, body_at, rank_at, no_rule}
-use Rattle.slt_grammar.specs.Editing.{inlined, with_body, shifted, shifted_label, shifted_rule, rule_added}
+use Rattle.slt_grammar.specs.Editing.{put, inlined, with_body, shifted, shifted_label, shifted_rule, rule_added}
 use Rattle.slt_grammar.specs.declared.rules.Rule.{Rule}
 use Rattle.slt_grammar.proofs.Meanings.{params-append}
-use Rattle.slt_grammar.proofs.Substitutions.{params-put, AreTerms-put, AllTerms-terms}
+use Rattle.slt_grammar.proofs.Substitutions.{joined, params-put, AreTerms-put, AllTerms-terms}
 use Rattle.slt_grammar.proofs.RuleMeanings.{rank_at-ranks_of, call-earlier}
 use Rattle.slt_grammar.proofs.Adding.{CallsBelow-le, get_or-shifted, ranks-before, ranks-behind}
 use Rattle.slt_grammar.proofs.Inlining.{joined-terms, ranks-with_body}

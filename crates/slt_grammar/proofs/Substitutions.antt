@@ -6,11 +6,20 @@ use Rattle.rule_arena.specs.Preorder.{AreTerms, span, terms, subterm, with_subte
 use Rattle.rule_arena.proofs.PreorderLemmas.{AreTerms-append, AreTerms-split, AreTerms-with, split_at}
 use Rattle.rule_arena.specs.declared.label.Label.{Label}
 use Rattle.rule_arena.specs.declared.label.Label.TheVariants.{Bottom, Symbol, Call, Param}
-use Rattle.slt_grammar.specs.Bodies.{arity, params}
+use Rattle.slt_grammar.specs.Bodies.{arity, params, IsTerm}
 use Rattle.slt_grammar.specs.Algebras.{Algebra, meanings}
-use Rattle.slt_grammar.specs.Substitution.{put, joined, AllTerms}
+use Rattle.slt_grammar.specs.Editing.{put}
 use Rattle.slt_grammar.specs.Terms.{Term, Leaf, Node, Hole, substitute, up, terms as term_algebra}
 use Rattle.slt_grammar.proofs.Meanings.{params-append, meanings-append, meanings-whole, only}
+
+-- bodies one after another
+abbrev pub joined : List (List Label) → List Label
+joined [] = []
+joined (a ∷ args) = a ++ joined args
+
+abbrev pub AllTerms : List ℕ → List (List Label) → Type 0
+AllTerms ranks [] = Unit {0}
+AllTerms ranks (a ∷ args) = IsTerm ranks a × AllTerms ranks args
 
 -- the parameters of a body with arguments are those of the arguments
 pub params-put : (ls : List Label) (given : List (List Label)) → length given ≡ params ls → params (put ls given) ≡ params (joined given)

@@ -1,5 +1,5 @@
 -- Bodies that are put into an arena, from their end.
-use Rattle.std.specs.Prelude.{◌≡◌, ℕ, List, length, Some, None, IsSome, slice_get}
+use Rattle.std.specs.Prelude.{◌≡◌, ℕ, List, length, Some, IsSome, slice_get}
 use Rattle.rule_arena.specs.Preorder.{AreTerms}
 use Rattle.rule_arena.specs.Terms.{Terms, term_at, joined}
 use Rattle.rule_arena.specs.declared.key.Key.{Key}
@@ -14,10 +14,6 @@ pub record AreBuilt (ranks : List ℕ) (a : Terms) (keys : List Key) (labels : L
   pub labelled : labels_of (joined a keys) ≡ labels
   pub arities : HasArities ranks (joined a keys)
   pub terms : AreTerms (arity ranks) (length keys) labels
-
--- these keys were no roots
-abbrev pub WereNone : Terms → List Key → Type 0
-WereNone a keys = (i : ℕ) (k : Key) → slice_get keys i ≡ Some k → term_at a k.number ≡ None
 
 -- the terms that stood before stand as they were
 abbrev pub Keeps : Terms → Terms → Type 0

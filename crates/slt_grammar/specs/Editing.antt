@@ -1,12 +1,18 @@
 -- Lists of rules that are changed at one place.
-use Rattle.std.specs.Prelude.{ℕ, zero, suc, ◌+◌, List, ◌∷◌, ◌++◌, map, take, drop}
+use Rattle.std.specs.Prelude.{ℕ, zero, suc, ◌+◌, List, [], ◌∷◌, ◌++◌, map, take, drop}
 use Rattle.rule_arena.specs.Preorder.{span, terms}
 use Rattle.rule_arena.specs.declared.label.Label.{Label}
 use Rattle.rule_arena.specs.declared.label.Label.TheVariants.{Bottom, Symbol, Call, Param}
 use Rattle.slt_grammar.specs.Bodies.{arity}
-use Rattle.slt_grammar.specs.Substitution.{put}
 use Rattle.slt_grammar.specs.Grammars.{rank_at}
 use Rattle.slt_grammar.specs.declared.rules.Rule.{Rule}
+
+-- the parameters have the arguments in their places, one after another
+abbrev pub put : List Label → List (List Label) → List Label
+put [] args = []
+put (Param ∷ ls) [] = Param ∷ put ls []
+put (Param ∷ ls) (a ∷ args) = a ++ put ls args
+put (l ∷ ls) args = l ∷ put ls args
 
 -- a body whose call at a place, of a rule of this rank and body, is replaced by that body over the call's arguments
 abbrev pub inlined : List ℕ → ℕ → List Label → List Label → ℕ → List Label

@@ -3,7 +3,6 @@ pub mod Bodies
 pub mod Algebras
 pub mod Terms
 pub mod Grammars
-pub mod Substitution
 pub mod Editing
 pub mod Faults
 pub mod Coding
@@ -11,4 +10,5 @@ pub mod Standing
 pub mod Laws
 pub mod Keyed
 pub mod Holding
+pub mod Listing
 pub mod Building

@@ -7,7 +7,7 @@ ghost use Rattle.slt_grammar.specs.Faults.{Shows};
 ghost use Rattle.slt_grammar.specs.Keyed.{rules_of};
 
 use crate::bodies::{body_of, calls_earlier, count_params, is_one_term, rank_of};
-use crate::counting::{count_calls, count_nodes, first_unused};
+use crate::counting::{count_calls, first_unused};
 use crate::grammar::Grammar;
 use crate::rules::{Rule, RuleList};
 use std::alloc::Global;
@@ -31,28 +31,30 @@ pub enum GrammarError {
 ///
 /// The rules are examined in order, in each the calls first, then the shape of the body and the rank, then the number of
 /// parameters; after all of them come the rules that are not called. The error is the first fault. `Memory` comes where memory is
-/// refused, and where there are more than 2^32 nodes; it hides no fault but a rule that is not called.
+/// refused, and where there are more than 2^32 nodes; it hides no fault.
 pub fn check(alloc: Global, rules: RuleList) -> Result<Grammar, GrammarError>
     ensures rules { IfOk result (λ g. rules_of g.rules ≡ rules) }
     ensures grammar { OnOk result (IsGrammar rules) }
     ensures swept { OnOk result (IsSwept rules) }
     ensures fault { IfErr result (Shows rules) }
     ensures memory { result ≡ Err GrammarError.Memory → IsGrammar rules }
+    ensures memory_swept { result ≡ Err GrammarError.Memory → IsSwept rules }
 {
+    let RuleList {
+        rules,
+        mut calls,
+        labels,
+    } = rules;
     let rules = rules.as_slice();
     if let Some(fault) = first_fault(rules) {
         return Err(fault);
     }
-    let Some(totals) = count_nodes(rules) else {
-        return Err(GrammarError::Memory);
-    };
-    let Ok(calls) = count_calls(alloc, rules) else {
-        return Err(GrammarError::Memory);
-    };
-    if let Some(rule) = first_unused(calls.as_slice()) {
+    let calls = &mut calls.as_mut_slice()[..rules.len()];
+    count_calls(calls, rules);
+    if let Some(rule) = first_unused(calls) {
         return Err(GrammarError::Unused { rule });
     }
-    Grammar::build(alloc, rules, totals, calls.as_slice()).map_err(|_| GrammarError::Memory)
+    Grammar::build(alloc, rules, labels, calls).map_err(|_| GrammarError::Memory)
 }
 
 // The first fault of a list of rules, but for rules that are not called.

@@ -1,56 +1,37 @@
 // What is counted over all bodies.
-ghost use Rattle.std.specs.Prelude.{◌≡◌, ◌+◌, ◌<◌, ◌^◌, ℕ, length, slice_index, vec_len, IfOk, IfNone, IfSome};
+ghost use Rattle.std.specs.Prelude.{◌≡◌, ◌+◌, ◌<◌, ◌^◌, ℕ, length, slice_index, IfNone, IfSome};
 ghost use Rattle.slt_grammar.specs.Bodies.{calls_in, CallsBelow};
 ghost use Rattle.slt_grammar.specs.Grammars.{calls_of, size, whole, IsGrammar};
 
 use crate::bodies::{body_of, count_params};
 use crate::rules::Rule;
 use rule_arena::Label;
-use std::alloc::{AllocError, Global};
 
-// The most nodes that are counted.
-const MOST: usize = (1 << 63) - 1;
-
-// How many nodes there are.
-#[derive(Clone, Copy)]
-pub(crate) struct Totals {
-    // In all bodies, with parameters.
-    pub(crate) whole: usize,
-    // In all bodies, without parameters.
-    pub(crate) size: usize,
-}
-
-// The numbers of nodes, and none where they pass 2^63.
-pub(crate) fn count_nodes(rules: &[Rule]) -> Option<Totals>
-    ensures whole { IfSome result (λ t. t.whole ≡ whole rules.now) }
-    ensures few { IfSome result (λ t. t.whole < 2 ^ 63) }
-    ensures size { IfSome result (λ t. t.size ≡ size rules.now) }
+// How many nodes there are, without parameters.
+pub(crate) fn count_nodes(rules: &[Rule]) -> usize
+    requires few { whole rules.now < 2 ^ 63 }
+    ensures { result ≡ size rules.now }
 {
-    let mut whole = 0;
     let mut size = 0;
     for rule in 0..rules.len() {
         let body = body_of(rules, rule);
-        if body.len() > MOST - whole {
-            return None;
-        }
-        whole += body.len();
         size += body.len() - count_params(body);
     }
-    Some(Totals { whole, size })
+    size
 }
 
-// How often each rule is called.
-pub(crate) fn count_calls(alloc: Global, rules: &[Rule]) -> Result<Vec<u64>, AllocError>
+// Counts how often each rule is called.
+pub(crate) fn count_calls(calls: &mut [u64], rules: &[Rule])
     requires grammar { IsGrammar rules.now }
     requires few { whole rules.now < 2 ^ 63 }
-    ensures len { IfOk result (λ c. vec_len c ≡ length rules.now) }
-    ensures calls { IfOk result (λ c. (q : ℕ) → q < length rules.now → slice_index c.items q ≡ calls_of rules.now q) }
+    requires room { length calls.old ≡ length rules.now }
+    ensures len { length calls.new ≡ length rules.now }
+    ensures calls { (q : ℕ) → q < length rules.now → slice_index calls.new q ≡ calls_of rules.now q }
 {
-    let mut calls = vec![in alloc; 0u64; rules.len()]?;
+    calls.fill(0);
     for rule in 0..rules.len() {
-        add_calls(calls.as_mut_slice(), body_of(rules, rule));
+        add_calls(calls, body_of(rules, rule));
     }
-    Ok(calls)
 }
 
 // Adds the calls of a body.

@@ -3,7 +3,7 @@ ghost use Rattle.std.specs.Prelude.{◌≡◌, ◌+◌, ◌<◌, ℕ, Some, leng
 
 use crate::bodies::{body_of, rank_of};
 use crate::building::build_body;
-use crate::counting::Totals;
+use crate::counting::count_nodes;
 use crate::rules::Rule;
 use read_steps::Steps;
 use rule_arena::{Arena, Item, Key};
@@ -54,24 +54,23 @@ impl Grammar {
     ghost use Rattle.slt_grammar.specs.Grammars.{calls_of, rank_at, size, whole, IsGrammar};
     ghost use Rattle.slt_grammar.specs.Keyed.{IsKeyed, key_at, nodes_at, rules_of};
 
-    // The grammar of these rules, whose nodes and calls were counted.
+    // The grammar of these rules, whose labels and calls were counted.
     pub(crate) fn build(
         alloc: Global,
         rules: &[Rule],
-        totals: Totals,
+        labels: usize,
         calls: &[u64],
     ) -> Result<Grammar, AllocError>
         requires grammar { IsGrammar rules.now }
-        requires whole { totals.whole ≡ whole rules.now }
-        requires few { totals.whole < 2 ^ 63 }
-        requires size { totals.size ≡ size rules.now }
+        requires labels { labels ≡ whole rules.now }
+        requires few { labels < 2 ^ 63 }
         requires len { length calls.now ≡ length rules.now }
         requires calls { (q : ℕ) → q < length rules.now → slice_index calls.now q ≡ calls_of rules.now q }
         ensures { IfOk result (λ g. rules_of g.rules ≡ rules.now) }
     {
         let mut arena = Arena::new(alloc);
-        arena.reserve(totals.whole)?;
-        let mut stack = vec![in alloc; Key::default(); totals.whole]?;
+        arena.reserve(labels)?;
+        let mut stack = vec![in alloc; Key::default(); labels]?;
         let mut stored = Vec::with_capacity(alloc, rules.len())?;
         for rule in 0..rules.len() {
             let body = body_of(rules, rule);
@@ -85,7 +84,7 @@ impl Grammar {
         Ok(Grammar {
             arena,
             rules: stored,
-            size: totals.size as u64,
+            size: count_nodes(rules) as u64,
         })
     }
 

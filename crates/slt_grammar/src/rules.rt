@@ -63,10 +63,17 @@ pub struct Rule {
     pub body: Body,
 }
 
+// The most labels of a list.
+const MOST: usize = (1 << 63) - 1;
+
 /// Rules in order; the last one is the start.
 #[derive(Drop)]
 pub struct RuleList {
-    rules: Vec<Rule>,
+    pub(crate) rules: Vec<Rule>,
+    // Room for a count of each rule's calls, so that `check` needs no memory to find a rule that is not called.
+    pub(crate) calls: Vec<u64>,
+    // How many labels all bodies have.
+    pub(crate) labels: usize,
 }
 
 impl Model for RuleList {
@@ -76,6 +83,10 @@ impl Model for RuleList {
     ghost Value = { List Rule };
 
     ghost view = { λ r. r.rules.items };
+
+    ghost use Rattle.slt_grammar.specs.Listing.{IsListed};
+
+    ghost invariant = { λ r. IsListed r.rules.items r.calls.items r.labels };
 }
 
 impl RuleList {
@@ -85,14 +96,24 @@ impl RuleList {
     {
         RuleList {
             rules: Vec::new(alloc),
+            calls: Vec::new(alloc),
+            labels: 0,
         }
     }
 
+    /// It fails where memory is refused, and where the bodies would have 2^63 labels.
     pub fn push(&mut self, rank: usize, body: Body) -> Result<(), AllocError>
         ensures ok { OnOk result (self.new ≡ self.old ++ record { rank = rank; body = body } ∷ []) }
         ensures err { OnErr result (self.new ≡ self.old) }
     {
-        Ok(self.rules.push(Rule { rank, body })?)
+        let labels = body.len();
+        if labels > MOST - self.labels {
+            return Err(AllocError);
+        }
+        self.calls.push(0)?;
+        self.rules.push(Rule { rank, body })?;
+        self.labels += labels;
+        Ok(())
     }
 
     pub fn as_slice(&self) -> &[Rule]

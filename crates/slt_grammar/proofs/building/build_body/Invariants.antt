@@ -1,6 +1,7 @@
 use Rattle.std.proofs.Common.{◌≡◌, ◌+◌, ◌-◌, ◌≤◌, length, drop}
 use Rattle.slt_grammar.specs.Algebras.{ranks_of}
-use Rattle.slt_grammar.specs.Building.{AreBuilt, WereNone, Keeps}
+use Rattle.slt_grammar.specs.Building.{AreBuilt, Keeps}
+use Rattle.slt_grammar.proofs.Growing.{WereNone}
 use Rattle.slt_grammar.proofs.building.build_body.Given as goal
 
 abbrev pub invariant-loop-i : goal.invariant-loop-i

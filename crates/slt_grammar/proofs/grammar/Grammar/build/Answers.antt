@@ -29,4 +29,4 @@ loop-rule-preserved c =
 
 pub invariant_of-result : goal.invariant_of-result
 invariant_of-result c =
-    (all-kept c.args.rules.now c.args.calls.now c.loop-rule.rule c.loop-rule.arena c.loop-rule.stored.items c.args.totals.size c.loop-rule.invariant.stored (omega arith) c.requires.grammar (omega arith) c.requires.len c.requires.calls c.requires.size).0
+    (all-kept c.args.rules.now c.args.calls.now c.loop-rule.rule c.loop-rule.arena c.loop-rule.stored.items c.count_nodes.result c.loop-rule.invariant.stored (omega arith) c.requires.grammar (omega arith) c.requires.len c.requires.calls c.count_nodes.ensures).0

@@ -7,5 +7,5 @@ abbrev pub invariant-loop-rule : goal.invariant-loop-rule
 invariant-loop-rule l = record {
   stored : AreStored l.rules l.calls l.rule l.arena l.stored.items;
   room : whole l.rules ≤ l.arena.spare + whole (take l.rule l.rules);
-  stack : vec_len l.stack ≡ l.totals.whole;
+  stack : vec_len l.stack ≡ l.labels;
 }

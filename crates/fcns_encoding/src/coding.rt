@@ -4,7 +4,7 @@ ghost use Rattle.rule_arena.specs.declared.label.Label.{Label as NodeLabel};
 ghost use Rattle.rule_arena.specs.declared.label.Label.TheVariants.{Symbol, Bottom};
 ghost use Rattle.plain_tree.specs.Tree.{none, more};
 ghost use Rattle.plain_tree.specs.NodeTree.{tree_of};
-ghost use Rattle.plain_tree.specs.Numbers.{has_value, texts};
+ghost use Rattle.plain_tree.specs.Numbers.{texts};
 ghost use Rattle.plain_tree.specs.Seen.{visit_of};
 ghost use Rattle.slt_grammar.specs.Terms.{Term};
 ghost use Rattle.slt_grammar.specs.Coding.{Codes};
@@ -12,7 +12,7 @@ ghost use Rattle.fcns_encoding.specs.Labels.{labels_of};
 ghost use Rattle.fcns_encoding.specs.Interning.{Interns, pair_of, pairs_of_tree};
 ghost use Rattle.fcns_encoding.specs.Visiting.{IsLabelOf, pairs_at, texts_at, text_of};
 
-use plain_tree::{Bytes, Kind, Names, Node, Texts, Visit, Walk};
+use plain_tree::{Bytes, Names, Node, Texts, Visit, Walk};
 use slt_grammar::{Body, Label};
 use std::alloc::{AllocError, Global};
 
@@ -69,20 +69,11 @@ impl Coded {
     {
         let symbol = names.intern(alloc, node.kind, node.name.as_slice())?;
         self.body.push(Label::Symbol(symbol))?;
-        if has_value(node.kind) {
+        if node.kind.has_value() {
             let value = Bytes::from_slice(alloc, node.value.as_slice())?;
             self.texts.push(value)?;
         }
         Ok(())
-    }
-}
-
-fn has_value(kind: Kind) -> bool
-    ensures { result ≡ has_value kind }
-{
-    match kind {
-        Kind::Document | Kind::Element => false,
-        Kind::Attribute | Kind::Text | Kind::Comment | Kind::Instruction => true,
     }
 }
 

@@ -1,6 +1,6 @@
 // Codes of small trees.
 use super::*;
-use plain_tree::Nodes;
+use plain_tree::{Kind, Nodes};
 use std::test::Fail;
 
 const BOTTOM: Label = Label::Bottom;

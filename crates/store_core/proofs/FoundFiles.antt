@@ -1,13 +1,20 @@
 -- What an opened file says of the files.
-use Rattle.std.specs.Prelude.{◌≡◌, ◌≤◌, ◌^◌, ℕ, List, [], length, replicate, Bool, true, false, Option, Some, None, IfSome, is_some, unwrap_or, refl}
-use Rattle.std.proofs.Common.{ap, subst, inl, arith}
+use Rattle.std.specs.Prelude.{◌≡◌, ◌≤◌, ◌<◌, ◌^◌, ℕ, List, [], length, replicate, Bool, true, false, Option, Some, None, IfSome, is_some, unwrap_or, refl}
+use Rattle.std.proofs.Common.{ap, subst, arith}
 use Rattle.std.proofs.lemmas.List.{length-replicate}
 use Rattle.std.specs.FinMap.{get}
 use Rattle.tree_outside.specs.Files.{Told}
 use Rattle.tree_outside.specs.Shelf.{Goes, opened}
 use Rattle.store_core.specs.Acts.{Load}
 use Rattle.store_core.specs.Worlds.{State, World, HasFile, HasNoFile, world}
-use Rattle.store_core.specs.Refusals.{IsReady, ReadsNoDocument}
+use Rattle.store_core.specs.Refusals.{IsReady, ReadsFile, Cause}
+use Rattle.store_core.specs.Stopping.{StopsReading, refusal_of}
+use Rattle.plain_tree.specs.Tree.{Tree}
+use Rattle.xml_profile.specs.Spelling.{Spells}
+use Rattle.xml_profile.specs.declared.reader.XmlError.{XmlError}
+use Rattle.xml_profile.specs.declared.reader.XmlError.TheVariants as xml
+use Rattle.store_core.specs.declared.answer.Refusal.{Refusal}
+use Rattle.store_core.specs.declared.answer.Refusal.TheVariants as no
 
 -- there is a file with this name exactly where an opening said so
 abbrev pub Finds : Option Told → List ℕ → Bool → Type 0
@@ -46,15 +53,33 @@ found_to_load told name state count finds = let some = some_file told name state
 some_long : (n : ℕ) → (xs : List ℕ) × (n ≤ length xs)
 some_long n = let zero : ℕ = 0 in (replicate n zero, omega (arith, length-replicate n zero))
 
--- a file that gave so many bytes is not read as a document
-pub long_file :
+-- a file that gave so many bytes is a long one
+long_file :
     (old opening : Option Told) (name : List ℕ) (state : State) (count : ℕ) → Finds old name true → Goes old opening (opened name)
-    → IfSome opening (λ t. 2 ^ 30 ≤ length t.left) → ReadsNoDocument (Load name) (world state old count)
+    → IfSome opening (λ t. 2 ^ 30 ≤ length t.left) → (bytes : List ℕ) × ReadsFile (Load name) (world state old count) bytes × (2 ^ 30 ≤ length bytes)
 long_file None opening name state count finds opens left =
     let some = some_long (2 ^ 30) in
-    record { name = name; bytes = some.0; reads = refl; file = tt; bad = inl some.1 }
+    (some.0, record { name = name; reads = refl; file = tt }, some.1)
 long_file (Some t) opening name state count finds opens left =
     let P : Option Told → Type 0 = λ o. IfSome o (λ t. 2 ^ 30 ≤ length t.left) in
-    let long = subst P opens left in
     let bytes = unwrap_or (get t.files name) [] in
-    record { name = name; bytes = bytes; reads = refl; file = is_value (get t.files name) bytes finds refl; bad = inl long }
+    (bytes, record { name = name; reads = refl; file = is_value (get t.files name) bytes finds refl }, subst P opens left)
+
+-- a file that was found and is not read to its end is a cause to refuse the loading
+pub stops_loading :
+    (refusal : Refusal) (old opening : Option Told) (name : List ℕ) (state : State) (count before now : ℕ) (new : World) → Finds old name true → Goes old opening (opened name)
+    → count ≤ before → now ≤ new.count → StopsReading refusal opening before now → Cause refusal (Load name) (world state old count) new
+stops_loading no.NoDocument old opening name state count before now new finds opens b n stops = absurd stops
+stops_loading no.ReadFault old opening name state count before now new finds opens b n stops = (refl, omega (arith, stops))
+stops_loading no.NoFile old opening name state count before now new finds opens b n stops = absurd stops
+stops_loading no.WriteFault old opening name state count before now new finds opens b n stops = absurd stops
+stops_loading no.LongFile old opening name state count before now new finds opens b n stops = long_file old opening name state count finds opens stops
+stops_loading no.BadXml old opening name state count before now new finds opens b n stops = absurd stops
+stops_loading no.Memory old opening name state count before now new finds opens b n stops = found_to_load old name state count finds
+
+-- bytes that were read, of which no document was made, are a cause to refuse the loading
+pub unread_document :
+    (error : XmlError) (old new : World) (name bytes : List ℕ) → HasFile old name bytes → length bytes < 2 ^ 30
+    → (error ≡ xml.Bad → (tree : Tree) → Spells bytes tree → ⊥) → Cause (refusal_of error) (Load name) old new
+unread_document xml.Bad old new name bytes has short bad = (bytes, record { name = name; reads = refl; file = has }, short, bad refl)
+unread_document xml.Memory old new name bytes has short bad = ready_to_load old name bytes has

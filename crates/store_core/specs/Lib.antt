@@ -3,6 +3,7 @@ pub mod CommandOf
 pub mod Machine
 pub mod Refusals
 pub mod Saving
+pub mod Stopping
 pub mod StoreOf
 pub mod Texts
 pub mod Worlds

@@ -1,5 +1,5 @@
 -- Refusals and their causes, in the order in which they are tried: each yields to those above it.
-use Rattle.std.specs.Prelude.{◌≡◌, ◌≤◌, ◌⊎◌, ◌^◌, ℕ, List, length, IsTrue, Some, IsSome, IsNone}
+use Rattle.std.specs.Prelude.{◌≡◌, ◌≤◌, ◌<◌, ◌^◌, ℕ, List, length, IsTrue, Some, IsSome, IsNone}
 use Rattle.tree_outside.specs.Outside.{Rose}
 use Rattle.plain_tree.specs.Tree.{Tree}
 use Rattle.xml_profile.specs.Spelling.{Spells}
@@ -13,18 +13,17 @@ pub record IsReady (act : Act) (old : World) : Type 0 where
   pub document : IsTrue (needs_document act) → IsSome old.state
   pub file : (name : List ℕ) → file_read act ≡ Some name → (bytes : List ℕ) × HasFile old name bytes
 
--- the file that the command reads has too many bytes, or none that spell a document
-pub record ReadsNoDocument (act : Act) (old : World) : Type 0 where
+-- these are the bytes of the file that the command reads
+pub record ReadsFile (act : Act) (old : World) (bytes : List ℕ) : Type 0 where
   pub name : List ℕ
-  pub bytes : List ℕ
   pub reads : file_read act ≡ Some name
   pub file : HasFile old name bytes
-  pub bad : (2 ^ 30 ≤ length bytes) ⊎ ((tree : Tree) → Spells bytes tree → ⊥)
 
 abbrev pub Cause : Refusal → Act → World → World → Type 0
 Cause no.NoDocument act old new = IsTrue (needs_document act) × IsNone old.state
 Cause no.ReadFault act old new = IsSome (file_read act) × Rose old.count new.count
 Cause no.NoFile act old new = (name : List ℕ) × (file_read act ≡ Some name) × HasNoFile old name
 Cause no.WriteFault act old new = IsTrue (writes_file act) × IsReady act old × Rose old.count new.count
-Cause no.BadXml act old new = ReadsNoDocument act old
+Cause no.LongFile act old new = (bytes : List ℕ) × ReadsFile act old bytes × (2 ^ 30 ≤ length bytes)
+Cause no.BadXml act old new = (bytes : List ℕ) × ReadsFile act old bytes × (length bytes < 2 ^ 30) × ((tree : Tree) → Spells bytes tree → ⊥)
 Cause no.Memory act old new = IsReady act old

@@ -4,8 +4,10 @@ ghost use Rattle.tree_outside.specs.Outside.{HasCause, Writes};
 ghost use Rattle.store_core.specs.Texts.{line_of, answer_line, refusal_line};
 
 use itoa::{Buffer, Integer};
+use std::alloc::AllocError;
 use std::marker::Model;
 use tree_outside::{Failed, Sink};
+use xml_profile::XmlError;
 
 /// What a command says that was done.
 #[derive(Clone, Copy, Debug, PartialEq, Eq)]
@@ -29,8 +31,34 @@ pub enum Refusal {
     ReadFault,
     NoFile,
     WriteFault,
+    LongFile,
     BadXml,
     Memory,
+}
+
+impl From<AllocError> for Refusal {
+    ghost use Rattle.std.specs.Prelude.{◌≡◌};
+    ghost use Rattle.store_core.specs.declared.answer.Refusal.TheVariants.{Memory};
+
+    ghost from_gives = { λ _ refusal. refusal ≡ Memory };
+
+    fn from(_: AllocError) -> Refusal {
+        Refusal::Memory
+    }
+}
+
+impl From<XmlError> for Refusal {
+    ghost use Rattle.std.specs.Prelude.{◌≡◌};
+    ghost use Rattle.store_core.specs.Stopping.{refusal_of};
+
+    ghost from_gives = { λ error refusal. refusal ≡ refusal_of error };
+
+    fn from(error: XmlError) -> Refusal {
+        match error {
+            XmlError::Bad => Refusal::BadXml,
+            XmlError::Memory => Refusal::Memory,
+        }
+    }
 }
 
 /// Writes the line of what a command came to, with one write of the sink.
@@ -57,6 +85,7 @@ fn text_of(refusal: Refusal) -> &'static [u8]
         Refusal::ReadFault => b"! read-fault\n",
         Refusal::NoFile => b"! no-file\n",
         Refusal::WriteFault => b"! write-fault\n",
+        Refusal::LongFile => b"! long-file\n",
         Refusal::BadXml => b"! bad-xml\n",
         Refusal::Memory => b"! memory\n",
     }

@@ -1,6 +1,6 @@
 // Reading a document from the shelf.
-ghost use Rattle.std.specs.Prelude.{◌≡◌, ◌≤◌, ◌<◌, ◌+◌, ◌-◌, ◌^◌, IfOk, IfErr, IfSome, IsErrOf, OnOk, Some, length, take, drop, vec_len};
-ghost use Rattle.tree_outside.specs.Outside.{HasCause, Rose, Stays};
+ghost use Rattle.std.specs.Prelude.{◌≡◌, ◌≤◌, ◌<◌, ◌+◌, ◌-◌, ◌^◌, IfOk, IfErr, IfSome, OnOk, Some, length, take, drop, vec_len};
+ghost use Rattle.tree_outside.specs.Outside.{HasCause, Stays};
 ghost use Rattle.tree_outside.specs.Shelf.{ReadsFile};
 ghost use Rattle.plain_tree.specs.NodeTree.{tree_of};
 ghost use Rattle.plain_tree.specs.Tree.{node_count};
@@ -11,6 +11,7 @@ ghost use Rattle.slt_grammar.specs.Keyed.{rules_of};
 ghost use Rattle.store_core.specs.Worlds.{State, AreHeld, HasFile, files_of, world};
 ghost use Rattle.store_core.specs.StoreOf.{parts_of};
 ghost use Rattle.store_core.specs.Refusals.{Cause};
+ghost use Rattle.store_core.specs.Stopping.{StopsReading};
 ghost use Rattle.store_core.specs.Machine.{Encodes, Loads};
 ghost use Rattle.store_core.specs.Texts.{answer_line};
 
@@ -22,7 +23,7 @@ use slt_grammar::{GrammarError, RuleList, check};
 use std::alloc::{AllocError, Global};
 use text_list::TextList;
 use tree_outside::{Failed, Shelf};
-use xml_profile::{XmlError, read_document};
+use xml_profile::read_document;
 
 /// A file must have fewer bytes than this.
 const FILE_LIMIT: usize = 1 << 30;
@@ -52,18 +53,10 @@ pub(crate) fn load_document<F: Shelf>(
         → Cause refusal (act.Load name.now) (world state (F.told shelf.old) (F.faults shelf.old)) (world state (F.told shelf.new) (F.faults shelf.new))) }
 {
     let bytes = read_file(alloc, name, shelf)?;
-    let document = match read_document(alloc, &bytes) {
-        Ok(document) => document,
-        Err(XmlError::Bad) => return Err(Refusal::BadXml),
-        Err(XmlError::Memory) => return Err(Refusal::Memory),
-    };
-    let Ok(count) = count_nodes(alloc, &document) else {
-        return Err(Refusal::Memory);
-    };
-    match store_of(alloc, &document) {
-        Ok(store) => Ok(Loaded { store, count }),
-        Err(AllocError) => Err(Refusal::Memory),
-    }
+    let document = read_document(alloc, &bytes)?;
+    let count = count_nodes(alloc, &document)?;
+    let store = store_of(alloc, &document)?;
+    Ok(Loaded { store, count })
 }
 
 // The document as a grammar of one rule. It is refused only for want of memory.
@@ -109,39 +102,24 @@ fn read_file<F: Shelf>(alloc: Global, name: &str, shelf: &mut F) -> Result<Vec<u
     }
     let read = read_to_end(alloc, shelf);
     shelf.close();
-    match read {
-        Ok(bytes) => Ok(bytes),
-        Err(ReadError::Fault) => Err(Refusal::ReadFault),
-        Err(ReadError::Long) => Err(Refusal::BadXml),
-        Err(ReadError::Memory) => Err(Refusal::Memory),
-    }
-}
-
-// Why the bytes of an open file were not read to their end.
-enum ReadError {
-    Fault,
-    Long,
-    Memory,
+    read
 }
 
 // Reads the open file to its end, to the limit or to a fault, into one buffer. Its room grows by pieces, so that a read
 // finds room for many bytes and each byte of it is cleared once.
-fn read_to_end<F: Shelf>(alloc: Global, shelf: &mut F) -> Result<Vec<u8>, ReadError>
+fn read_to_end<F: Shelf>(alloc: Global, shelf: &mut F) -> Result<Vec<u8>, Refusal>
     ensures later { F.faults shelf.old ≤ F.faults shelf.new }
     ensures files { Stays (files_of (F.told shelf.old)) (files_of (F.told shelf.new)) }
     ensures bytes { IfOk result (λ bytes. IfSome (F.told shelf.old) (λ t. t.left ≡ bytes.items)) }
     ensures short { IfOk result (λ bytes. vec_len bytes < 2 ^ 30) }
-    ensures fault { IsErrOf result ReadError.Fault → Rose (F.faults shelf.old) (F.faults shelf.new) }
-    ensures long { IsErrOf result ReadError.Long → IfSome (F.told shelf.old) (λ t. 2 ^ 30 ≤ length t.left) }
+    ensures refused { IfErr result (λ refusal. StopsReading refusal (F.told shelf.old) (F.faults shelf.old) (F.faults shelf.new)) }
 {
     let mut bytes = Vec::new(alloc);
     let mut filled = 0;
     while filled < FILE_LIMIT {
-        if make_room(&mut bytes, filled).is_err() {
-            return Err(ReadError::Memory);
-        }
+        make_room(&mut bytes, filled)?;
         match read_behind(shelf, &mut bytes, filled) {
-            Err(Failed) => return Err(ReadError::Fault),
+            Err(Failed) => return Err(Refusal::ReadFault),
             Ok(0) => {
                 bytes.truncate(filled);
                 return Ok(bytes);
@@ -149,7 +127,7 @@ fn read_to_end<F: Shelf>(alloc: Global, shelf: &mut F) -> Result<Vec<u8>, ReadEr
             Ok(count) => filled += count,
         }
     }
-    Err(ReadError::Long)
+    Err(Refusal::LongFile)
 }
 
 // Makes room behind the bytes that are filled.

@@ -1,6 +1,6 @@
 // Writing a document, or what is held of it, to the shelf.
-ghost use Rattle.std.specs.Prelude.{◌≡◌, ◌≤◌, Some, IfOk, IfErr, IsErrOf, OnOk, OnErr, length};
-ghost use Rattle.tree_outside.specs.Outside.{Gets, Rose, Stays};
+ghost use Rattle.std.specs.Prelude.{◌≡◌, ◌≤◌, Ok, Err, Some, IfOk, IfErr, OnOk, OnErr, MatchResult, length};
+ghost use Rattle.tree_outside.specs.Outside.{Gets, Stays};
 ghost use Rattle.tree_outside.specs.Shelf.{beside_of, pending_bytes};
 ghost use Rattle.slt_grammar.specs.Keyed.{rules_of};
 ghost use Rattle.grammar_file.specs.FileBytes.{file_bytes};
@@ -8,12 +8,14 @@ ghost use Rattle.store_core.specs.Acts as act;
 ghost use Rattle.store_core.specs.Worlds.{AreHeld, files_of, world};
 ghost use Rattle.store_core.specs.StoreOf.{parts_of, start_text};
 ghost use Rattle.store_core.specs.Refusals.{Cause};
+ghost use Rattle.store_core.specs.Stopping.{StopsWriting};
 ghost use Rattle.store_core.specs.Machine.{Saves, SavesGrammar};
 ghost use Rattle.store_core.specs.Texts.{answer_line};
 
 use crate::answer::{Answer, Refusal};
 use crate::store::Store;
-use crate::writing::{WriteError, write_document};
+use crate::writing::write_document;
+use grammar_file::WriteError;
 use read_steps::Steps;
 use std::alloc::Global;
 use std::sync::ledger::Ledger;
@@ -35,18 +37,10 @@ pub(crate) fn save_document<F: Shelf, L: Ledger>(
         Cause refusal (act.Save name.now) (world state (F.told shelf.old) (F.faults shelf.old)) (world state (F.told shelf.new) (F.faults shelf.new))) }
     ensures files { OnErr result (Stays (files_of (F.told shelf.old)) (files_of (F.told shelf.new))) }
 {
-    if shelf.create(name).is_err() {
-        return Err(Refusal::WriteFault);
-    }
-    let count = match write_pending(alloc, store, shelf, steps) {
-        Ok(count) => count,
-        Err(WriteError::Fault) => return Err(Refusal::WriteFault),
-        Err(WriteError::Memory) => return Err(Refusal::Memory),
-    };
-    match shelf.seal() {
-        Ok(()) => Ok(count),
-        Err(Failed) => Err(Refusal::WriteFault),
-    }
+    written(shelf.create(name))?;
+    let count = write_pending(alloc, store, shelf, steps)?;
+    written(shelf.seal())?;
+    Ok(count)
 }
 
 // Adds the document to the pending file, and answers how many bytes that is.
@@ -55,12 +49,12 @@ fn write_pending<F: Shelf, L: Ledger>(
     store: &Store,
     shelf: &mut F,
     steps: &mut Steps<L>,
-) -> Result<u128, WriteError>
+) -> Result<u128, Refusal>
     ensures written { OnOk result (Gets (pending_bytes (F.told shelf.old)) (pending_bytes (F.told shelf.new)) (start_text store.now)) }
     ensures count { IfOk result (λ count. count ≡ length (start_text store.now)) }
     ensures beside { Stays (beside_of (F.told shelf.old)) (beside_of (F.told shelf.new)) }
     ensures later { F.faults shelf.old ≤ F.faults shelf.new }
-    ensures fault { IsErrOf result WriteError.Fault → Rose (F.faults shelf.old) (F.faults shelf.new) }
+    ensures refused { IfErr result (λ refusal. StopsWriting refusal (F.faults shelf.old) (F.faults shelf.new)) }
 {
     let mut pending = Pending::new(shelf);
     write_document(alloc, store, &mut pending, steps)
@@ -79,36 +73,35 @@ pub(crate) fn save_grammar<F: Shelf>(
         Cause refusal (act.SaveGrammar name.now) (world state (F.told shelf.old) (F.faults shelf.old)) (world state (F.told shelf.new) (F.faults shelf.new))) }
     ensures files { OnErr result (Stays (files_of (F.told shelf.old)) (files_of (F.told shelf.new))) }
 {
-    if shelf.create(name).is_err() {
-        return Err(Refusal::WriteFault);
-    }
-    let bytes = match write_grammar(store, shelf) {
-        Ok(bytes) => bytes,
-        Err(WriteError::Fault) => return Err(Refusal::WriteFault),
-        Err(WriteError::Memory) => return Err(Refusal::Memory),
-    };
-    match shelf.seal() {
-        Ok(()) => Ok(Answer::Grammar {
-            rules: store.grammar.rules(),
-            size: store.grammar.size(),
-            bytes,
-        }),
-        Err(Failed) => Err(Refusal::WriteFault),
-    }
+    written(shelf.create(name))?;
+    let bytes = write_grammar(store, shelf)?;
+    written(shelf.seal())?;
+    Ok(Answer::Grammar {
+        rules: store.grammar.rules(),
+        size: store.grammar.size(),
+        bytes,
+    })
 }
 
 // Adds the grammar file to the pending file, and answers how many bytes it has.
-fn write_grammar<F: Shelf>(store: &Store, shelf: &mut F) -> Result<u128, WriteError>
+fn write_grammar<F: Shelf>(store: &Store, shelf: &mut F) -> Result<u128, Refusal>
     ensures written { OnOk result (Gets (pending_bytes (F.told shelf.old)) (pending_bytes (F.told shelf.new)) (file_bytes store.now.names (rules_of store.now.grammar.rules) store.now.texts)) }
     ensures count { IfOk result (λ count. count ≡ length (file_bytes store.now.names (rules_of store.now.grammar.rules) store.now.texts)) }
     ensures beside { Stays (beside_of (F.told shelf.old)) (beside_of (F.told shelf.new)) }
     ensures later { F.faults shelf.old ≤ F.faults shelf.new }
-    ensures fault { IsErrOf result WriteError.Fault → Rose (F.faults shelf.old) (F.faults shelf.new) }
+    ensures refused { IfErr result (λ refusal. StopsWriting refusal (F.faults shelf.old) (F.faults shelf.new)) }
 {
     let mut pending = Pending::new(shelf);
     match grammar_file::write(&store.grammar, &store.names, &store.texts, &mut pending) {
         Ok(bytes) => Ok(bytes),
-        Err(grammar_file::WriteError::Failed) => Err(WriteError::Fault),
-        Err(grammar_file::WriteError::Memory) => Err(WriteError::Memory),
+        Err(WriteError::Failed) => Err(Refusal::WriteFault),
+        Err(WriteError::Memory) => Err(Refusal::Memory),
     }
+}
+
+// A call of the shelf that failed is a refusal.
+fn written(call: Result<(), Failed>) -> Result<(), Refusal>
+    ensures { MatchResult call (λ _. result ≡ Ok tt) (λ _. result ≡ Err Refusal.WriteFault) }
+{
+    call.map_err(|_| Refusal::WriteFault)
 }

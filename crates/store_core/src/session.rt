@@ -17,6 +17,12 @@ use tree_outside::{Failed, Shelf, Sink};
 #[derive(Clone, Copy, Debug, PartialEq, Eq)]
 pub struct SinkFailed;
 
+impl From<Failed> for SinkFailed {
+    fn from(_: Failed) -> SinkFailed {
+        SinkFailed
+    }
+}
+
 /// At most one document; contracts see what is held of it.
 #[derive(Drop)]
 pub struct Session {
@@ -82,10 +88,8 @@ impl Session {
         ensures cause { HasCause (K.faults sink.old) (K.faults sink.new) result }
     {
         let outcome = self.outcome(alloc, command, shelf, steps);
-        match write_line(outcome, sink) {
-            Ok(()) => Ok(()),
-            Err(Failed) => Err(SinkFailed),
-        }
+        write_line(outcome, sink)?;
+        Ok(())
     }
 
     // Does a command, and answers what its line is to say.

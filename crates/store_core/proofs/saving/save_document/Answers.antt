@@ -6,8 +6,8 @@ use Rattle.store_core.specs.declared.answer.Answer.TheVariants.{Bytes}
 use Rattle.store_core.proofs.Bodies.{start_saves}
 use Rattle.store_core.proofs.saving.save_document.Goals as goal
 
-pub returns-in-Ok-seal-clause-saves : goal.returns-in-Ok-seal-clause-saves
-returns-in-Ok-seal-clause-saves g c =
+pub returns-clause-saves : goal.returns-clause-saves
+returns-clause-saves g c =
     let held = c.requires in
     let e : start_text c.args.store.now ≡ saved_bytes held.tree = start_saves c.args.store.now held held.tree held.stand in
     record {
@@ -16,5 +16,5 @@ returns-in-Ok-seal-clause-saves g c =
       held = refl;
       stand = held.stand;
       written = record { state = refl; files = rw (← e) (search rules) };
-      printed = ap (λ n. answer_line (Bytes n)) (c.in-Ok.ensures.count ∙ ap length e);
+      printed = ap (λ n. answer_line (Bytes n)) (c.in_ok-count.ensures.count ∙ ap length e);
     }

@@ -1,6 +1,6 @@
--- Bytes are cut into lines in one way alone.
-use Rattle.std.specs.Prelude.{◌≡◌, ℕ, List, [], ◌∷◌, ◌++◌, All, refl}
-use Rattle.std.proofs.Common.{sym, ap, ◌∙◌}
+-- Bytes are cut into lines in one way alone, and into no more lines than there are bytes.
+use Rattle.std.specs.Prelude.{◌≡◌, ◌≤◌, ℕ, List, [], ◌∷◌, ◌++◌, All, length, refl}
+use Rattle.std.proofs.Common.{sym, ap, ◌∙◌, arith, length-append}
 use Rattle.std.specs.List.{flat_map}
 use Rattle.std.proofs.lemmas.List.{append_assoc}
 use Rattle.std.proofs.lemmas.List.Elements.{All-tail, All-head}
@@ -39,3 +39,10 @@ lines-one (l ∷ ls) (m ∷ ms) t u h k p q e =
 
 pub cut-one : (bytes : List ℕ) (ls ms : List (List ℕ)) (t u : List ℕ) → IsCut bytes ls t → IsCut bytes ms u → (ls ≡ ms) × (t ≡ u)
 cut-one bytes ls ms t u h k = lines-one ls ms t u h.each k.each h.rest k.rest (sym h.whole ∙ k.whole)
+
+lines-few : (ls : List (List ℕ)) → length ls ≤ length (flat_map ended ls)
+lines-few [] = omega arith
+lines-few (l ∷ ls) = omega (arith, lines-few ls, length-append (ended l) (flat_map ended ls), length-append l (10 ∷ []))
+
+pub cut-few : (bytes : List ℕ) (ls : List (List ℕ)) (t : List ℕ) → IsCut bytes ls t → length ls ≤ length bytes
+cut-few bytes ls t h = omega (arith, lines-few ls, length-append (flat_map ended ls) t, ap length h.whole)

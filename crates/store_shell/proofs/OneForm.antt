@@ -1,19 +1,26 @@
 -- A line has one form alone.
-use Rattle.std.specs.Prelude.{◌≡◌, ◌≤◌, ◌-◌, ℕ, List, [], ◌∷◌, ◌++◌, length, take, Bool, true, false, if◌then◌else◌, codes, nat_eq, get_or, refl}
+use Rattle.std.specs.Prelude.{◌≡◌, ◌≤◌, ◌<◌, ◌-◌, ℕ, List, [], ◌∷◌, ◌++◌, length, take, Bool, true, false, if◌then◌else◌, codes, nat_eq, get_or, refl}
 use Rattle.std.proofs.Common.{sym, ap, ◌∙◌, arith}
 use Rattle.std.specs.List.{ends_with}
 use Rattle.std.proofs.lemmas.List.{length-take}
 use Rattle.store_core.specs.Acts.{Act, Load, Save, SaveGrammar}
-use Rattle.store_shell.specs.Forms.{Form, Empty, Long, Bad, Command, IsForm, Asks, without_return}
+use Rattle.store_shell.specs.Forms.{Form, Empty, Long, Bad, Quit, Command, IsForm, Asks, without_return}
 use Rattle.store_shell.specs.Lines.{longest}
 
-short_by : (b : Bool) (line : List ℕ) → (if b then take (length line - 1) line else line) ≡ [] → length line ≤ longest
-short_by true line e = omega (arith, ap length e, length-take {A = ℕ})
-short_by false line e = omega (arith, ap length e)
+short_by : (b : Bool) (line words : List ℕ) → (if b then take (length line - 1) line else line) ≡ words → length words < longest → length line ≤ longest
+short_by true line words e lt = omega (arith, ap length e, length-take {A = ℕ})
+short_by false line words e lt = omega (arith, ap length e)
 
--- a line without words is short
-short : (line : List ℕ) → without_return line ≡ [] → length line ≤ longest
-short line e = short_by (ends_with nat_eq line (13 ∷ [])) line e
+-- a line of few words is short
+short : (line words : List ℕ) → without_return line ≡ words → length words < longest → length line ≤ longest
+short line words e lt = short_by (ends_with nat_eq line (13 ∷ [])) line words e lt
+
+-- no words are short, and so is quit
+empty_short : (line : List ℕ) → without_return line ≡ [] → length line ≤ longest
+empty_short line e = short line [] e (omega arith)
+
+quit_short : (line : List ℕ) → without_return line ≡ codes "quit" → length line ≤ longest
+quit_short line e = short line (codes "quit") e (omega arith)
 
 -- a byte of the words of a command
 abbrev byte_at : ℕ → Act → ℕ
@@ -55,20 +62,48 @@ asks_some words (Load n) h e = let f : codes "load " ++ n ≡ [] = sym h.1 ∙ e
 asks_some words (Save n) h e = let f : codes "save " ++ n ≡ [] = sym h.1 ∙ e in absurd (cc)
 asks_some words (SaveGrammar n) h e = let f : codes "save-grammar " ++ n ≡ [] = sym h.1 ∙ e in absurd (cc)
 
+-- quit asks for no command
+asks_no_quit : (words : List ℕ) (a : Act) → Asks words a → words ≡ codes "quit" → ⊥
+asks_no_quit words (Load n) h e =
+    let same : ◌≡◌ {A = ℕ} 108 113 = asked words 0 (Load n) h ∙ ap (λ ws. get_or ws 0 0) e in
+    absurd (omega arith)
+asks_no_quit words (Save n) h e =
+    let same : ◌≡◌ {A = ℕ} 115 113 = asked words 0 (Save n) h ∙ ap (λ ws. get_or ws 0 0) e in
+    absurd (omega arith)
+asks_no_quit words (SaveGrammar n) h e =
+    let same : ◌≡◌ {A = ℕ} 115 113 = asked words 0 (SaveGrammar n) h ∙ ap (λ ws. get_or ws 0 0) e in
+    absurd (omega arith)
+
+quit_some : (words : List ℕ) → words ≡ codes "quit" → words ≡ [] → ⊥
+quit_some words h e = let f : codes "quit" ≡ [] = sym h ∙ e in absurd (cc)
+
 pub form-one : (line : List ℕ) (f g : Form) → IsForm line f → IsForm line g → f ≡ g
 form-one line Empty Empty h k = refl
-form-one line Empty Long h k = absurd (omega (arith, short line h))
+form-one line Empty Long h k = absurd (omega (arith, empty_short line h))
 form-one line Empty Bad h k = absurd (k.1 h)
+form-one line Empty Quit h k = absurd (quit_some (without_return line) k h)
 form-one line Empty (Command a) h k = absurd (asks_some (without_return line) a k.1 h)
-form-one line Long Empty h k = absurd (omega (arith, short line k))
+form-one line Long Empty h k = absurd (omega (arith, empty_short line k))
 form-one line Long Long h k = refl
 form-one line Long Bad h k = absurd (omega arith)
+form-one line Long Quit h k = absurd (omega (arith, quit_short line k))
 form-one line Long (Command a) h k = absurd (omega arith)
 form-one line Bad Empty h k = absurd (h.1 k)
 form-one line Bad Long h k = absurd (omega arith)
 form-one line Bad Bad h k = refl
-form-one line Bad (Command a) h k = absurd (h.2 a k.1)
+form-one line Bad Quit h k = absurd (h.2 k)
+form-one line Bad (Command a) h k = absurd (h.3 a k.1)
+form-one line Quit Empty h k = absurd (quit_some (without_return line) h k)
+form-one line Quit Long h k = absurd (omega (arith, quit_short line h))
+form-one line Quit Bad h k = absurd (k.2 h)
+form-one line Quit Quit h k = refl
+form-one line Quit (Command a) h k = absurd (asks_no_quit (without_return line) a k.1 h)
 form-one line (Command a) Empty h k = absurd (asks_some (without_return line) a h.1 k)
 form-one line (Command a) Long h k = absurd (omega arith)
-form-one line (Command a) Bad h k = absurd (k.2 a h.1)
+form-one line (Command a) Bad h k = absurd (k.3 a h.1)
+form-one line (Command a) Quit h k = absurd (asks_no_quit (without_return line) a h.1 k)
 form-one line (Command a) (Command b) h k = ap Command (asks-one (without_return line) a b h.1 k.1)
+
+-- a line of another form isn't quit
+pub no_quit : (line : List ℕ) (form : Form) → IsForm line form → (form ≡ Quit → ⊥) → IsForm line Quit → ⊥
+no_quit line form h ne k = ne (form-one line form Quit h k)

@@ -1,13 +1,21 @@
 -- Runs of the machine, one after another.
-use Rattle.std.specs.Prelude.{ℕ, List, [], ◌∷◌, ◌++◌, Option, refl}
+use Rattle.std.specs.Prelude.{◌≡◌, ℕ, List, [], ◌∷◌, ◌++◌, Option, refl}
 use Rattle.std.proofs.Common.{sym, ap, ◌∙◌, subst}
 use Rattle.std.proofs.lemmas.List.{append_assoc, append-nil}
+use Rattle.std.proofs.lemmas.List.Elements.{All-nil, All-cons, All-append}
 use Rattle.tree_outside.specs.Outside.{Gets, GetsFront, Stays}
 use Rattle.tree_outside.proofs.Beside.{Stays-refl}
 use Rattle.store_core.specs.Worlds.{World}
-use Rattle.store_shell.specs.Runs.{DoesLine, Run}
-use Rattle.store_shell.specs.Serving.{Did, Stops}
+use Rattle.store_shell.specs.Feeding.{Goes}
+use Rattle.store_shell.specs.Forms.{Form, Quit, IsForm}
+use Rattle.store_shell.specs.Runs.{One, DoesLine, Run}
+use Rattle.store_shell.specs.Serving.{Did, Stops, Quits}
+use Rattle.store_shell.proofs.OneForm.{no_quit}
 use Rattle.store_shell.proofs.Sinks.{Gets-append, Gets-nil}
+
+-- the line isn't quit
+abbrev NoQuit : List ℕ → Type 0
+NoQuit line = IsForm line Quit → ⊥
 
 pub Run-one : (line : List ℕ) (w v : World) (out : List ℕ) → DoesLine line w out v → Run (line ∷ []) w out v
 Run-one line w v out h = (v, out, [], h, (refl, refl), sym (append-nil out))
@@ -21,29 +29,31 @@ Run-append (l ∷ ls) ms w m v a b h k =
     (h.0, h.1, h.2 ++ b, h.3, Run-append ls ms h.0 m v h.2 b h.4 k, ap (λ z. z ++ b) h.5 ∙ append_assoc h.1 h.2 b)
 
 pub Did-nil : (w : World) (x y : Option (List ℕ)) → Stays x y → Did [] w w x y
-Did-nil w x y h = record { out = []; ran = (refl, refl); got = Gets-nil x y h }
+Did-nil w x y h = record { no_quit = All-nil NoQuit; out = []; ran = (refl, refl); got = Gets-nil x y h }
 
-pub Did-one : (line : List ℕ) (w v : World) (out : List ℕ) (x y : Option (List ℕ)) → DoesLine line w out v → Gets x y out → Did (line ∷ []) w v x y
-Did-one line w v out x y h g = record { out = out; ran = Run-one line w v out h; got = g }
+pub Did-one : (line : List ℕ) (w v : World) (out : List ℕ) (x y : Option (List ℕ)) → Goes line w out v → Gets x y out → Did (line ∷ []) w v x y
+Did-one line w v out x y h g = record { no_quit = All-cons NoQuit line [] h.no_quit (All-nil NoQuit); out = out; ran = Run-one line w v out h.does; got = g }
 
 pub Did-append : (ls ms : List (List ℕ)) (w m v : World) (x y z : Option (List ℕ)) → Did ls w m x y → Did ms m v y z → Did (ls ++ ms) w v x z
 Did-append ls ms w m v x y z h k = record {
+  no_quit = All-append NoQuit ls ms h.no_quit k.no_quit;
   out = h.out ++ k.out;
   ran = Run-append ls ms w m v h.out k.out h.ran k.ran;
   got = Gets-append x y z h.out k.out h.got k.got;
 }
 
-pub Stops-one : (line : List ℕ) (w v : World) (text : List ℕ) (x y : Option (List ℕ)) → DoesLine line w text v → GetsFront x y text → Stops (line ∷ []) w v x y
+pub Stops-one : (line : List ℕ) (w v : World) (text : List ℕ) (x y : Option (List ℕ)) → Goes line w text v → GetsFront x y text → Stops (line ∷ []) w v x y
 Stops-one line w v text x y h g = record {
   done = [];
   last = line;
   later = [];
   whole = refl;
+  no_quit = h.no_quit;
   mid = w;
   between = x;
   did = Did-nil w x x (Stays-refl x);
   text = text;
-  does = h;
+  does = h.does;
   got = g;
 }
 
@@ -54,6 +64,7 @@ Stops-more ls ms w v x y s = record {
   last = s.last;
   later = s.later ++ ms;
   whole = ap (λ all. all ++ ms) s.whole ∙ append_assoc s.done (s.last ∷ s.later) ms;
+  no_quit = s.no_quit;
   mid = s.mid;
   between = s.between;
   did = s.did;
@@ -68,6 +79,7 @@ Stops-after ls ms w m v x y z h s = record {
   last = s.last;
   later = s.later;
   whole = ap (λ all. ls ++ all) s.whole ∙ sym (append_assoc ls s.done (s.last ∷ s.later));
+  no_quit = s.no_quit;
   mid = s.mid;
   between = s.between;
   did = Did-append ls s.done w m s.mid x y s.between h s.did;
@@ -75,3 +87,27 @@ Stops-after ls ms w m v x y z h s = record {
   does = s.does;
   got = s.got;
 }
+
+pub Quits-one : (line : List ℕ) → IsForm line Quit → Quits (line ∷ []) []
+Quits-one line h = record { quit = line; says = h; behind = []; whole = refl }
+
+-- lines that come later change nothing
+pub Quits-more : (ls ms done : List (List ℕ)) → Quits ls done → Quits (ls ++ ms) done
+Quits-more ls ms done q = record {
+  quit = q.quit;
+  says = q.says;
+  behind = q.behind ++ ms;
+  whole = ap (λ all. all ++ ms) q.whole ∙ append_assoc done (q.quit ∷ q.behind) ms;
+}
+
+pub Quits-after : (ls ms done : List (List ℕ)) → Quits ms done → Quits (ls ++ ms) (ls ++ done)
+Quits-after ls ms done q = record {
+  quit = q.quit;
+  says = q.says;
+  behind = q.behind;
+  whole = ap (λ all. ls ++ all) q.whole ∙ sym (append_assoc ls done (q.quit ∷ q.behind));
+}
+
+-- a line of another form
+pub Goes-as : (line : List ℕ) (form : Form) (w v : World) (out : List ℕ) → (form ≡ Quit → ⊥) → IsForm line form → One form w out v → Goes line w out v
+Goes-as line form w v out ne h one = record { no_quit = no_quit line form h ne; does = record { form = form; says = h; does = one } }

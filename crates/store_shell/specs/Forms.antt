@@ -1,5 +1,5 @@
 -- What a line asks for.
-use Rattle.std.specs.Prelude.{◌≡◌, ◌≢◌, ◌<◌, ◌≤◌, ◌-◌, ℕ, List, [], ◌∷◌, ◌++◌, length, take, if◌then◌else◌, codes, nat_eq}
+use Rattle.std.specs.Prelude.{◌≡◌, ◌≢◌, ◌<◌, ◌≤◌, ◌-◌, ℕ, List, [], ◌∷◌, ◌++◌, All, length, take, if◌then◌else◌, codes, nat_eq}
 use Rattle.std.specs.List.{ends_with}
 use Rattle.std.specs.Str.{IsUtf8}
 use Rattle.store_core.specs.Acts.{Act, Load, Save, SaveGrammar}
@@ -12,6 +12,8 @@ pub data Form : Type 0 where
   Long : Form
   -- it is in no command's form
   Bad : Form
+  -- the script's end
+  Quit : Form
   Command : (act : Act) → Form
 
 -- the words of a line: one carriage return at its end isn't part of them
@@ -31,5 +33,10 @@ Asks words (SaveGrammar name) = IsFileName name × (words ≡ codes "save-gramma
 abbrev pub IsForm : List ℕ → Form → Type 0
 IsForm line Empty = without_return line ≡ []
 IsForm line Long = longest < length line
-IsForm line Bad = (length line ≤ longest) × (without_return line ≢ []) × ((act : Act) → Asks (without_return line) act → ⊥)
+IsForm line Bad = (length line ≤ longest) × (without_return line ≢ []) × (without_return line ≢ codes "quit") × ((act : Act) → Asks (without_return line) act → ⊥)
+IsForm line Quit = without_return line ≡ codes "quit"
 IsForm line (Command act) = (length line ≤ longest) × Asks (without_return line) act
+
+-- no quit is among these lines
+abbrev pub HasNoQuit : List (List ℕ) → Type 0
+HasNoQuit lines = All (λ line. IsForm line Quit → ⊥) lines

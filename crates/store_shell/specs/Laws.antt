@@ -1,11 +1,15 @@
 -- What holds of all lines and forms.
-use Rattle.std.specs.Prelude.{◌≡◌, ℕ, List}
+use Rattle.std.specs.Prelude.{◌≡◌, ◌≤◌, ℕ, List, length}
 use Rattle.store_shell.specs.Forms.{Form, IsForm}
 use Rattle.store_shell.specs.Lines.{IsCut}
 
 -- bytes are cut into lines and a tail in one way alone
 abbrev pub CutsOne : Type 0
 CutsOne = (bytes : List ℕ) (lines lines' : List (List ℕ)) (tail tail' : List ℕ) → IsCut bytes lines tail → IsCut bytes lines' tail' → (lines ≡ lines') × (tail ≡ tail')
+
+-- no more lines end than there are bytes
+abbrev pub LinesAreFew : Type 0
+LinesAreFew = (bytes : List ℕ) (lines : List (List ℕ)) (tail : List ℕ) → IsCut bytes lines tail → length lines ≤ length bytes
 
 -- a line has one form alone
 abbrev pub HasOneForm : Type 0

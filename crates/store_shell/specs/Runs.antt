@@ -2,13 +2,14 @@
 use Rattle.std.specs.Prelude.{◌≡◌, ℕ, List, [], ◌∷◌, ◌++◌, codes}
 use Rattle.store_core.specs.Machine.{Step}
 use Rattle.store_core.specs.Worlds.{World}
-use Rattle.store_shell.specs.Forms.{Form, Empty, Long, Bad, Command, IsForm}
+use Rattle.store_shell.specs.Forms.{Form, Empty, Long, Bad, Quit, Command, IsForm}
 
 -- what a line of this form prints and leaves
 abbrev pub One : Form → World → List ℕ → World → Type 0
 One Empty old out new = (out ≡ []) × (new ≡ old)
-One Long old out new = (out ≡ codes "! bad-command\n") × (new ≡ old)
+One Long old out new = (out ≡ codes "! long-line\n") × (new ≡ old)
 One Bad old out new = (out ≡ codes "! bad-command\n") × (new ≡ old)
+One Quit old out new = (out ≡ []) × (new ≡ old)
 One (Command act) old out new = Step act old out new
 
 -- one line

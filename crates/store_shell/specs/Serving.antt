@@ -1,38 +1,49 @@
 -- What `serve` does: its contract on the script, the session, the files and the sink.
-use Rattle.std.specs.Prelude.{◌≡◌, ◌<◌, ◌^◌, ◌⊎◌, ℕ, List, [], ◌∷◌, ◌++◌, length, Option, IfSome}
+use Rattle.std.specs.Prelude.{◌≡◌, ◌<◌, ◌≤◌, ◌^◌, ◌⊎◌, ℕ, List, [], ◌∷◌, ◌++◌, length, Option, IfSome}
 use Rattle.tree_outside.specs.Outside.{Gets, GetsFront, Stays}
 use Rattle.store_core.specs.Worlds.{World}
+use Rattle.store_shell.specs.Forms.{Quit, IsForm, HasNoQuit}
 use Rattle.store_shell.specs.Lines.{IsCut}
 use Rattle.store_shell.specs.Runs.{DoesLine, Run}
 use Rattle.store_shell.specs.declared.script.Status.{Status}
 use Rattle.store_shell.specs.declared.script.Status.TheVariants as status
 
--- the bytes that were taken from the source: the lines that ended, and what follows them
+-- the bytes that were taken from the source, at most 2^30: the lines that ended, and what follows them
 pub record Script : Type 0 where
   pub bytes : List ℕ
+  pub within : length bytes ≤ 2 ^ 30
   pub lines : List (List ℕ)
   pub tail : List ℕ
   pub cut : IsCut bytes lines tail
 
--- these lines were done, and the sink got their text
+-- no quit is among these lines, they were done, and the sink got their text
 pub record Did (lines : List (List ℕ)) (old new : World) (before now : Option (List ℕ)) : Type 0 where
+  pub no_quit : HasNoQuit lines
   pub out : List ℕ
   pub ran : Run lines old out new
   pub got : Gets before now out
 
--- The sink failed at one of the lines: session and files stand as after it, and the sink got the text of the lines before
--- it and a front of its own.
+-- The sink failed at one of the lines, which isn't quit: session and files stand as after it, and the sink got the text of
+-- the lines before it and a front of its own.
 pub record Stops (lines : List (List ℕ)) (old new : World) (before now : Option (List ℕ)) : Type 0 where
   pub done : List (List ℕ)
   pub last : List ℕ
   pub later : List (List ℕ)
   pub whole : lines ≡ done ++ last ∷ later
+  pub no_quit : IsForm last Quit → ⊥
   pub mid : World
   pub between : Option (List ℕ)
   pub did : Did done old mid before between
   pub text : List ℕ
   pub does : DoesLine last mid text new
   pub got : GetsFront between now text
+
+-- one of the lines is quit, and these come before it
+pub record Quits (lines before : List (List ℕ)) : Type 0 where
+  pub quit : List ℕ
+  pub says : IsForm quit Quit
+  pub behind : List (List ℕ)
+  pub whole : lines ≡ before ++ quit ∷ behind
 
 -- nothing was left but these bytes, fewer than 2^30, where the source tells what is left
 pub record IsWhole (script : Script) (left : Option (List ℕ)) : Type 0 where
@@ -43,6 +54,12 @@ pub record IsWhole (script : Script) (left : Option (List ℕ)) : Type 0 where
 abbrev pub all_lines : Script → List (List ℕ)
 all_lines script = script.lines ++ script.tail ∷ []
 
+-- The script was done: the lines before a quit that ended, or where nothing was left all lines, or those before a quit.
+pub record Finishes (script : Script) (left : Option (List ℕ)) (old new : World) (before now : Option (List ℕ)) : Type 0 where
+  pub lines : List (List ℕ)
+  pub end : Quits script.lines lines ⊎ (IsWhole script left × ((lines ≡ all_lines script) ⊎ Quits (all_lines script) lines))
+  pub did : Did lines old new before now
+
 -- Nothing was read or written.
 pub record Refused (script : Script) (old new : World) (before now : Option (List ℕ)) : Type 0 where
   pub bytes : script.bytes ≡ []
@@ -51,7 +68,7 @@ pub record Refused (script : Script) (old new : World) (before now : Option (Lis
 
 -- what a status says of the script taken, of what was left in the source before, of the worlds and of the sink
 abbrev pub Serves : Script → Option (List ℕ) → Status → World → World → Option (List ℕ) → Option (List ℕ) → Type 0
-Serves script left status.Done old new before now = IsWhole script left × Did (all_lines script) old new before now
+Serves script left status.Done old new before now = Finishes script left old new before now
 Serves script left status.ReadFault old new before now = (length script.bytes < 2 ^ 30) × Did script.lines old new before now
 Serves script left status.LongScript old new before now = (length script.bytes ≡ 2 ^ 30) × Did script.lines old new before now
 Serves script left status.WriteFault old new before now =

@@ -2,7 +2,8 @@
 //!
 //! `line` gathers a line's bytes, `parse` reads what a line asks for, and `script` has `serve`, the top call. Its contract
 //! (specs/Serving) says that what is written and what is left are those of a run of the plain tree machine over the
-//! script's lines (specs/Lines, specs/Forms, specs/Runs). `laws` says that lines and forms are determined.
+//! script's lines up to the first `quit` (specs/Lines, specs/Forms, specs/Runs), and at each fault which lines are done.
+//! `laws` says that lines and forms are determined.
 #![tactic(auto)]
 
 mod laws;
@@ -11,5 +12,5 @@ mod parse;
 mod script;
 mod verb;
 
-pub use laws::{cuts_one, has_one_form};
+pub use laws::{cuts_one, has_one_form, lines_are_few};
 pub use script::{Status, serve};

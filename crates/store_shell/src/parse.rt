@@ -1,5 +1,5 @@
 // What a line asks for.
-ghost use Rattle.std.specs.Prelude.{◌≡◌, ◌<◌, ℕ, List, length, IfSome, MatchOption};
+ghost use Rattle.std.specs.Prelude.{◌≡◌, ◌<◌, ◌↔◌, ℕ, true, List, length, IfSome, MatchOption, codes};
 ghost use Rattle.std.specs.Option.{option_copied};
 ghost use Rattle.std.specs.List.{position};
 ghost use Rattle.store_core.specs.Acts.{Act};
@@ -17,6 +17,7 @@ pub enum Parsed<'a> {
     Empty,
     Long,
     Bad,
+    Quit,
     Command(Command<'a>),
 }
 
@@ -30,6 +31,9 @@ pub fn parse(line: Option<&[u8]>) -> Parsed<'_>
     let words = without_return(line);
     if words.is_empty() {
         return Parsed::Empty;
+    }
+    if is_quit(words) {
+        return Parsed::Quit;
     }
     match parse_command(words) {
         Some(command) => Parsed::Command(command),
@@ -45,6 +49,13 @@ fn without_return(line: &[u8]) -> &[u8]
         Some(words) => words,
         None => line,
     }
+}
+
+/// Whether the words end the script.
+fn is_quit(words: &[u8]) -> bool
+    ensures { (result ≡ true) ↔ (words.now ≡ codes "quit") }
+{
+    matches!(words, b"quit")
 }
 
 /// Reads a command: its verb, and after one space its arguments.

@@ -1,11 +1,10 @@
 // The top call, which reads a script and does its lines.
 ghost use Rattle.std.specs.Prelude.{◌≡◌, ◌≢◌, ◌↔◌, ◌≤◌, ℕ, List, [], ◌∷◌, MatchResult};
 ghost use Rattle.std.specs.Option.{option_copied};
-ghost use Rattle.tree_outside.specs.Outside.{HasCause, Rose, Takes, Writes};
+ghost use Rattle.tree_outside.specs.Outside.{HasCause, Rose, Takes};
 ghost use Rattle.store_core.specs.Worlds.{world};
 ghost use Rattle.store_shell.specs.Lines.{IsOneLine, kept};
-ghost use Rattle.store_shell.specs.Runs.{DoesLine};
-ghost use Rattle.store_shell.specs.Feeding.{Feeds};
+ghost use Rattle.store_shell.specs.Feeding.{Ends, Feeds};
 ghost use Rattle.store_shell.specs.Serving.{Script, Serves};
 
 use crate::line::Line;
@@ -25,10 +24,17 @@ const PIECE: usize = 4096;
 /// As yet no words change them.
 const SETTINGS: Settings = Settings { rank: 4, repair: 1 };
 
+/// Whether a script goes on behind a line.
+#[derive(Clone, Copy)]
+enum Flow {
+    On,
+    Quit,
+}
+
 /// How a script ended.
 #[derive(Clone, Copy, Debug, PartialEq, Eq)]
 pub enum Status {
-    /// It was read to its end, and each line was done.
+    /// It was read to its end or to a `quit`, and each line before was done.
     Done,
     /// There was no memory to begin with, and nothing was read.
     Memory,
@@ -79,17 +85,11 @@ pub fn serve<S: Source, K: Sink, F: Shelf, L: Ledger>(
             }
             Ok(count) => {
                 taken += count;
-                let fed = feed(
-                    alloc,
-                    session,
-                    &mut line,
-                    &piece[..count],
-                    sink,
-                    shelf,
-                    steps,
-                );
-                if fed.is_err() {
-                    return Status::WriteFault;
+                let piece = &piece[..count];
+                match feed(alloc, session, &mut line, piece, sink, shelf, steps) {
+                    Ok(Flow::On) => {}
+                    Ok(Flow::Quit) => return Status::Done,
+                    Err(SinkFailed) => return Status::WriteFault,
                 }
             }
         }
@@ -98,16 +98,16 @@ pub fn serve<S: Source, K: Sink, F: Shelf, L: Ledger>(
 }
 
 /// The status after the unfinished last line.
-fn last_status(last: Result<(), SinkFailed>) -> Status
+fn last_status(last: Result<Flow, SinkFailed>) -> Status
     ensures { MatchResult last (λ _. result ≡ Status.Done) (λ _. result ≡ Status.WriteFault) }
 {
     match last {
-        Ok(()) => Status::Done,
+        Ok(_) => Status::Done,
         Err(SinkFailed) => Status::WriteFault,
     }
 }
 
-/// Takes the next piece of the script, and does each line that ends in it.
+/// Takes the next piece of the script, and does each line that ends in it, up to a `quit`.
 fn feed<K: Sink, F: Shelf, L: Ledger>(
     alloc: Global,
     session: &mut Session,
@@ -116,16 +116,19 @@ fn feed<K: Sink, F: Shelf, L: Ledger>(
     sink: &mut K,
     shelf: &mut F,
     steps: &mut Steps<L>,
-) -> Result<(), SinkFailed>
+) -> Result<Flow, SinkFailed>
     ensures feeds { (part : List ℕ) → IsOneLine part → line.old ≡ kept part → Feeds part piece.now result
         (world session.old (F.told shelf.old) (F.faults shelf.old)) (world session.new (F.told shelf.new) (F.faults shelf.new))
         (K.got sink.old) (K.got sink.new) line.new }
     ensures cause { HasCause (K.faults sink.old) (K.faults sink.new) result }
 {
     for byte in piece {
-        feed_byte(alloc, session, line, *byte, sink, shelf, steps)?;
+        match feed_byte(alloc, session, line, *byte, sink, shelf, steps)? {
+            Flow::On => {}
+            Flow::Quit => return Ok(Flow::Quit),
+        }
     }
-    Ok(())
+    Ok(Flow::On)
 }
 
 /// Takes the next byte of the script, and does the line that it ends.
@@ -137,7 +140,7 @@ fn feed_byte<K: Sink, F: Shelf, L: Ledger>(
     sink: &mut K,
     shelf: &mut F,
     steps: &mut Steps<L>,
-) -> Result<(), SinkFailed>
+) -> Result<Flow, SinkFailed>
     ensures feeds { (part : List ℕ) → IsOneLine part → line.old ≡ kept part → Feeds part (byte ∷ []) result
         (world session.old (F.told shelf.old) (F.faults shelf.old)) (world session.new (F.told shelf.new) (F.faults shelf.new))
         (K.got sink.old) (K.got sink.new) line.new }
@@ -145,7 +148,7 @@ fn feed_byte<K: Sink, F: Shelf, L: Ledger>(
 {
     if byte != b'\n' {
         line.push(byte);
-        return Ok(());
+        return Ok(Flow::On);
     }
     let done = end_line(alloc, session, line.bytes(), sink, shelf, steps);
     line.clear();
@@ -160,25 +163,20 @@ fn end_line<K: Sink, F: Shelf, L: Ledger>(
     sink: &mut K,
     shelf: &mut F,
     steps: &mut Steps<L>,
-) -> Result<(), SinkFailed>
-    ensures does { (bytes : List ℕ) → option_copied line.entry ≡ kept bytes → (out : List ℕ)
-        × DoesLine bytes (world session.old (F.told shelf.old) (F.faults shelf.old)) out (world session.new (F.told shelf.new) (F.faults shelf.new))
-        × Writes (K.got sink.old) (K.got sink.new) result out }
+) -> Result<Flow, SinkFailed>
+    ensures ends { (bytes : List ℕ) → option_copied line.entry ≡ kept bytes → Ends bytes result
+        (world session.old (F.told shelf.old) (F.faults shelf.old)) (world session.new (F.told shelf.new) (F.faults shelf.new))
+        (K.got sink.old) (K.got sink.new) }
     ensures cause { HasCause (K.faults sink.old) (K.faults sink.new) result }
 {
     match parse(line) {
-        Parsed::Empty => Ok(()),
-        Parsed::Long | Parsed::Bad => print(b"! bad-command\n", sink),
-        Parsed::Command(command) => session.command(alloc, command, SETTINGS, sink, shelf, steps),
+        Parsed::Empty => {}
+        Parsed::Long => sink.write(b"! long-line\n")?,
+        Parsed::Bad => sink.write(b"! bad-command\n")?,
+        Parsed::Quit => return Ok(Flow::Quit),
+        Parsed::Command(command) => {
+            session.command(alloc, command, SETTINGS, sink, shelf, steps)?;
+        }
     }
-}
-
-fn print<K: Sink>(text: &[u8], sink: &mut K) -> Result<(), SinkFailed>
-    ensures writes { Writes (K.got sink.old) (K.got sink.new) result text.now }
-    ensures cause { HasCause (K.faults sink.old) (K.faults sink.new) result }
-{
-    match sink.write(text) {
-        Ok(()) => Ok(()),
-        Err(Failed) => Err(SinkFailed),
-    }
+    Ok(Flow::On)
 }

@@ -16,6 +16,11 @@ returns-then-is_empty c = λ bytes e.
     let none : length c.without_return-words.result.now ≡ 0 = grind (arith, nat_tests) in
     ap without_return s.0 ∙ (sym c.without_return-words.ensures ∙ nil_from_length _ none)
 
+pub returns-then-is_quit : goal.returns-then-is_quit
+returns-then-is_quit c = λ bytes e.
+    let s = not_long bytes c.in-Some.line.now (option_copied c.args.line) e (ap option_copied c.in-Some.is) in
+    ap without_return s.0 ∙ (sym c.without_return-words.ensures ∙ c.is_quit.ensures.0 c.if-is_quit.true)
+
 pub returns-in-Some-parse_command : goal.returns-in-Some-parse_command
 returns-in-Some-parse_command c = λ bytes e.
     let s = not_long bytes c.in-Some.line.now (option_copied c.args.line) e (ap option_copied c.in-Some.is) in
@@ -28,5 +33,6 @@ returns-in-None c = λ bytes e.
     let same : without_return bytes ≡ c.without_return-words.result.now = ap without_return s.0 ∙ sym c.without_return-words.ensures in (
       s.1,
       λ none. let zero : length c.without_return-words.result.now ≡ 0 = ap length (sym same ∙ none) in grind (arith, nat_tests),
+      λ quit. let ends = c.is_quit.ensures.1 (sym same ∙ quit) in absurd (cc),
       λ act asks. let P : List ℕ → Type 0 = λ words. Asks words act in c.in-None.ensures act (subst P same asks),
     )

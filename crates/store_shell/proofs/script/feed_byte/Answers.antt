@@ -19,7 +19,7 @@ returns-clause-feeds g c = λ part one e.
     let w1 : World = world c.end_line-done.new.session (g.F.Shelf.told c.end_line-done.new.shelf) (g.F.Shelf.faults c.end_line-done.new.shelf) in
     let g0 : Option (List ℕ) = g.K.Sink.got c.args.sink.now in
     let g1 : Option (List ℕ) = g.K.Sink.got c.end_line-done.new.sink in
-    let done = c.end_line-done.ensures.does part (c.bytes.ensures ∙ e) in
+    let ends = c.end_line-done.ensures.ends part (c.bytes.ensures ∙ e) in
     let Q : ℕ → Type 0 = λ byte. Feeds part (byte ∷ []) c.end_line-done.result w0 w1 g0 g1 (Some []) in
     let ten : 10 ≡ c.args.byte = omega arith in
-    rw c.clear.ensures (subst Q ten (Feeds-line part done.0 c.end_line-done.result w0 w1 g0 g1 one done.1 done.2))
+    rw c.clear.ensures (subst Q ten (Feeds-line part c.end_line-done.result w0 w1 g0 g1 one ends))

@@ -57,6 +57,11 @@ no_token Q bytes none wants root r = by_tokens r.tokens r.cut r.holds where
   by_tokens [] cut holds = wants root holds
   by_tokens (t ∷ ts) (mid, begins, cut) holds = none t mid begins
 
+-- tokens, and those that follow them
+pub cuts_join : (ts us : List Token) (bytes mid : List ℕ) → AreTokens ts bytes mid → AreTokens us mid [] → AreTokens (ts ++ us) bytes []
+cuts_join [] us bytes mid cut then = subst (λ x. AreTokens us x []) (sym cut) then
+cuts_join (t ∷ ts) us bytes mid (next, begins, cut) then = (next, begins, cuts_join ts us next mid cut then)
+
 -- white space alone
 abbrev pub space_tokens : List ℕ → List Token
 space_tokens [] = []
@@ -92,18 +97,6 @@ cut_spaces (Empty n ∷ ts) bytes cut e = cc
 cut_spaces (End n ∷ ts) bytes cut e = cc
 
 -- the white space at the front is tokens
-pub front_cut : (body : List Token) (bytes : List ℕ) → AreTokens body (back is_space bytes) []
-    → (prolog : List Token) × (list_all is_misc prolog ≡ true) × AreTokens (prolog ++ body) bytes []
-front_cut body [] cut = ([], refl, cut)
-front_cut body (c ∷ cs) cut = by_space (is_space c) refl (λ e. front_cut body cs (rw e at cut)) where
-  by_space : (b : Bool) → is_space c ≡ b
-      → (is_space c ≡ true → (prolog : List Token) × (list_all is_misc prolog ≡ true) × AreTokens (prolog ++ body) cs [])
-      → (prolog : List Token) × (list_all is_misc prolog ≡ true) × AreTokens (prolog ++ body) (c ∷ cs) []
-  by_space true e behind =
-      let rest = behind e in
-      (Space c ∷ rest.0, rest.1, (cs, space_begins c cs e, rest.2))
-  by_space false e behind = ([], refl, rw e at cut)
-
 pub spaces_at_front : (bytes : List ℕ) → AreTokens (space_tokens (front is_space bytes)) bytes (back is_space bytes)
 spaces_at_front [] = refl
 spaces_at_front (c ∷ cs) = by_space (is_space c) refl (spaces_at_front cs) where

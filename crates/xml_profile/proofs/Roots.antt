@@ -7,7 +7,7 @@ use Rattle.xml_profile.specs.Tokens.{Token, Space, Start, Empty, End, Begins, Ar
 use Rattle.xml_profile.specs.Reading.{front, back}
 use Rattle.xml_profile.specs.Spelling.{IsElement, IsContent, IsRoot, Spells, BeginsElement, BeginsRoot, is_misc}
 use Rattle.xml_profile.specs.Stack.{element, Closes, Completes, Reads}
-use Rattle.xml_profile.proofs.Cutting.{SameRoots, after_token, refused_token, no_token, front_cut, cut_front, spaces_cut, misc_spaces, cut_spaces, space_tokens, spaces_at_front}
+use Rattle.xml_profile.proofs.Cutting.{SameRoots, after_token, refused_token, no_token, cuts_join, cut_front, spaces_cut, misc_spaces, cut_spaces, space_tokens, spaces_at_front}
 use Rattle.xml_profile.proofs.Steps.{element-is, trees-list_of, first_token, start_name}
 
 root_starts : (n : List ℕ) (tokens after : List Token) (root : Tree) → IsElement root (Start n ∷ tokens) after → list_all is_misc after ≡ true
@@ -132,11 +132,19 @@ begins-root bytes tag = record {
 
 pub spells-root : (bytes : List ℕ) (root : Tree) → Reads IsRoot (back is_space bytes) root → Spells bytes (node Document [] [] (more root none))
 spells-root bytes root r =
-    let cut = front_cut r.tokens bytes r.cut in
+    let prolog = space_tokens (front is_space bytes) in
     record {
-      tokens = cut.0 ++ r.tokens;
-      cut = cut.2;
-      spelled = record { prolog = cut.0; body = r.tokens; root = root; whole = refl; before = cut.1; spelled = r.holds; is_document = refl };
+      tokens = prolog ++ r.tokens;
+      cut = cuts_join prolog r.tokens bytes (back is_space bytes) (spaces_at_front bytes) r.cut;
+      spelled = record {
+        prolog = prolog;
+        body = r.tokens;
+        root = root;
+        whole = refl;
+        before = misc_spaces (front is_space bytes);
+        spelled = r.holds;
+        is_document = refl;
+      };
     }
 
 pub record RootOf (bytes : List ℕ) (document : Tree) : Type 0 where

@@ -6,7 +6,7 @@ use Rattle.plain_tree.specs.Tree.{Tree, node, Trees, none, more}
 use Rattle.plain_tree.specs.Numbers.{nodes, nodes_all}
 use Rattle.plain_tree.specs.Documents.{IsDocument, IsElementTree, AreElementTrees}
 use Rattle.slt_grammar.specs.Standing.{IsLawfulPair}
-use Rattle.fcns_encoding.specs.Interning.{Pair, Interns, pair_of, pairs_of_tree}
+use Rattle.fcns_encoding.specs.Interning.{Pair, Interns, tree_pair, pairs_of_tree}
 use Rattle.fcns_encoding.specs.Laws.{AreLawful}
 
 lawful-at : (p q : Pair) → p ≡ q → IsLawfulPair p.0 p.1 → IsLawfulPair q.0 q.1
@@ -32,20 +32,20 @@ Interns-lawful old (p ∷ ps) new h a b =
     ]
 
 mutual
-  element-lawful : (t : Tree) → IsElementTree t → AreLawful (map pair_of (nodes t))
+  element-lawful : (t : Tree) → IsElementTree t → AreLawful (map tree_pair (nodes t))
   element-lawful (node k n v ks) e =
       let here : IsLawfulPair Element n = e.1 in
-      lawful-cons (k, n) (map pair_of (nodes_all ks)) (subst (λ j. IsLawfulPair j n) (sym e.0) here) (elements-lawful ks e.3)
+      lawful-cons (k, n) (map tree_pair (nodes_all ks)) (subst (λ j. IsLawfulPair j n) (sym e.0) here) (elements-lawful ks e.3)
 
-  elements-lawful : (ts : Trees) → AreElementTrees ts → AreLawful (map pair_of (nodes_all ts))
+  elements-lawful : (ts : Trees) → AreElementTrees ts → AreLawful (map tree_pair (nodes_all ts))
   elements-lawful none e = none-lawful
   elements-lawful (more t ts) e =
-      subst AreLawful (sym (map-append pair_of (nodes t) (nodes_all ts))) (lawful-append (map pair_of (nodes t)) (map pair_of (nodes_all ts)) (element-lawful t e.0) (elements-lawful ts e.1))
+      subst AreLawful (sym (map-append tree_pair (nodes t) (nodes_all ts))) (lawful-append (map tree_pair (nodes t)) (map tree_pair (nodes_all ts)) (element-lawful t e.0) (elements-lawful ts e.1))
 
 pub document-lawful : (t : Tree) → IsDocument t → AreLawful (pairs_of_tree t)
 document-lawful t is =
     let whole : AreLawful (pairs_of_tree (node Document [] [] (more is.root none))) =
-    lawful-cons (Document, []) (map pair_of (nodes_all (more is.root none))) refl (elements-lawful (more is.root none) (is.element, tt)) in
+    lawful-cons (Document, []) (map tree_pair (nodes_all (more is.root none))) refl (elements-lawful (more is.root none) (is.element, tt)) in
     subst (λ s. AreLawful (pairs_of_tree s)) (sym is.is) whole
 
 pub names-lawful : (t : Tree) (old new : List Pair) → IsDocument t → Interns old (pairs_of_tree t) new → AreLawful old → AreLawful new

@@ -10,8 +10,8 @@ use Rattle.plain_tree.specs.Visits.{TreeVisit, Opened, Closed, visits, all_visit
 use Rattle.plain_tree.proofs.WalkLemmas.{opened-visits}
 use Rattle.slt_grammar.specs.Terms.{Term, Leaf, Node}
 use Rattle.slt_grammar.specs.Coding.{Codes}
-use Rattle.fcns_encoding.specs.Labels.{labels_of}
-use Rattle.fcns_encoding.specs.Interning.{Pair, Interns, pair_of, pairs_of_tree}
+use Rattle.fcns_encoding.specs.Labels.{term_labels}
+use Rattle.fcns_encoding.specs.Interning.{Pair, Interns, tree_pair, pairs_of_tree}
 use Rattle.fcns_encoding.specs.Visiting.{IsLabelOf, values_of, texts_at, pairs_at}
 use Rattle.fcns_encoding.proofs.InternLemmas.{KeepsPlaces, Interns-keeps, Interns-append}
 
@@ -21,7 +21,7 @@ Spelled names [] ls = ls ≡ []
 Spelled names (v ∷ vs) ls = (label : Label) × (rest : List Label) × IsLabelOf names v label × Spelled names vs rest × (ls ≡ label ∷ rest)
 
 label-keeps : (old new : List Pair) → KeepsPlaces old new → (v : TreeVisit) (label : Label) → IsLabelOf old v label → IsLabelOf new v label
-label-keeps old new keeps (Opened t) label l = (l.0, keeps l.0 (pair_of t) l.1, l.2)
+label-keeps old new keeps (Opened t) label l = (l.0, keeps l.0 (tree_pair t) l.1, l.2)
 label-keeps old new keeps (Closed t) label l = l
 
 Spelled-keeps : (old new : List Pair) → KeepsPlaces old new → (vs : List TreeVisit) (ls : List Label) → Spelled old vs ls → Spelled new vs ls
@@ -38,7 +38,7 @@ record IsCoded (names : List Pair) (ts : Trees) (after : List TreeVisit) (ls : L
   front : List Label
   rest : List Label
   codes : Codes names ts term
-  labels : labels_of term ≡ front ++ Bottom ∷ []
+  labels : term_labels term ≡ front ++ Bottom ∷ []
   whole : ls ≡ front ++ rest
   spelled : Spelled names after rest
 
@@ -73,7 +73,7 @@ pub record IsEncoding (t : Tree) (left : List TreeVisit) (old now : List Pair) (
   pub whole : done ++ left ≡ visits t
   pub spelled : Spelled now done body
   pub texts : values ≡ values_of (opened done)
-  pub names : Interns old (map pair_of (opened done)) now
+  pub names : Interns old (map tree_pair (opened done)) now
 
 pub encoding-begins : (t : Tree) (names : List Pair) → IsEncoding t (visits t) names names [] []
 encoding-begins t names = record { done = []; whole = refl; spelled = refl; texts = refl; names = refl }
@@ -89,7 +89,7 @@ module _ (t : Tree) (old mid : List Pair) (body : List Label) (values : List (Li
         whole = append_assoc w.done (v ∷ []) vs ∙ ap (λ us. w.done ++ us) (sym e) ∙ w.whole;
         spelled = subst (Spelled now (w.done ++ v ∷ [])) (sym b) (Spelled-push now w.done body v label spelled l);
         texts = x ∙ ap (λ xs. xs ++ texts_at v) w.texts ∙ sym (ap values_of opens ∙ values_of-append (opened w.done) (opened (v ∷ [])));
-        names = rw (opens, map-append pair_of (opened w.done) (opened (v ∷ []))) (Interns-append old mid now (map pair_of (opened w.done)) (pairs_at v) w.names i);
+        names = rw (opens, map-append tree_pair (opened w.done) (opened (v ∷ []))) (Interns-append old mid now (map tree_pair (opened w.done)) (pairs_at v) w.names i);
       }
 
   -- the nodes that were opened, and those that were not yet
@@ -97,13 +97,13 @@ module _ (t : Tree) (old mid : List Pair) (body : List Label) (values : List (Li
   opened-left = sym (opened-visits t) ∙ ap opened (sym w.whole) ∙ opened-append w.done left
 
   pub encoding-ends : (body' : List Label) → left ≡ [] → body' ≡ body ++ Bottom ∷ []
-      → ((term : Term) × Codes mid (more t none) term × (body' ≡ labels_of term)) × (values ≡ texts t) × Interns old (pairs_of_tree t) mid
+      → ((term : Term) × Codes mid (more t none) term × (body' ≡ term_labels term)) × (values ≡ texts t) × Interns old (pairs_of_tree t) mid
   encoding-ends body' e b =
       let all : opened w.done ≡ nodes t = sym (append-nil (opened w.done)) ∙ ap (λ us. opened w.done ++ opened us) (sym e) ∙ sym opened-left in
       let done : w.done ≡ visits t = sym (append-nil w.done) ∙ ap (λ us. w.done ++ us) (sym e) ∙ w.whole in
       let a = coded mid (more t none) [] body (subst (λ vs. Spelled mid vs body) done w.spelled) in
       let front : body ≡ a.front = a.whole ∙ ap (λ ls. a.front ++ ls) a.spelled ∙ append-nil a.front in
-      ((a.term, a.codes, b ∙ ap (λ ls. ls ++ Bottom ∷ []) front ∙ sym a.labels), w.texts ∙ ap values_of all, subst (λ ts. Interns old (map pair_of ts) mid) all w.names)
+      ((a.term, a.codes, b ∙ ap (λ ls. ls ++ Bottom ∷ []) front ∙ sym a.labels), w.texts ∙ ap values_of all, subst (λ ts. Interns old (map tree_pair ts) mid) all w.names)
 
   take-second : (ys zs : List Pair) (k : ℕ) → (m : ℕ) × (take m (ys ++ zs) ≡ take k ys)
   take-second [] zs zero = (0, refl)
@@ -118,11 +118,11 @@ module _ (t : Tree) (old mid : List Pair) (body : List Label) (values : List (Li
   -- a refusal in the midst of a visit
   pub encoding-fails : (v : TreeVisit) (vs : List TreeVisit) (now : List Pair) → left ≡ v ∷ vs → ((k : ℕ) × Interns mid (take k (pairs_at v)) now) → (k : ℕ) × Interns old (take k (pairs_of_tree t)) now
   encoding-fails v vs now e (k, i) =
-      let front : List Pair = map pair_of (opened w.done) in
-      let back : List Pair = map pair_of (opened vs) in
+      let front : List Pair = map tree_pair (opened w.done) in
+      let back : List Pair = map tree_pair (opened vs) in
       let opens : nodes t ≡ opened w.done ++ (opened (v ∷ []) ++ opened vs) = opened-left ∙ ap (λ us. opened w.done ++ opened us) e ∙ ap (λ ts. opened w.done ++ ts) (opened-append (v ∷ []) vs) in
       let pairs : pairs_of_tree t ≡ front ++ (pairs_at v ++ back) =
-      ap (map pair_of) opens ∙ map-append pair_of (opened w.done) (opened (v ∷ []) ++ opened vs) ∙ ap (λ ps. front ++ ps) (map-append pair_of (opened (v ∷ [])) (opened vs)) in
+      ap (map tree_pair) opens ∙ map-append tree_pair (opened w.done) (opened (v ∷ []) ++ opened vs) ∙ ap (λ ps. front ++ ps) (map-append tree_pair (opened (v ∷ [])) (opened vs)) in
       let m = take-inside front (pairs_at v) back k in
       let here : take m.0 (pairs_of_tree t) ≡ front ++ take k (pairs_at v) = ap (take m.0) pairs ∙ m.1 in
       (m.0, rw here (Interns-append old mid now front (take k (pairs_at v)) w.names i))
@@ -130,9 +130,9 @@ module _ (t : Tree) (old mid : List Pair) (body : List Label) (values : List (Li
   -- a refusal between two visits
   pub encoding-stops : (k : ℕ) × Interns old (take k (pairs_of_tree t)) mid
   encoding-stops =
-      let front : List Pair = map pair_of (opened w.done) in
-      let back : List Pair = map pair_of (opened left) in
-      let pairs : pairs_of_tree t ≡ front ++ back = ap (map pair_of) opened-left ∙ map-append pair_of (opened w.done) (opened left) in
+      let front : List Pair = map tree_pair (opened w.done) in
+      let back : List Pair = map tree_pair (opened left) in
+      let pairs : pairs_of_tree t ≡ front ++ back = ap (map tree_pair) opened-left ∙ map-append tree_pair (opened w.done) (opened left) in
       let m = take-inside front [] back 0 in
       let here : take m.0 (pairs_of_tree t) ≡ front = ap (take m.0) pairs ∙ m.1 ∙ append-nil front in
       (m.0, rw here w.names)

@@ -17,9 +17,9 @@ abbrev pub Interns : List Pair → List Pair → List Pair → Type 0
 Interns old [] new = new ≡ old
 Interns old (pair ∷ pairs) new = (IsIn pair old × Interns old pairs new) ⊎ ((IsIn pair old → ⊥) × Interns (old ++ pair ∷ []) pairs new)
 
-abbrev pub pair_of : Tree → Pair
-pair_of (node kind name value kids) = (kind, name)
+abbrev pub tree_pair : Tree → Pair
+tree_pair (node kind name value kids) = (kind, name)
 
 -- the kinds and names of a tree's nodes, in document order
 abbrev pub pairs_of_tree : Tree → List Pair
-pairs_of_tree t = map pair_of (nodes t)
+pairs_of_tree t = map tree_pair (nodes t)

@@ -6,11 +6,11 @@ use Rattle.slt_grammar.specs.Terms.{Term, Leaf, Node, Hole}
 use Rattle.slt_grammar.specs.declared.rules.Rule.{Rule}
 
 -- the labels of a term in preorder
-abbrev pub labels_of : Term → List Label
-labels_of Leaf = Bottom ∷ []
-labels_of (Node f a b) = Symbol f ∷ (labels_of a ++ labels_of b)
-labels_of (Hole i) = Param ∷ []
+abbrev pub term_labels : Term → List Label
+term_labels Leaf = Bottom ∷ []
+term_labels (Node f a b) = Symbol f ∷ (term_labels a ++ term_labels b)
+term_labels (Hole i) = Param ∷ []
 
 -- the grammar whose one rule has a term without holes as its body
 abbrev pub one_rule : Term → List Rule
-one_rule term = record { rank = 0; body = labels_of term } ∷ []
+one_rule term = record { rank = 0; body = term_labels term } ∷ []

@@ -11,7 +11,7 @@ use Rattle.slt_grammar.specs.Grammars.{IsGrammar, IsSwept, value}
 use Rattle.slt_grammar.specs.Coding.{Codes}
 use Rattle.slt_grammar.specs.Standing.{IsLawfulPair, StandsFor}
 use Rattle.slt_grammar.specs.declared.rules.Rule.{Rule}
-use Rattle.fcns_encoding.specs.Labels.{labels_of, one_rule}
+use Rattle.fcns_encoding.specs.Labels.{term_labels, one_rule}
 use Rattle.fcns_encoding.specs.Interning.{Pair, Interns, pairs_of_tree}
 
 -- each pair of a table is allowed
@@ -32,7 +32,7 @@ OneRuleStandsForItsDocument =
 abbrev pub EncodedStandsForItsDocument : Type 0
 EncodedStandsForItsDocument =
     (t : Tree) (old new : List Pair) (body : List Label) → IsDocument t → AreDistinct old → AreLawful old → Interns old (pairs_of_tree t) new
-    → ((term : Term) × Codes new (more t none) term × (body ≡ labels_of term)) → let G : List Rule = record { rank = 0; body = body } ∷ [] in IsGrammar G × IsSwept G × StandsFor G new (texts t) t
+    → ((term : Term) × Codes new (more t none) term × (body ≡ term_labels term)) → let G : List Rule = record { rank = 0; body = body } ∷ [] in IsGrammar G × IsSwept G × StandsFor G new (texts t) t
 
 -- names that have grown have each earlier name at its place, so that what was a code is one
 abbrev pub CodesAreKept : Type 0

@@ -5,22 +5,22 @@ use Rattle.rule_arena.specs.declared.label.Label.TheVariants.{Bottom, Symbol}
 use Rattle.plain_tree.specs.Tree.{Tree}
 use Rattle.plain_tree.specs.Numbers.{has_value, kind_of, value_of}
 use Rattle.plain_tree.specs.Visits.{TreeVisit, Opened, Closed, opened}
-use Rattle.fcns_encoding.specs.Interning.{Pair, pair_of}
+use Rattle.fcns_encoding.specs.Interning.{Pair, tree_pair}
 
 -- a node that is opened has its symbol, one that is closed the bottom behind its kids
 abbrev pub IsLabelOf : List Pair → TreeVisit → Label → Type 0
-IsLabelOf names (Opened t) label = (symbol : ℕ) × (slice_get names symbol ≡ Some (pair_of t)) × (label ≡ Symbol symbol)
+IsLabelOf names (Opened t) label = (symbol : ℕ) × (slice_get names symbol ≡ Some (tree_pair t)) × (label ≡ Symbol symbol)
 IsLabelOf names (Closed t) label = label ≡ Bottom
 
 -- the values of those nodes that have one
 abbrev pub values_of : List Tree → List (List ℕ)
 values_of ts = map value_of (filter (λ s. has_value (kind_of s)) ts)
 
-abbrev pub text_of : Tree → List (List ℕ)
-text_of t = values_of (t ∷ [])
+abbrev pub own_texts : Tree → List (List ℕ)
+own_texts t = values_of (t ∷ [])
 
 abbrev pub texts_at : TreeVisit → List (List ℕ)
 texts_at visit = values_of (opened (visit ∷ []))
 
 abbrev pub pairs_at : TreeVisit → List Pair
-pairs_at visit = map pair_of (opened (visit ∷ []))
+pairs_at visit = map tree_pair (opened (visit ∷ []))

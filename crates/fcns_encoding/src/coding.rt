@@ -8,9 +8,9 @@ ghost use Rattle.plain_tree.specs.Numbers.{texts};
 ghost use Rattle.plain_tree.specs.Seen.{visit_of};
 ghost use Rattle.slt_grammar.specs.Terms.{Term};
 ghost use Rattle.slt_grammar.specs.Coding.{Codes};
-ghost use Rattle.fcns_encoding.specs.Labels.{labels_of};
-ghost use Rattle.fcns_encoding.specs.Interning.{Interns, pair_of, pairs_of_tree};
-ghost use Rattle.fcns_encoding.specs.Visiting.{IsLabelOf, pairs_at, texts_at, text_of};
+ghost use Rattle.fcns_encoding.specs.Labels.{term_labels};
+ghost use Rattle.fcns_encoding.specs.Interning.{Interns, tree_pair, pairs_of_tree};
+ghost use Rattle.fcns_encoding.specs.Visiting.{IsLabelOf, pairs_at, texts_at, own_texts};
 
 use plain_tree::{Bytes, Names, Node, Texts, Visit, Walk};
 use slt_grammar::{Body, Label};
@@ -28,7 +28,7 @@ pub struct Coded {
 /// The names grow by the pairs of the tree's nodes in document order, without repeats and without what was there. It is
 /// refused only for want of memory, and then the names have grown by the pairs of some of the first nodes.
 pub fn encode(alloc: Global, node: &Node, names: &mut Names) -> Result<Coded, AllocError>
-    ensures code { IfOk result (λ c. (term : Term) × Codes names.new (more (tree_of node.now) none) term × (c.body ≡ labels_of term)) }
+    ensures code { IfOk result (λ c. (term : Term) × Codes names.new (more (tree_of node.now) none) term × (c.body ≡ term_labels term)) }
     ensures texts { IfOk result (λ c. c.texts ≡ texts (tree_of node.now)) }
     ensures names { OnOk result (Interns names.old (pairs_of_tree (tree_of node.now)) names.new) }
     ensures refused { OnErr result ((k : ℕ) × Interns names.old (take k (pairs_of_tree (tree_of node.now))) names.new) }
@@ -62,10 +62,10 @@ impl Coded {
 
     // Adds the symbol of a node, and its value where its kind has one.
     fn open(&mut self, alloc: Global, node: &Node, names: &mut Names) -> Result<(), AllocError>
-        ensures label { OnOk result ((symbol : ℕ) × (slice_get names.new symbol ≡ Some (pair_of (tree_of node.now))) × (self.new.body ≡ self.old.body ++ Symbol symbol ∷ [])) }
-        ensures texts { OnOk result (self.new.texts ≡ self.old.texts ++ text_of (tree_of node.now)) }
-        ensures names { OnOk result (Interns names.old (pair_of (tree_of node.now) ∷ []) names.new) }
-        ensures refused { OnErr result ((k : ℕ) × Interns names.old (take k (pair_of (tree_of node.now) ∷ [])) names.new) }
+        ensures label { OnOk result ((symbol : ℕ) × (slice_get names.new symbol ≡ Some (tree_pair (tree_of node.now))) × (self.new.body ≡ self.old.body ++ Symbol symbol ∷ [])) }
+        ensures texts { OnOk result (self.new.texts ≡ self.old.texts ++ own_texts (tree_of node.now)) }
+        ensures names { OnOk result (Interns names.old (tree_pair (tree_of node.now) ∷ []) names.new) }
+        ensures refused { OnErr result ((k : ℕ) × Interns names.old (take k (tree_pair (tree_of node.now) ∷ [])) names.new) }
     {
         let symbol = names.intern(alloc, node.kind, node.name.as_slice())?;
         self.body.push(Label::Symbol(symbol))?;

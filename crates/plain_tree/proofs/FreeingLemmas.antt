@@ -6,7 +6,7 @@ use Rattle.plain_tree.specs.declared.nodes.Node.{Node}
 use Rattle.plain_tree.specs.Tree.{Tree, node, node_count, list_count}
 use Rattle.plain_tree.specs.NodeTree.{tree_of, trees_of}
 use Rattle.plain_tree.specs.Freeing.{first_work, work}
-use Rattle.plain_tree.proofs.Counts.{list_count-append}
+use Rattle.plain_tree.proofs.NodeCounts.{list_count-append}
 
 -- one more at the end of some
 work-append : (t : Tree) (ts : List Tree) (last : Tree) → work ((t ∷ ts) ++ last ∷ []) ≡ work (t ∷ ts) + 2 * node_count last

@@ -1,4 +1,4 @@
-pub mod Counts
+pub mod NodeCounts
 pub mod FreeingLemmas
 pub mod WalkLemmas
 pub mod NameShowing

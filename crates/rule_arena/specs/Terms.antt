@@ -29,16 +29,16 @@ abbrev pub AreRoots : Terms → List Key → Type 0
 AreRoots a ks = (i : ℕ) (k : Key) → slice_get ks i ≡ Some k → IsRoot a k
 
 -- no two of these keys have one number
-abbrev pub AreDistinct : List Key → Type 0
-AreDistinct ks = (i j : ℕ) (k m : Key) → slice_get ks i ≡ Some k → slice_get ks j ≡ Some m → k.number ≡ m.number → i ≡ j
+abbrev pub AreDistinctKeys : List Key → Type 0
+AreDistinctKeys ks = (i j : ℕ) (k m : Key) → slice_get ks i ≡ Some k → slice_get ks j ≡ Some m → k.number ≡ m.number → i ≡ j
 
 -- none of these keys has this number
 abbrev pub Apart : List Key → ℕ → Type 0
 Apart ks r = (i : ℕ) (k : Key) → slice_get ks i ≡ Some k → k.number ≢ r
 
 -- how many children a node has
-abbrev pub arity : Node → ℕ
-arity n = n.kids
+abbrev pub kids_of : Node → ℕ
+kids_of n = n.kids
 
 -- a node's key
 abbrev pub key_of : Node → Key
@@ -66,12 +66,12 @@ labelled (n ∷ ns) (suc p) l = n ∷ labelled ns p l
 
 -- the parent of the node at a place of a term, with the place under it from 1 on
 abbrev pub parent_in : List Node → ℕ → Option (Key × ℕ)
-parent_in ns p = get_or (parents arity key_of (None ∷ []) ns) p None
+parent_in ns p = get_or (parents kids_of key_of (None ∷ []) ns) p None
 
 -- the keys of the children of the node at a place
 abbrev pub kids_in : List Node → ℕ → List Key
 kids_in [] p = []
-kids_in (n ∷ ns) zero = map key_of (roots arity n.kids ns)
+kids_in (n ∷ ns) zero = map key_of (roots kids_of n.kids ns)
 kids_in (n ∷ ns) (suc p) = kids_in ns p
 
 -- a term's nodes, or none
@@ -87,6 +87,6 @@ joined a (k ∷ ks) = or_nothing (term_at a k.number) ++ joined a ks
 -- what is true of every arena: a term begins with its root and is one term, a key stands once, and its number is below the limit
 pub record IsSound (a : Terms) : Type 0 where
   pub first : (r : ℕ) (ns : List Node) → term_at a r ≡ Some ns → key_in ns 0 ≡ Some (record { number = r })
-  pub term : (r : ℕ) (ns : List Node) → term_at a r ≡ Some ns → AreTerms arity 1 ns
+  pub term : (r : ℕ) (ns : List Node) → term_at a r ≡ Some ns → AreTerms kids_of 1 ns
   pub once : (key : Key) (x y : At a key) → (x.root ≡ y.root) × (x.place ≡ y.place)
   pub below : (key : Key) → At a key → key.number < a.limit

@@ -1,7 +1,8 @@
 // The arena: linked nodes in slots, seen as terms in preorder.
 ghost use Rattle.std.specs.Prelude.{◌≡◌, ◌≢◌, ◌+◌, ◌^◌, ◌<◌, ◌≤◌, ℕ, None, Some, length, OnOk, IsOk, List, slice_get, ◌∷◌};
 ghost use Rattle.rule_arena.specs.declared.key.Key.{Key};
-ghost use Rattle.rule_arena.specs.Slots.{Standing, Standing-prop, room};
+ghost use Rattle.rule_arena.specs.OneStanding.{Standing-prop};
+ghost use Rattle.rule_arena.specs.Slots.{Standing, room};
 
 use crate::cell::Cell;
 use crate::item::Item;
@@ -42,7 +43,7 @@ impl Model for Arena {
 
 impl Arena {
     ghost use Rattle.rule_arena.specs.Preorder.{with_subterm, subterm};
-    ghost use Rattle.rule_arena.specs.Terms.{Node, Apart, AreDistinct, AreRoots, At, IsRoot, IsSound, arity, joined, key_in, kids_in, labelled, parent_in, term_at};
+    ghost use Rattle.rule_arena.specs.Terms.{Node, Apart, AreDistinctKeys, AreRoots, At, IsRoot, IsSound, kids_of, joined, key_in, kids_in, labelled, parent_in, term_at};
 
     /// An arena with no term. It takes no memory.
     pub fn new(alloc: Global) -> Arena
@@ -98,7 +99,7 @@ impl Arena {
         requires room { 0 < self.old.spare }
         requires few { length kids.now ≤ 8 }
         requires roots { AreRoots self.old kids.now }
-        requires distinct { AreDistinct kids.now }
+        requires distinct { AreDistinctKeys kids.now }
 
         // The key is new.
         ensures vacant { term_at self.old result.number ≡ None }
@@ -172,8 +173,8 @@ impl Arena {
         requires root { IsRoot self.old root }
         requires inner { (x : At self.old at) × ((0 < x.place) × (x.root ≢ root.number)) }
         ensures moved { (x : At self.old at) (ms : List Node) → term_at self.old root.number ≡ Some ms
-            → term_at self.new x.root ≡ Some (with_subterm arity x.nodes x.place ms) }
-        ensures freed { (x : At self.old at) → term_at self.new at.number ≡ Some (subterm arity x.nodes x.place) }
+            → term_at self.new x.root ≡ Some (with_subterm kids_of x.nodes x.place ms) }
+        ensures freed { (x : At self.old at) → term_at self.new at.number ≡ Some (subterm kids_of x.nodes x.place) }
         ensures gone { term_at self.new root.number ≡ None }
         ensures others { (x : At self.old at) (r : ℕ) → r ≢ x.root → r ≢ at.number → r ≢ root.number
             → term_at self.new r ≡ term_at self.old r }

@@ -9,7 +9,7 @@ use std::marker::Model;
 
 // Which label it is.
 #[derive(Clone, Copy, Drop)]
-pub(crate) enum Kind {
+pub(crate) enum LabelKind {
     Bottom,
     Symbol,
     Call,
@@ -22,7 +22,7 @@ pub(crate) struct Cell {
     number: usize,
     up: Key,
     place: u8,
-    kind: Kind,
+    kind: LabelKind,
     kids: Kids,
 }
 
@@ -57,10 +57,10 @@ impl Cell {
         ensures { result ≡ self.now.label }
     {
         match self.kind {
-            Kind::Bottom => Label::Bottom,
-            Kind::Symbol => Label::Symbol(self.number),
-            Kind::Call => Label::Call(self.number),
-            Kind::Param => Label::Param,
+            LabelKind::Bottom => Label::Bottom,
+            LabelKind::Symbol => Label::Symbol(self.number),
+            LabelKind::Call => Label::Call(self.number),
+            LabelKind::Param => Label::Param,
         }
     }
 
@@ -111,13 +111,13 @@ impl Cell {
 }
 
 // A label's kind and number.
-fn split(label: Label) -> (Kind, usize)
+fn split(label: Label) -> (LabelKind, usize)
     ensures { label_of result.0 result.1 ≡ label }
 {
     match label {
-        Label::Bottom => (Kind::Bottom, 0),
-        Label::Symbol(number) => (Kind::Symbol, number),
-        Label::Call(number) => (Kind::Call, number),
-        Label::Param => (Kind::Param, 0),
+        Label::Bottom => (LabelKind::Bottom, 0),
+        Label::Symbol(number) => (LabelKind::Symbol, number),
+        Label::Call(number) => (LabelKind::Call, number),
+        Label::Param => (LabelKind::Param, 0),
     }
 }

@@ -3,7 +3,7 @@ use Rattle.std.proofs.Common.{◌≡◌, ℕ, zero, suc, List, [], ◌∷◌, �
 use Rattle.std.proofs.lemmas.List.{get_or_at}
 use Rattle.rule_arena.specs.declared.label.Label.{Label}
 use Rattle.slt_grammar.specs.Algebras.{Algebra, meanings, meaning, rule_meanings, ranks_of, all_meanings}
-use Rattle.slt_grammar.specs.Terms.{Term, Leaf, substitute, terms, up, holes}
+use Rattle.slt_grammar.specs.Terms.{Term, Leaf, substitute, term_algebra, up, holes}
 use Rattle.slt_grammar.specs.Grammars.{rank_at, value_at}
 use Rattle.slt_grammar.specs.declared.rules.Rule.{Rule}
 use Rattle.slt_grammar.proofs.Meanings.{Carries, meanings-carried, get_or-carried}
@@ -43,13 +43,13 @@ module _ {S T : Type 0} (h : S → T) (A : Algebra S) (B : Algebra T) (bottom : 
   rule_meanings-carried ranks fs gs (R ∷ Rs) c = rule_meanings-carried ranks (fs ++ meaning A ranks fs R.body ∷ []) (gs ++ meaning B ranks gs R.body ∷ []) Rs (carried-push fs gs _ _ c (meaning-carried ranks fs gs R.body c))
 
 -- what an algebra makes of terms carries the terms' meanings to the algebra's
-pub up-carries : {S : Type 0} (A : Algebra S) (G : List Rule) (states : List S) → Carries (λ t. up A t states) terms A (all_meanings terms G) (all_meanings A G)
+pub up-carries : {S : Type 0} (A : Algebra S) (G : List Rule) (states : List S) → Carries (λ t. up A t states) term_algebra A (all_meanings term_algebra G) (all_meanings A G)
 up-carries A G states =
-    carries (λ t. up A t states) terms A refl (λ f a b. refl) (all_meanings terms G) (all_meanings A G)
-    (rule_meanings-carried (λ t. up A t states) terms A refl (λ f a b. refl) (ranks_of G) [] [] G tt)
+    carries (λ t. up A t states) term_algebra A refl (λ f a b. refl) (all_meanings term_algebra G) (all_meanings A G)
+    (rule_meanings-carried (λ t. up A t states) term_algebra A refl (λ f a b. refl) (ranks_of G) [] [] G tt)
 
 -- what an algebra makes of a rule's term over some terms
-pub up-values : {S : Type 0} (A : Algebra S) (states : List S) (G : List Rule) (q : ℕ) (ts : List Term) → up A (get_or (all_meanings terms G) q (λ _. Leaf) ts) states ≡ get_or (all_meanings A G) q (λ _. A.bottom) (map (λ t. up A t states) ts)
+pub up-values : {S : Type 0} (A : Algebra S) (states : List S) (G : List Rule) (q : ℕ) (ts : List Term) → up A (get_or (all_meanings term_algebra G) q (λ _. Leaf) ts) states ≡ get_or (all_meanings A G) q (λ _. A.bottom) (map (λ t. up A t states) ts)
 up-values A states G q ts = (up-carries A G states).rules q ts
 
 pub up-holes : {S : Type 0} (A : Algebra S) (before states : List S) → map (λ t. up A t (before ++ states)) (holes (length before) (length states)) ≡ states
@@ -65,5 +65,5 @@ up-value_at A G r states e =
     up-values A states G r (holes 0 (rank_at G r)) ∙ ap (get_or (all_meanings A G) r (λ _. A.bottom)) (rw (← e) (up-holes A [] states))
 
 -- a rule's term over its arguments is its value with the arguments in the holes
-pub values-substitute : (G : List Rule) (q : ℕ) (kids : List Term) → length kids ≡ rank_at G q → get_or (all_meanings terms G) q (λ _. Leaf) kids ≡ substitute (value_at G q) kids
-values-substitute G q kids n = sym (substitute-up (value_at G q) kids ∙ up-value_at terms G q kids n)
+pub values-substitute : (G : List Rule) (q : ℕ) (kids : List Term) → length kids ≡ rank_at G q → get_or (all_meanings term_algebra G) q (λ _. Leaf) kids ≡ substitute (value_at G q) kids
+values-substitute G q kids n = sym (substitute-up (value_at G q) kids ∙ up-value_at term_algebra G q kids n)

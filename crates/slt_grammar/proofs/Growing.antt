@@ -11,7 +11,7 @@ use Rattle.rule_arena.specs.declared.label.Label.TheVariants.{Bottom}
 use Rattle.rule_arena.proofs.PreorderLemmas.{AreTerms-one, AreTerms-rest, slice_get-left, slice_get-right}
 use Rattle.slt_grammar.specs.Bodies.{arity, IsTerm}
 use Rattle.slt_grammar.specs.Keyed.{labels_of, HasArities}
-use Rattle.slt_grammar.specs.Building.{AreBuilt, Keeps}
+use Rattle.slt_grammar.specs.Building.{AreBuilt, TermsStay}
 use Rattle.slt_grammar.proofs.Scans.{terms-few}
 
 -- these keys were no roots
@@ -84,8 +84,8 @@ module _ (ranks : List ℕ) (a b : Terms) (l : Label) (kids rest : List Key) (la
           omega arith
 
 -- what stood before the body still stands
-module _ (old a b : Terms) (l : Label) (kids rest : List Key) (key : Key) (keeps : Keeps old a) (new : WereNone old (kids ++ rest)) (added : IsAdded a b l kids key) where
-  pub kept-on : Keeps old b
+module _ (old a b : Terms) (l : Label) (kids rest : List Key) (key : Key) (keeps : TermsStay old a) (new : WereNone old (kids ++ rest)) (added : IsAdded a b l kids key) where
+  pub kept-on : TermsStay old b
   kept-on r s =
       added.others r
       (λ h. some_none (term_at old r) s (sym (keeps r s) ∙ ap (λ (m : ℕ). term_at a m) h ∙ added.vacant))
@@ -154,7 +154,7 @@ module _ (ranks : List ℕ) (body : List Label) (a : Terms) (stack : List Key) (
   pub differ-there : (j m : ℕ) (x y : Key) → slice_get (take (top + n - top) (drop top stack)) j ≡ Some x → slice_get (take (top + n - top) (drop top stack)) m ≡ Some y → x.number ≡ y.number → j ≡ m
   differ-there j m x y f g q = S.built.distinct j m x y (slice_get-take (top + n - top) (drop top stack) j x f) (slice_get-take (top + n - top) (drop top stack) m y g) q
 
-  module _ (old b : Terms) (key : Key) (keeps : Keeps old a) (new : WereNone old (drop top stack)) (added : IsAdded a b (get_or body (i - 1) Bottom) (take (top + n - top) (drop top stack)) key) where
+  module _ (old b : Terms) (key : Key) (keeps : TermsStay old a) (new : WereNone old (drop top stack)) (added : IsAdded a b (get_or body (i - 1) Bottom) (take (top + n - top) (drop top stack)) key) where
     stack-is : key ∷ drop (top + n) stack ≡ drop (top + n - 1) (set stack (top + n - 1) key)
     stack-is =
         let m : top + n ≡ top + n - 1 + 1 = omega (arith, some-there) in
@@ -172,7 +172,7 @@ module _ (ranks : List ℕ) (body : List Label) (a : Terms) (stack : List Key) (
         subst (λ (ls : List Label). AreBuilt ranks b (drop (top + n - 1) (set stack (top + n - 1) key)) ls) labels-are
         (subst (λ (ks : List Key). AreBuilt ranks b ks (get_or body (i - 1) Bottom ∷ drop i body)) stack-is g)
 
-    pub keeps-on : Keeps old b
+    pub keeps-on : TermsStay old b
     keeps-on = kept-on old a b (get_or body (i - 1) Bottom) (take (top + n - top) (drop top stack)) (drop (top + n) stack) key keeps (subst (λ (ks : List Key). WereNone old ks) (sym split) new) added
 
     pub new-on : WereNone old (drop (top + n - 1) (set stack (top + n - 1) key))

@@ -6,7 +6,7 @@ use Rattle.rule_arena.specs.declared.key.Key.{Key}
 use Rattle.slt_grammar.specs.Algebras.{ranks_of}
 use Rattle.slt_grammar.specs.Grammars.{rank_at, IsGrammar, whole}
 use Rattle.slt_grammar.specs.Keyed.{Keyed, KeyedRule, IsKeyed, HasArities, nodes_at, key_at, rules_of}
-use Rattle.slt_grammar.specs.Holding.{keyed, IsHeld, IsKept}
+use Rattle.slt_grammar.specs.Holding.{keyed, HaveRoots, IsKept}
 use Rattle.slt_grammar.specs.declared.grammar.StoredRule.{StoredRule}
 
 -- a place of a rule that has a key
@@ -60,7 +60,7 @@ rank-keyed a (S ∷ Rs) zero R h e = ap (λ (x : StoredRule). x.rank) e
 rank-keyed a (S ∷ Rs) (suc r) R h e = rank-keyed a Rs r R (omega arith) e
 
 -- a rule's body begins with its root
-pub root-keyed : (a : Terms) (Rs : List StoredRule) (r : ℕ) (R : StoredRule) → IsHeld a Rs → IsSound a → r < length Rs → R ≡ get_or Rs r R → key_at (keyed a Rs) r 0 ≡ Some R.root
+pub root-keyed : (a : Terms) (Rs : List StoredRule) (r : ℕ) (R : StoredRule) → HaveRoots a Rs → IsSound a → r < length Rs → R ≡ get_or Rs r R → key_at (keyed a Rs) r 0 ≡ Some R.root
 root-keyed a Rs r R H S h e =
     let i : slice_get Rs r ≡ Some R = slice_get_read Rs (length Rs) r R refl h e in
     at (term_at a R.root.number) refl (H.stands r R i) (nodes_of Rs r i)

@@ -2,7 +2,7 @@
 use Rattle.std.proofs.Common.{◌≡◌, ℕ, zero, suc, ◌+◌, ◌<◌, List, [], ◌∷◌, length, Some, None, slice_get, refl, sym, ap, ◌∙◌, subst, arith}
 use Rattle.std.proofs.lemmas.List.{length-map}
 use Rattle.rule_arena.specs.Preorder.{AreTerms}
-use Rattle.rule_arena.specs.Terms.{Node, arity as kids_of, key_in}
+use Rattle.rule_arena.specs.Terms.{Node, kids_of, key_in}
 use Rattle.rule_arena.specs.declared.key.Key.{Key}
 use Rattle.rule_arena.specs.declared.label.Label.{Label}
 use Rattle.rule_arena.proofs.PreorderLemmas.{AreTerms-unmap}

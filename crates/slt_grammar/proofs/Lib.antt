@@ -1,7 +1,7 @@
 pub mod Scans
 pub mod Held
 pub mod KeyedLemmas
-pub mod Counts
+pub mod CallCounts
 pub mod Growing
 pub mod Storing
 pub mod Meanings

@@ -7,15 +7,15 @@ use Rattle.rule_arena.specs.Terms.{Node, Terms, term_at, or_nothing}
 use Rattle.slt_grammar.specs.Algebras.{ranks_of}
 use Rattle.slt_grammar.specs.Grammars.{IsGrammar, no_rule, body_at, rank_at, calls_of, size, whole}
 use Rattle.slt_grammar.specs.Keyed.{KeyedRule, rules_of, labels_of, nodes_at, HasArities}
-use Rattle.slt_grammar.specs.Holding.{keyed, IsHeld, IsKept}
-use Rattle.slt_grammar.specs.Building.{AreBuilt, Keeps}
+use Rattle.slt_grammar.specs.Holding.{keyed, HaveRoots, IsKept}
+use Rattle.slt_grammar.specs.Building.{AreBuilt, TermsStay}
 use Rattle.slt_grammar.proofs.Growing.{some_none}
 use Rattle.slt_grammar.specs.declared.rules.Rule.{Rule}
 use Rattle.slt_grammar.specs.declared.grammar.StoredRule.{StoredRule}
 
 -- the first rules of a list are held, with their calls by a table
 pub record AreStored (G : List Rule) (calls : List ℕ) (r : ℕ) (a : Terms) (Rs : List StoredRule) : Type 0 where
-  pub held : IsHeld a Rs
+  pub held : HaveRoots a Rs
   pub rules : rules_of (keyed a Rs) ≡ take r G
   pub arities : (i : ℕ) → HasArities (ranks_of G) (nodes_at (keyed a Rs) i)
   pub counts : (i : ℕ) (R : StoredRule) → slice_get Rs i ≡ Some R → R.calls ≡ get_or calls i 0
@@ -39,7 +39,7 @@ keyed-same : (a b : Terms) (Rs : List StoredRule) → ((i : ℕ) (R : StoredRule
 keyed-same a b [] same = refl
 keyed-same a b (R ∷ Rs) same = rw (same 0 R refl, keyed-same a b Rs (λ i S e. same (suc i) S e)) refl
 
-module _ (G : List Rule) (calls : List ℕ) (r : ℕ) (a b : Terms) (Rs : List StoredRule) (R : StoredRule) (S : AreStored G calls r a Rs) (h : r < length G) (keeps : Keeps a b)
+module _ (G : List Rule) (calls : List ℕ) (r : ℕ) (a b : Terms) (Rs : List StoredRule) (R : StoredRule) (S : AreStored G calls r a Rs) (h : r < length G) (keeps : TermsStay a b)
     (vacant : term_at a R.root.number ≡ None) (built : AreBuilt (ranks_of G) b (R.root ∷ []) (body_at G r)) (rank : R.rank ≡ rank_at G r) (count : R.calls ≡ get_or calls r 0) where
   same : (i : ℕ) (T : StoredRule) → slice_get Rs i ≡ Some T → term_at b T.root.number ≡ term_at a T.root.number
   same i T e = keeps T.root.number (S.held.stands i T e)

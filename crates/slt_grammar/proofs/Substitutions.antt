@@ -9,7 +9,7 @@ use Rattle.rule_arena.specs.declared.label.Label.TheVariants.{Bottom, Symbol, Ca
 use Rattle.slt_grammar.specs.Bodies.{arity, params, IsTerm}
 use Rattle.slt_grammar.specs.Algebras.{Algebra, meanings}
 use Rattle.slt_grammar.specs.Editing.{put}
-use Rattle.slt_grammar.specs.Terms.{Term, Leaf, Node, Hole, substitute, up, terms as term_algebra}
+use Rattle.slt_grammar.specs.Terms.{Term, Leaf, Node, Hole, substitute, up, term_algebra}
 use Rattle.slt_grammar.proofs.Meanings.{params-append, meanings-append, meanings-whole, only}
 
 -- bodies one after another

@@ -7,7 +7,7 @@ use Rattle.rule_arena.specs.declared.label.Label.{Label}
 use Rattle.rule_arena.specs.declared.label.Label.TheVariants.{Bottom, Call, Param}
 use Rattle.slt_grammar.specs.Bodies.{arity, params, CallsBelow, IsTerm}
 use Rattle.slt_grammar.specs.Algebras.{Algebra, meanings, meaning, rule_meanings, ranks_of, all_meanings}
-use Rattle.slt_grammar.specs.Terms.{Term, Leaf, Hole, substitute, terms, holes, holes_of}
+use Rattle.slt_grammar.specs.Terms.{Term, Leaf, Hole, substitute, term_algebra, holes, holes_of}
 use Rattle.slt_grammar.specs.Grammars.{IsGrammar, body_at, rank_at, value_at, value}
 use Rattle.slt_grammar.specs.Editing.{inlined, with_body, rule_added, shifted}
 use Rattle.slt_grammar.specs.declared.rules.Rule.{Rule}
@@ -24,8 +24,8 @@ pub value_at-inlined : (G : List Rule) (r place q s : ℕ) → IsGrammar G → r
     → value_at (with_body G r (inlined (ranks_of G) (rank_at G q) (body_at G q) (body_at G r) place)) s ≡ value_at G s
 value_at-inlined G r place q s g h p e =
     let body : List Label = inlined (ranks_of G) (rank_at G q) (body_at G q) (body_at G r) place in
-    ap (λ k. get_or (all_meanings terms (with_body G r body)) s (λ _. Leaf) (holes 0 k)) (rank_at-with_body G r body s h)
-    ∙ ap (λ (fs : List (List Term → Term)). get_or fs s (λ _. Leaf) (holes 0 (rank_at G s))) (inlining-keeps terms G r place q g h p e)
+    ap (λ k. get_or (all_meanings term_algebra (with_body G r body)) s (λ _. Leaf) (holes 0 k)) (rank_at-with_body G r body s h)
+    ∙ ap (λ (fs : List (List Term → Term)). get_or fs s (λ _. Leaf) (holes 0 (rank_at G s))) (inlining-keeps term_algebra G r place q g h p e)
 
 pub value-inlined : (G : List Rule) (r place q : ℕ) → IsGrammar G → r < length G → place < length (body_at G r) → get_or (body_at G r) place Bottom ≡ Call q
     → value (with_body G r (inlined (ranks_of G) (rank_at G q) (body_at G q) (body_at G r) place)) ≡ value G
@@ -37,8 +37,8 @@ value-inlined G r place q g h p e =
 pub value_at-added : (G : List Rule) (place : ℕ) (R : Rule) (r : ℕ) → IsGrammar G → place ≤ length G → r < length G → value_at (rule_added G place R) (shifted place r) ≡ value_at G r
 value_at-added G place R r g p h =
     let k : rank_at (rule_added G place R) (shifted place r) ≡ rank_at G r = ap (λ (Q : Rule). Q.rank) (rule-shifted G place R g p r h) in
-    ap (λ j. get_or (all_meanings terms (rule_added G place R)) (shifted place r) (λ _. Leaf) (holes 0 j)) k
-    ∙ ap (λ (f : List Term → Term). f (holes 0 (rank_at G r))) (adding-keeps terms G place R g p r h)
+    ap (λ j. get_or (all_meanings term_algebra (rule_added G place R)) (shifted place r) (λ _. Leaf) (holes 0 j)) k
+    ∙ ap (λ (f : List Term → Term). f (holes 0 (rank_at G r))) (adding-keeps term_algebra G place R g p r h)
 
 pub value-added : (G : List Rule) (place : ℕ) (R : Rule) → IsGrammar G → place < length G → value (rule_added G place R) ≡ value G
 value-added G place R g p =
@@ -98,7 +98,7 @@ module _ (G : List Rule) (g : IsGrammar G) (p : ℕ) (there : p < length (body_a
       (CallsBelow-drop (length G - 1) (span (arity (ranks_of G)) 1 ls) ls (CallsBelow-drop (length G - 1) p (body_at G (length G - 1)) c))
 
   -- the value is the context of the subterm at the place with the subterm's term in its hole
-  pub value-at-place : value G ≡ substitute (context G (front_at G p) (back_at G p)) (meaning terms (ranks_of G) (all_meanings terms G) (subterm (arity (ranks_of G)) (body_at G (length G - 1)) p) [] ∷ [])
+  pub value-at-place : value G ≡ substitute (context G (front_at G p) (back_at G p)) (meaning term_algebra (ranks_of G) (all_meanings term_algebra G) (subterm (arity (ranks_of G)) (body_at G (length G - 1)) p) [] ∷ [])
   value-at-place =
       let ar = arity (ranks_of G) in
       let ls : List Label = body_at G (length G - 1) in
@@ -111,17 +111,17 @@ module _ (G : List Rule) (g : IsGrammar G) (p : ℕ) (there : p < length (body_a
       let ar = arity (ranks_of G) in
       let ls : List Label = body_at G (length G - 1) in
       let t = (AreTerms-with ar 1 ls p (Param ∷ []) (g.each (length G - 1) last_there).shaped.term there tt).1 in
-      let n = length-all_meanings terms G in
-      let c = CallsBelow-le (length G - 1) (length (all_meanings terms G)) (front_at G p ++ (Param ∷ back_at G p)) (omega (arith, n)) calls-around in
+      let n = length-all_meanings term_algebra G in
+      let c = CallsBelow-le (length G - 1) (length (all_meanings term_algebra G)) (front_at G p ++ (Param ∷ back_at G p)) (omega (arith, n)) calls-around in
       let z = no-params in
-      holes_of-meaning (ranks_of G) (all_meanings terms G) (values-in_order G g) (front_at G p ++ (Param ∷ back_at G p)) (holes 0 1) t c (omega (arith, params-append (front_at G p) (Param ∷ back_at G p), z.0, z.1))
+      holes_of-meaning (ranks_of G) (all_meanings term_algebra G) (values-in_order G g) (front_at G p ++ (Param ∷ back_at G p)) (holes 0 1) t c (omega (arith, params-append (front_at G p) (Param ∷ back_at G p), z.0, z.1))
 
   -- with another term at the place the rules are a grammar, and the value is the same context with that term in its hole
   pub grammar-with_start : (ys : List Label) → CallsBelow (length G - 1) ys → IsTerm (ranks_of G) ys → params ys ≡ 0 → IsGrammar (with_start G p ys)
   grammar-with_start ys c t e = grammar-with_subterm G (length G - 1) p ys g last_there there c t (e ∙ sym no-params.2)
 
   pub value-with_start : (ys : List Label) → CallsBelow (length G - 1) ys → IsTerm (ranks_of G) ys → params ys ≡ 0
-      → value (with_start G p ys) ≡ substitute (context G (front_at G p) (back_at G p)) (meaning terms (ranks_of G) (all_meanings terms G) ys [] ∷ [])
+      → value (with_start G p ys) ≡ substitute (context G (front_at G p) (back_at G p)) (meaning term_algebra (ranks_of G) (all_meanings term_algebra G) ys [] ∷ [])
   value-with_start ys c t e =
       let last : ℕ = length G - 1 in
       let body : List Label = with_subterm (arity (ranks_of G)) (body_at G last) p ys in
@@ -132,7 +132,7 @@ module _ (G : List Rule) (g : IsGrammar G) (p : ℕ) (there : p < length (body_a
       ap (λ k. body_at (with_start G p ys) (k - 1)) n ∙ body_at-with_body G last body last_there in
       let r = ranks-with_body G last body last_there in
       let cut = value-cut (with_start G p ys) (grammar-with_start ys c t e) front ys back b (rw r t) in
-      let m = meanings-other terms G last body (holes 0 1) (front ++ (Param ∷ back)) [] last_there calls-around in
-      let k = meanings-other terms G last body [] ys [] last_there c in
-      cut ∙ ap (λ ms. substitute (get_or ms 0 Leaf) (meaning terms (ranks_of (with_start G p ys)) (all_meanings terms (with_start G p ys)) ys [] ∷ [])) m
+      let m = meanings-other term_algebra G last body (holes 0 1) (front ++ (Param ∷ back)) [] last_there calls-around in
+      let k = meanings-other term_algebra G last body [] ys [] last_there c in
+      cut ∙ ap (λ ms. substitute (get_or ms 0 Leaf) (meaning term_algebra (ranks_of (with_start G p ys)) (all_meanings term_algebra (with_start G p ys)) ys [] ∷ [])) m
       ∙ ap (λ ms. substitute (context G front back) (get_or ms 0 Leaf ∷ [])) k

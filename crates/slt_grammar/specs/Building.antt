@@ -16,5 +16,5 @@ pub record AreBuilt (ranks : List ℕ) (a : Terms) (keys : List Key) (labels : L
   pub terms : AreTerms (arity ranks) (length keys) labels
 
 -- the terms that stood before stand as they were
-abbrev pub Keeps : Terms → Terms → Type 0
-Keeps a b = (r : ℕ) → IsSome (term_at a r) → term_at b r ≡ term_at a r
+abbrev pub TermsStay : Terms → Terms → Type 0
+TermsStay a b = (r : ℕ) → IsSome (term_at a r) → term_at b r ≡ term_at a r

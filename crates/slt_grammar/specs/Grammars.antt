@@ -3,7 +3,7 @@ use Rattle.std.specs.Prelude.{◌≡◌, ℕ, ◌+◌, ◌-◌, ◌<◌, ◌≤�
 use Rattle.rule_arena.specs.declared.label.Label.{Label}
 use Rattle.slt_grammar.specs.Bodies.{IsTerm, params, real_nodes, CallsBelow, calls_in}
 use Rattle.slt_grammar.specs.Algebras.{ranks_of, all_meanings}
-use Rattle.slt_grammar.specs.Terms.{Term, Leaf, terms, holes}
+use Rattle.slt_grammar.specs.Terms.{Term, Leaf, term_algebra, holes}
 use Rattle.slt_grammar.specs.declared.rules.Rule.{Rule}
 
 -- where no rule is
@@ -50,7 +50,7 @@ whole G = sum_by (λ R. length R.body) G
 
 -- the term of a rule once all calls are replaced, with a hole for each parameter
 abbrev pub value_at : List Rule → ℕ → Term
-value_at G r = get_or (all_meanings terms G) r (λ _. Leaf) (holes 0 (rank_at G r))
+value_at G r = get_or (all_meanings term_algebra G) r (λ _. Leaf) (holes 0 (rank_at G r))
 
 -- what the grammar stands for: the value of the last rule
 abbrev pub value : List Rule → Term

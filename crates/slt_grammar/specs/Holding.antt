@@ -11,13 +11,13 @@ abbrev pub keyed : Terms → List StoredRule → List KeyedRule
 keyed a = map (λ R. record { rank = R.rank; nodes = or_nothing (term_at a R.root.number) })
 
 -- each rule's root stands, and no two rules share one
-pub record IsHeld (a : Terms) (Rs : List StoredRule) : Type 0 where
+pub record HaveRoots (a : Terms) (Rs : List StoredRule) : Type 0 where
   pub stands : (i : ℕ) (R : StoredRule) → slice_get Rs i ≡ Some R → IsSome (term_at a R.root.number)
   pub distinct : (i j : ℕ) (R S : StoredRule) → slice_get Rs i ≡ Some R → slice_get Rs j ≡ Some S → R.root.number ≡ S.root.number → i ≡ j
 
 -- the rules are held and are a grammar, and what is counted is right
 pub record IsKept (a : Terms) (Rs : List StoredRule) (nodes : ℕ) : Type 0 where
-  pub held : IsHeld a Rs
+  pub held : HaveRoots a Rs
   pub grammar : IsGrammar (rules_of (keyed a Rs))
   pub arities : (r : ℕ) → HasArities (ranks_of (rules_of (keyed a Rs))) (nodes_at (keyed a Rs) r)
   pub few : whole (rules_of (keyed a Rs)) < 2 ^ 63

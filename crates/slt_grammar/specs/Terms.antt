@@ -25,8 +25,8 @@ holes_of (Node f a b) = holes_of a ++ holes_of b
 holes_of (Hole i) = Hole i ∷ []
 
 -- terms as meanings
-abbrev pub terms : Algebra Term
-terms = record { bottom = Leaf; node = Node }
+abbrev pub term_algebra : Algebra Term
+term_algebra = record { bottom = Leaf; node = Node }
 
 -- what an algebra makes of a term, with meanings for its holes
 abbrev pub up : {S : Type 0} → Algebra S → Term → List S → S

@@ -3,7 +3,7 @@ ghost use Rattle.std.specs.Prelude.{◌≡◌, ◌+◌, ◌≤◌, ℕ, [], ◌�
 ghost use Rattle.rule_arena.specs.Terms.{term_at};
 ghost use Rattle.slt_grammar.specs.Algebras.{ranks_of};
 ghost use Rattle.slt_grammar.specs.Bodies.{IsTerm};
-ghost use Rattle.slt_grammar.specs.Building.{AreBuilt, Keeps};
+ghost use Rattle.slt_grammar.specs.Building.{AreBuilt, TermsStay};
 
 use crate::bodies::arity_of;
 use crate::rules::Rule;
@@ -22,7 +22,7 @@ pub(crate) fn build_body(
     requires stack { length body.now ≤ length stack.old }
     ensures vacant { term_at arena.old result.number ≡ None }
     ensures built { AreBuilt (ranks_of rules.now) arena.new (result ∷ []) body.now }
-    ensures keeps { Keeps arena.old arena.new }
+    ensures keeps { TermsStay arena.old arena.new }
     ensures spare { arena.new.spare + length body.now ≡ arena.old.spare }
 {
     // From the end on: the roots of the terms so far lie in the stack from `top` on, the first one first.

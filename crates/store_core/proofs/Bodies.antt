@@ -9,36 +9,36 @@ use Rattle.rule_arena.specs.declared.label.Label.{Label}
 use Rattle.rule_arena.specs.declared.label.Label.TheVariants.{Bottom, Symbol, Call, Param}
 use Rattle.rule_arena.specs.Preorder.{AreTerms}
 use Rattle.slt_grammar.specs.Bodies.{arity, params, CallsBelow}
-use Rattle.slt_grammar.specs.Terms.{Term, Leaf, Node, terms, holes}
+use Rattle.slt_grammar.specs.Terms.{Term, Leaf, Node, term_algebra, holes}
 use Rattle.slt_grammar.specs.Algebras.{meanings}
 use Rattle.slt_grammar.specs.Grammars.{IsGrammar, body_at, value}
 use Rattle.slt_grammar.specs.Keyed.{rules_of}
 use Rattle.slt_grammar.specs.Coding.{Codes}
 use Rattle.slt_grammar.specs.declared.rules.Rule.{Rule}
-use Rattle.fcns_encoding.specs.Labels.{labels_of}
+use Rattle.fcns_encoding.specs.Labels.{term_labels}
 use Rattle.xml_profile.specs.Pen.{calls_all, document_calls}
 use Rattle.xml_profile.specs.Saved.{saved_bytes}
 use Rattle.xml_profile.proofs.Written.{calls-save_document}
-use Rattle.store_core.specs.Worlds.{Parts, StandFor, AreHeld}
+use Rattle.store_core.specs.Worlds.{Parts, PartsStandFor, AreLawfulParts}
 use Rattle.store_core.specs.StoreOf.{parts_of, start_text}
 use Rattle.store_core.specs.declared.store.Store.{Store}
-use Rattle.store_core.specs.Saving.{calls_of, body_text}
+use Rattle.store_core.specs.Saving.{body_calls, body_text}
 
 -- the labels of terms, one after another
 abbrev pub labels_all : List Term → List Label
 labels_all [] = []
-labels_all (t ∷ ts) = labels_of t ++ labels_all ts
+labels_all (t ∷ ts) = term_labels t ++ labels_all ts
 
 pair_labels : (f n : ℕ) (all : List Term) → length all ≡ suc (suc n)
     → (labels_all (Node f (get_or (take 2 all) 0 Leaf) (get_or (take 2 all) 1 Leaf) ∷ drop 2 all) ≡ Symbol f ∷ labels_all all) × (length (drop 2 all) ≡ n)
 pair_labels f n [] e = absurd (omega arith)
 pair_labels f n (a ∷ []) e = absurd (omega arith)
-pair_labels f n (a ∷ b ∷ ts) e = (ap (λ ls. Symbol f ∷ ls) (append_assoc (labels_of a) (labels_of b) (labels_all ts)), omega arith)
+pair_labels f n (a ∷ b ∷ ts) e = (ap (λ ls. Symbol f ∷ ls) (append_assoc (term_labels a) (term_labels b) (labels_all ts)), omega arith)
 
 -- labels without calls and parameters are those of the terms that they mean
 module _ (ranks : List ℕ) (fs : List (List Term → Term)) (args : List Term) where
   meant : (n : ℕ) (ls : List Label) → AreTerms (arity ranks) n ls → CallsBelow 0 ls → params ls ≡ 0
-      → (labels_all (meanings terms ranks fs args ls []) ≡ ls) × (length (meanings terms ranks fs args ls []) ≡ n)
+      → (labels_all (meanings term_algebra ranks fs args ls []) ≡ ls) × (length (meanings term_algebra ranks fs args ls []) ≡ n)
   meant zero [] are below linear = (refl, refl)
   meant zero (l ∷ ls) are below linear = absurd are
   meant (suc n) [] are below linear = absurd are
@@ -47,44 +47,44 @@ module _ (ranks : List ℕ) (fs : List (List Term → Term)) (args : List Term) 
       (ap (λ ls. Bottom ∷ ls) rest.0, omega (arith, rest.1))
   meant (suc n) (Symbol f ∷ ls) are below linear =
       let rest = meant (2 + n) ls are below linear in
-      let all = meanings terms ranks fs args ls [] in
+      let all = meanings term_algebra ranks fs args ls [] in
       let many : length all ≡ suc (suc n) = omega (arith, rest.1) in
       let pair = pair_labels f n all many in
       (pair.0 ∙ ap (λ ls. Symbol f ∷ ls) rest.0, omega (arith, pair.1))
   meant (suc n) (Call q ∷ ls) are below linear = absurd (omega (arith, below.0))
   meant (suc n) (Param ∷ ls) are below linear = absurd (omega arith)
 
-only_labels : (ms : List Term) (body : List Label) → labels_all ms ≡ body → length ms ≡ 1 → body ≡ labels_of (get_or ms 0 Leaf)
+only_labels : (ms : List Term) (body : List Label) → labels_all ms ≡ body → length ms ≡ 1 → body ≡ term_labels (get_or ms 0 Leaf)
 only_labels [] body e one = absurd (omega arith)
-only_labels (m ∷ []) body e one = sym e ∙ append-nil (labels_of m)
+only_labels (m ∷ []) body e one = sym e ∙ append-nil (term_labels m)
 only_labels (m ∷ k ∷ ms) body e one = absurd (omega arith)
 
 -- the body of one rule has the labels of the grammar's value
-body-labels : (G : List Rule) → length G ≡ 1 → IsGrammar G → body_at G (length G - 1) ≡ labels_of (value G)
+body-labels : (G : List Rule) → length G ≡ 1 → IsGrammar G → body_at G (length G - 1) ≡ term_labels (value G)
 body-labels [] one is = absurd (omega arith)
 body-labels (R ∷ []) one is =
     let lawful = is.each 0 (omega arith) in
     let none : params R.body ≡ 0 = lawful.linear ∙ lawful.shaped.start refl in
     let m = meant (R.rank ∷ []) [] (holes 0 R.rank) 1 R.body lawful.shaped.term lawful.earlier none in
-    only_labels (meanings terms (R.rank ∷ []) [] (holes 0 R.rank) R.body []) R.body m.0 m.1
+    only_labels (meanings term_algebra (R.rank ∷ []) [] (holes 0 R.rank) R.body []) R.body m.0 m.1
 body-labels (R ∷ S ∷ G) one is = absurd (omega arith)
 
 module _ (names : List (Kind × List ℕ)) where
   -- the labels of a coded list of elements ask for their calls, and the bottom behind them for what it asked for before
   coded_calls : (ts : Trees) (term : Term) (outer : List ℕ) (rest : List Label) → Codes names ts term → AreElementTrees ts
-      → calls_of names outer (labels_of term ++ rest) ≡ calls_all ts (calls_of names outer (Bottom ∷ rest))
+      → body_calls names outer (term_labels term ++ rest) ≡ calls_all ts (body_calls names outer (Bottom ∷ rest))
   coded_calls none term outer rest code are = rw code refl
   coded_calls (more (node Element n v ks) ts) term outer rest code are =
       let f = code.0 in
       let below = code.1 in
       let behind = code.2 in
-      let kids = coded_calls ks below (f ∷ outer) (labels_of behind ++ rest) code.4 are.0.3 in
+      let kids = coded_calls ks below (f ∷ outer) (term_labels behind ++ rest) code.4 are.0.3 in
       let others = coded_calls ts behind outer rest code.5 are.1 in
-      rw (code.6, code.3, append_assoc (labels_of below) (labels_of behind) rest, kids, code.3, others) refl
+      rw (code.6, code.3, append_assoc (term_labels below) (term_labels behind) rest, kids, code.3, others) refl
   coded_calls (more (node _ n v ks) ts) term outer rest code are = cc
 
   -- the labels of a document's code ask for the document's calls
-  document_code : (t : Tree) (term : Term) → IsDocument t → Codes names (more t none) term → calls_of names [] (labels_of term) ≡ document_calls t
+  document_code : (t : Tree) (term : Term) → IsDocument t → Codes names (more t none) term → body_calls names [] (term_labels term) ≡ document_calls t
   document_code t term is code =
       let whole : Codes names (more (node Document [] [] (more is.root none)) none) term = rw is.is at code in
       let f = whole.0 in
@@ -93,13 +93,13 @@ module _ (names : List (Kind × List ℕ)) where
       rw (is.is, whole.6, whole.3, whole.5, kids, whole.3) refl
 
 -- what is written of the one rule's body is the document's saved bytes
-pub body_saves : (parts : Parts) (t : Tree) → length parts.rules ≡ 1 → IsGrammar parts.rules → StandFor parts t
+pub body_saves : (parts : Parts) (t : Tree) → length parts.rules ≡ 1 → IsGrammar parts.rules → PartsStandFor parts t
     → body_text parts.names (body_at parts.rules (length parts.rules - 1)) ≡ saved_bytes t
 body_saves parts t one is stand =
     rw (body-labels parts.rules one is, document_code parts.names t (value parts.rules) stand.document stand.code) (calls-save_document t)
 
 -- and so is what is written of a store's start
-pub start_saves : (s : Store) → (held : AreHeld (parts_of s)) → (t : Tree) → StandFor (parts_of s) t → start_text s ≡ saved_bytes t
+pub start_saves : (s : Store) → (held : AreLawfulParts (parts_of s)) → (t : Tree) → PartsStandFor (parts_of s) t → start_text s ≡ saved_bytes t
 start_saves s held t stand =
     let same : length (rules_of s.grammar.rules) ≡ length s.grammar.rules = length-map s.grammar.rules _ in
     rw (← same) (body_saves (parts_of s) t held.one held.grammar stand)

@@ -4,10 +4,10 @@ use Rattle.std.proofs.Common.{ap, subst, arith}
 use Rattle.std.proofs.lemmas.List.{length-replicate}
 use Rattle.std.specs.FinMap.{get}
 use Rattle.tree_outside.specs.Files.{Told}
-use Rattle.tree_outside.specs.Shelf.{Goes, opened}
+use Rattle.tree_outside.specs.Shelf.{Becomes, file_opened}
 use Rattle.store_core.specs.Acts.{Load}
 use Rattle.store_core.specs.Worlds.{State, World, HasFile, HasNoFile, world}
-use Rattle.store_core.specs.Refusals.{IsReady, ReadsFile, Cause}
+use Rattle.store_core.specs.Refusals.{IsReady, IsInput, Cause}
 use Rattle.store_core.specs.Stopping.{StopsReading, refusal_of}
 use Rattle.plain_tree.specs.Tree.{Tree}
 use Rattle.xml_profile.specs.Spelling.{Spells}
@@ -55,8 +55,8 @@ some_long n = let zero : ℕ = 0 in (replicate n zero, omega (arith, length-repl
 
 -- a file that gave so many bytes is a long one
 long_file :
-    (old opening : Option Told) (name : List ℕ) (state : State) (count : ℕ) → Finds old name true → Goes old opening (opened name)
-    → IfSome opening (λ t. 2 ^ 30 ≤ length t.left) → (bytes : List ℕ) × ReadsFile (Load name) (world state old count) bytes × (2 ^ 30 ≤ length bytes)
+    (old opening : Option Told) (name : List ℕ) (state : State) (count : ℕ) → Finds old name true → Becomes old opening (file_opened name)
+    → IfSome opening (λ t. 2 ^ 30 ≤ length t.left) → (bytes : List ℕ) × IsInput (Load name) (world state old count) bytes × (2 ^ 30 ≤ length bytes)
 long_file None opening name state count finds opens left =
     let some = some_long (2 ^ 30) in
     (some.0, record { name = name; reads = refl; file = tt }, some.1)
@@ -67,7 +67,7 @@ long_file (Some t) opening name state count finds opens left =
 
 -- a file that was found and is not read to its end is a cause to refuse the loading
 pub stops_loading :
-    (refusal : Refusal) (old opening : Option Told) (name : List ℕ) (state : State) (count before now : ℕ) (new : World) → Finds old name true → Goes old opening (opened name)
+    (refusal : Refusal) (old opening : Option Told) (name : List ℕ) (state : State) (count before now : ℕ) (new : World) → Finds old name true → Becomes old opening (file_opened name)
     → count ≤ before → now ≤ new.count → StopsReading refusal opening before now → Cause refusal (Load name) (world state old count) new
 stops_loading no.NoDocument old opening name state count before now new finds opens b n stops = absurd stops
 stops_loading no.ReadFault old opening name state count before now new finds opens b n stops = (refl, omega (arith, stops))

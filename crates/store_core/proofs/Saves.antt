@@ -7,17 +7,17 @@ use Rattle.rule_arena.specs.declared.label.Label.{Label}
 use Rattle.rule_arena.specs.declared.key.Key.{Key}
 use Rattle.rule_arena.specs.Terms.{Node, key_in}
 use Rattle.slt_grammar.specs.Grammars.{body_at, whole}
-use Rattle.slt_grammar.proofs.Counts.{calls-room}
+use Rattle.slt_grammar.proofs.CallCounts.{calls-room}
 use Rattle.slt_grammar.specs.Keyed.{KeyedRule, labels_of, rules_of, nodes_at}
-use Rattle.xml_profile.specs.Pen.{Call, Pen, call_text, text_of, new_pen}
+use Rattle.xml_profile.specs.Pen.{Call, Pen, call_text, calls_text, new_pen}
 use Rattle.std.specs.Option.{option_map_or}
-use Rattle.store_core.specs.Saving.{name_of, call_at, open_after, with_call, calls_of, body_text, depth_of, text_at, pen_past, count_past}
+use Rattle.store_core.specs.Saving.{name_of, call_at, open_after, with_call, body_calls, body_text, depth_of, text_at, pen_past, count_past}
 use Rattle.store_core.proofs.Sinks.{Gets-nil, Gets-append}
 
 -- one call, and then the others
-pub text_of-with_call : (pen : Pen) (call : Option Call) (cs : List Call) → text_of pen (with_call call cs) ≡ text_at pen call ++ text_of (pen_past pen call) cs
-text_of-with_call pen None cs = refl
-text_of-with_call pen (Some call) cs = refl
+pub calls_text-with_call : (pen : Pen) (call : Option Call) (cs : List Call) → calls_text pen (with_call call cs) ≡ text_at pen call ++ calls_text (pen_past pen call) cs
+calls_text-with_call pen None cs = refl
+calls_text-with_call pen (Some call) cs = refl
 
 -- The labels before the place were written, with so many steps, and the labels from there on give the other bytes.
 pub record IsWriting (names : List (Kind × List ℕ)) (nodes : List Node) (next : Option Key) (steps_before steps : ℕ) (outer : List ℕ) (pen : Pen) (count : ℕ) (before now : Option (List ℕ)) : Type 0 where
@@ -27,7 +27,7 @@ pub record IsWriting (names : List (Kind × List ℕ)) (nodes : List Node) (next
   pub taken : steps ≡ steps_before + 2 * place
   pub done : List ℕ
   pub got : Gets before now done
-  pub whole : done ++ text_of pen (calls_of names outer (drop place (labels_of nodes))) ≡ body_text names (labels_of nodes)
+  pub whole : done ++ calls_text pen (body_calls names outer (drop place (labels_of nodes))) ≡ body_text names (labels_of nodes)
   pub counts : count ≡ length done
   pub room : count ≤ 2 ^ 64 * place
   pub depth : pen.depth ≡ depth_of names outer
@@ -105,8 +105,8 @@ module _ (names : List (Kind × List ℕ)) (nodes : List Node) (steps_before : �
         got = Gets-append before mid now w.done text w.got got;
         whole =
             rw opened
-            (append_assoc w.done text (text_of (pen_past pen call) (calls_of names (open_after outer n.label) (drop (w.place + 1) (labels_of nodes))))
-            ∙ rw (labels_from nodes w.place n node, text_of-with_call pen call (calls_of names (open_after outer n.label) (drop (w.place + 1) (labels_of nodes)))) at w.whole);
+            (append_assoc w.done text (calls_text (pen_past pen call) (body_calls names (open_after outer n.label) (drop (w.place + 1) (labels_of nodes))))
+            ∙ rw (labels_from nodes w.place n node, calls_text-with_call pen call (body_calls names (open_after outer n.label) (drop (w.place + 1) (labels_of nodes)))) at w.whole);
         counts = counts;
         room = omega (arith, w.room, w.counts, counts, length-append w.done text);
         depth = depth;

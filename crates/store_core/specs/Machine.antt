@@ -9,7 +9,7 @@ use Rattle.slt_grammar.specs.Grammars.{size}
 use Rattle.fcns_encoding.specs.Interning.{Interns, pairs_of_tree}
 use Rattle.grammar_file.specs.FileBytes.{file_bytes}
 use Rattle.store_core.specs.Acts.{Act, Load, Save, SaveGrammar}
-use Rattle.store_core.specs.Worlds.{Parts, StandFor, World, Same, HasFile}
+use Rattle.store_core.specs.Worlds.{Parts, PartsStandFor, World, Same, HasFile}
 use Rattle.store_core.specs.Texts.{answer_line, refusal_line}
 use Rattle.store_core.specs.Refusals.{Cause}
 use Rattle.store_core.specs.declared.answer.Answer.{Answer}
@@ -18,7 +18,7 @@ use Rattle.store_core.specs.declared.answer.Refusal.{Refusal}
 
 -- what a loading makes of a document: names in the order of their first nodes, and a grammar of one rule
 pub record Encodes (tree : Tree) (parts : Parts) : Type 0 where
-  pub stand : StandFor parts tree
+  pub stand : PartsStandFor parts tree
   pub names : Interns [] (pairs_of_tree tree) parts.names
   pub one : length parts.rules ≡ 1
 
@@ -45,7 +45,7 @@ pub record Saves (name : List ℕ) (old : World) (out : List ℕ) (new : World) 
   pub parts : Parts
   pub tree : Tree
   pub held : old.state ≡ Some parts
-  pub stand : StandFor parts tree
+  pub stand : PartsStandFor parts tree
   pub written : WritesFile name (saved_bytes tree) old new
   pub printed : out ≡ answer_line (ok.Bytes (length (saved_bytes tree)))
 

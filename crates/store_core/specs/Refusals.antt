@@ -14,7 +14,7 @@ pub record IsReady (act : Act) (old : World) : Type 0 where
   pub file : (name : List ℕ) → file_read act ≡ Some name → (bytes : List ℕ) × HasFile old name bytes
 
 -- these are the bytes of the file that the command reads
-pub record ReadsFile (act : Act) (old : World) (bytes : List ℕ) : Type 0 where
+pub record IsInput (act : Act) (old : World) (bytes : List ℕ) : Type 0 where
   pub name : List ℕ
   pub reads : file_read act ≡ Some name
   pub file : HasFile old name bytes
@@ -24,6 +24,6 @@ Cause no.NoDocument act old new = IsTrue (needs_document act) × IsNone old.stat
 Cause no.ReadFault act old new = IsSome (file_read act) × Rose old.count new.count
 Cause no.NoFile act old new = (name : List ℕ) × (file_read act ≡ Some name) × HasNoFile old name
 Cause no.WriteFault act old new = IsTrue (writes_file act) × IsReady act old × Rose old.count new.count
-Cause no.LongFile act old new = (bytes : List ℕ) × ReadsFile act old bytes × (2 ^ 30 ≤ length bytes)
-Cause no.BadXml act old new = (bytes : List ℕ) × ReadsFile act old bytes × (length bytes < 2 ^ 30) × ((tree : Tree) → Spells bytes tree → ⊥)
+Cause no.LongFile act old new = (bytes : List ℕ) × IsInput act old bytes × (2 ^ 30 ≤ length bytes)
+Cause no.BadXml act old new = (bytes : List ℕ) × IsInput act old bytes × (length bytes < 2 ^ 30) × ((tree : Tree) → Spells bytes tree → ⊥)
 Cause no.Memory act old new = IsReady act old

@@ -5,7 +5,7 @@ use Rattle.plain_tree.specs.declared.kind.Kind.{Kind}
 use Rattle.plain_tree.specs.declared.kind.Kind.TheVariants.{Document, Element, Attribute, Text, Comment, Instruction}
 use Rattle.rule_arena.specs.declared.label.Label.{Label}
 use Rattle.rule_arena.specs.declared.label.Label.TheVariants.{Bottom, Symbol, Call as CallOf, Param}
-use Rattle.xml_profile.specs.Pen.{Call, Open, Close, Pen, call_text, pen_after, new_pen, text_of}
+use Rattle.xml_profile.specs.Pen.{Call, Open, Close, Pen, call_text, pen_after, new_pen, calls_text}
 use Rattle.xml_profile.specs.WriterOf.{counted}
 
 -- the name of an element; no other kind of node is written, as yet
@@ -47,13 +47,13 @@ with_call None cs = cs
 with_call (Some c) cs = c ∷ cs
 
 -- the calls for labels in preorder
-abbrev pub calls_of : List (Kind × List ℕ) → List ℕ → List Label → List Call
-calls_of names outer [] = []
-calls_of names outer (l ∷ ls) = with_call (call_at names outer l) (calls_of names (open_after outer l) ls)
+abbrev pub body_calls : List (Kind × List ℕ) → List ℕ → List Label → List Call
+body_calls names outer [] = []
+body_calls names outer (l ∷ ls) = with_call (call_at names outer l) (body_calls names (open_after outer l) ls)
 
 -- what is written of a body
 abbrev pub body_text : List (Kind × List ℕ) → List Label → List ℕ
-body_text names body = text_of (new_pen true) (calls_of names [] body)
+body_text names body = calls_text (new_pen true) (body_calls names [] body)
 
 -- how many of the symbols are elements
 abbrev pub depth_of : List (Kind × List ℕ) → List ℕ → ℕ

@@ -17,13 +17,13 @@ pub record Parts : Type 0 where
   pub texts : List (List ℕ)
 
 -- the parts stand for the document
-abbrev pub StandFor : Parts → Tree → Type 0
-StandFor parts t = StandsFor parts.rules parts.names parts.texts t
+abbrev pub PartsStandFor : Parts → Tree → Type 0
+PartsStandFor parts t = StandsFor parts.rules parts.names parts.texts t
 
 -- the rules are a swept grammar, and the parts stand for a document of fewer than 2^63 nodes
-pub record AreHeld (parts : Parts) : Type 0 where
+pub record AreLawfulParts (parts : Parts) : Type 0 where
   pub tree : Tree
-  pub stand : StandFor parts tree
+  pub stand : PartsStandFor parts tree
   pub small : node_count tree < 2 ^ 63
   pub grammar : IsGrammar parts.rules
   pub swept : IsSwept parts.rules
@@ -34,8 +34,8 @@ pub record AreHeld (parts : Parts) : Type 0 where
 abbrev pub State : Type 0
 State = Option Parts
 
-abbrev pub IsHeld : State → Type 0
-IsHeld state = IfSome state AreHeld
+abbrev pub IsLawfulState : State → Type 0
+IsLawfulState state = IfSome state AreLawfulParts
 
 -- the session's state, the shelf's files where it tells them, and the count of its faults
 pub record World : Type 0 where
@@ -43,11 +43,11 @@ pub record World : Type 0 where
   pub files : Option Files
   pub count : ℕ
 
-abbrev pub files_of : Option Told → Option Files
-files_of told = option_map (λ t. t.files) told
+abbrev pub told_files : Option Told → Option Files
+told_files told = option_map (λ t. t.files) told
 
 abbrev pub world : State → Option Told → ℕ → World
-world state told count = record { state = state; files = files_of told; count = count }
+world state told count = record { state = state; files = told_files told; count = count }
 
 -- state and files are as before
 pub record Same (old new : World) : Type 0 where

@@ -73,11 +73,11 @@ pub(crate) fn write_line<K: Sink>(
         Ok(Answer::Nodes(count)) => write_count(b"ok nodes ", count, sink),
         Ok(Answer::Bytes(count)) => write_count(b"ok bytes ", count, sink),
         Ok(Answer::Grammar { rules, size, bytes }) => write_grammar(rules, size, bytes, sink),
-        Err(refusal) => sink.write(text_of(refusal)),
+        Err(refusal) => sink.write(refusal_text(refusal)),
     }
 }
 
-fn text_of(refusal: Refusal) -> &'static [u8]
+fn refusal_text(refusal: Refusal) -> &'static [u8]
     ensures { result.now ≡ refusal_line refusal }
 {
     match refusal {

@@ -8,7 +8,7 @@ ghost use Rattle.plain_tree.specs.Documents.{IsDocument};
 ghost use Rattle.store_core.specs.Acts as act;
 ghost use Rattle.slt_grammar.specs.Grammars.{IsGrammar, IsSwept};
 ghost use Rattle.slt_grammar.specs.Keyed.{rules_of};
-ghost use Rattle.store_core.specs.Worlds.{State, AreHeld, HasFile, files_of, world};
+ghost use Rattle.store_core.specs.Worlds.{State, AreLawfulParts, HasFile, told_files, world};
 ghost use Rattle.store_core.specs.StoreOf.{parts_of};
 ghost use Rattle.store_core.specs.Refusals.{Cause};
 ghost use Rattle.store_core.specs.Stopping.{StopsReading};
@@ -33,7 +33,7 @@ const PIECE: usize = 1 << 16;
 
 /// A document that was read, and the count of its nodes.
 #[derive(Drop)]
-pub(crate) struct Loaded {
+pub(crate) struct ReadDocument {
     pub store: Store,
     pub count: u64,
 }
@@ -43,12 +43,12 @@ pub(crate) fn load_document<F: Shelf>(
     alloc: Global,
     name: &str,
     shelf: &mut F,
-) -> Result<Loaded, Refusal>
+) -> Result<ReadDocument, Refusal>
     ensures later { F.faults shelf.old ≤ F.faults shelf.new }
-    ensures files { Stays (files_of (F.told shelf.old)) (files_of (F.told shelf.new)) }
+    ensures files { Stays (told_files (F.told shelf.old)) (told_files (F.told shelf.new)) }
     ensures loads { IfOk result (λ l. (state : State)
         → Loads name.now (world state (F.told shelf.old) (F.faults shelf.old)) (answer_line (Answer.Nodes l.count)) (world (Some (parts_of l.store)) (F.told shelf.new) (F.faults shelf.new))) }
-    ensures held { IfOk result (λ l. AreHeld (parts_of l.store)) }
+    ensures held { IfOk result (λ l. AreLawfulParts (parts_of l.store)) }
     ensures refused { IfErr result (λ refusal. (state : State)
         → Cause refusal (act.Load name.now) (world state (F.told shelf.old) (F.faults shelf.old)) (world state (F.told shelf.new) (F.faults shelf.new))) }
 {
@@ -56,7 +56,7 @@ pub(crate) fn load_document<F: Shelf>(
     let document = read_document(alloc, &bytes)?;
     let count = count_nodes(alloc, &document)?;
     let store = store_of(alloc, &document)?;
-    Ok(Loaded { store, count })
+    Ok(ReadDocument { store, count })
 }
 
 // The document as a grammar of one rule. It is refused only for want of memory.
@@ -88,7 +88,7 @@ fn store_of(alloc: Global, document: &Node) -> Result<Store, AllocError>
 // The bytes of the file with this name, which are fewer than the limit.
 fn read_file<F: Shelf>(alloc: Global, name: &str, shelf: &mut F) -> Result<Vec<u8>, Refusal>
     ensures later { F.faults shelf.old ≤ F.faults shelf.new }
-    ensures files { Stays (files_of (F.told shelf.old)) (files_of (F.told shelf.new)) }
+    ensures files { Stays (told_files (F.told shelf.old)) (told_files (F.told shelf.new)) }
     ensures file { IfOk result (λ bytes. (state : State)
         → HasFile (world state (F.told shelf.old) (F.faults shelf.old)) name.now bytes.items) }
     ensures short { IfOk result (λ bytes. vec_len bytes < 2 ^ 30) }
@@ -109,7 +109,7 @@ fn read_file<F: Shelf>(alloc: Global, name: &str, shelf: &mut F) -> Result<Vec<u
 // finds room for many bytes and each byte of it is cleared once.
 fn read_to_end<F: Shelf>(alloc: Global, shelf: &mut F) -> Result<Vec<u8>, Refusal>
     ensures later { F.faults shelf.old ≤ F.faults shelf.new }
-    ensures files { Stays (files_of (F.told shelf.old)) (files_of (F.told shelf.new)) }
+    ensures files { Stays (told_files (F.told shelf.old)) (told_files (F.told shelf.new)) }
     ensures bytes { IfOk result (λ bytes. IfSome (F.told shelf.old) (λ t. t.left ≡ bytes.items)) }
     ensures short { IfOk result (λ bytes. vec_len bytes < 2 ^ 30) }
     ensures refused { IfErr result (λ refusal. StopsReading refusal (F.told shelf.old) (F.faults shelf.old) (F.faults shelf.new)) }

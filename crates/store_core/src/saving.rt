@@ -5,7 +5,7 @@ ghost use Rattle.tree_outside.specs.Shelf.{beside_of, pending_bytes};
 ghost use Rattle.slt_grammar.specs.Keyed.{rules_of};
 ghost use Rattle.grammar_file.specs.FileBytes.{file_bytes};
 ghost use Rattle.store_core.specs.Acts as act;
-ghost use Rattle.store_core.specs.Worlds.{AreHeld, files_of, world};
+ghost use Rattle.store_core.specs.Worlds.{AreLawfulParts, told_files, world};
 ghost use Rattle.store_core.specs.StoreOf.{parts_of, start_text};
 ghost use Rattle.store_core.specs.Refusals.{Cause};
 ghost use Rattle.store_core.specs.Stopping.{StopsWriting};
@@ -29,13 +29,13 @@ pub(crate) fn save_document<F: Shelf, L: Ledger>(
     shelf: &mut F,
     steps: &mut Steps<L>,
 ) -> Result<u128, Refusal>
-    requires { AreHeld (parts_of store.now) }
+    requires { AreLawfulParts (parts_of store.now) }
     ensures later { F.faults shelf.old ≤ F.faults shelf.new }
     ensures saves { IfOk result (λ count. let state = Some (parts_of store.now) in
         Saves name.now (world state (F.told shelf.old) (F.faults shelf.old)) (answer_line (Answer.Bytes count)) (world state (F.told shelf.new) (F.faults shelf.new))) }
     ensures refused { IfErr result (λ refusal. let state = Some (parts_of store.now) in
         Cause refusal (act.Save name.now) (world state (F.told shelf.old) (F.faults shelf.old)) (world state (F.told shelf.new) (F.faults shelf.new))) }
-    ensures files { OnErr result (Stays (files_of (F.told shelf.old)) (files_of (F.told shelf.new))) }
+    ensures files { OnErr result (Stays (told_files (F.told shelf.old)) (told_files (F.told shelf.new))) }
 {
     written(shelf.create(name))?;
     let count = write_pending(alloc, store, shelf, steps)?;
@@ -71,7 +71,7 @@ pub(crate) fn save_grammar<F: Shelf>(
         SavesGrammar name.now (world state (F.told shelf.old) (F.faults shelf.old)) (answer_line answer) (world state (F.told shelf.new) (F.faults shelf.new))) }
     ensures refused { IfErr result (λ refusal. let state = Some (parts_of store.now) in
         Cause refusal (act.SaveGrammar name.now) (world state (F.told shelf.old) (F.faults shelf.old)) (world state (F.told shelf.new) (F.faults shelf.new))) }
-    ensures files { OnErr result (Stays (files_of (F.told shelf.old)) (files_of (F.told shelf.new))) }
+    ensures files { OnErr result (Stays (told_files (F.told shelf.old)) (told_files (F.told shelf.new))) }
 {
     written(shelf.create(name))?;
     let bytes = write_grammar(store, shelf)?;

@@ -35,19 +35,19 @@ impl Model for Session {
     ghost Value = { State };
 
     ghost use Rattle.std.specs.Option.{option_map};
-    ghost use Rattle.store_core.specs.Worlds.{IsHeld};
+    ghost use Rattle.store_core.specs.Worlds.{IsLawfulState};
     ghost use Rattle.store_core.specs.StoreOf.{parts_of};
 
     ghost view = { λ a. option_map parts_of a.store };
 
-    ghost invariant = { λ a. IsHeld (option_map parts_of a.store) };
+    ghost invariant = { λ a. IsLawfulState (option_map parts_of a.store) };
 }
 
 impl Session {
     ghost use Rattle.store_core.specs.Acts as act;
     ghost use Rattle.store_core.specs.CommandOf.{act_of};
     ghost use Rattle.store_core.specs.Machine.{Step, Comes};
-    ghost use Rattle.store_core.specs.Worlds.{IsHeld, world};
+    ghost use Rattle.store_core.specs.Worlds.{IsLawfulState, world};
     ghost use Rattle.store_core.specs.StoreOf.{parts_of};
     ghost use Rattle.std.specs.Option.{option_map};
 
@@ -61,7 +61,7 @@ impl Session {
     /// The document, and None exactly where nothing is loaded.
     pub fn document(&self) -> Option<&Store>
         ensures sees { option_map (λ s. parts_of s.now) result ≡ self.now }
-        ensures held { IsHeld self.now }
+        ensures held { IsLawfulState self.now }
     {
         self.store.as_ref()
     }

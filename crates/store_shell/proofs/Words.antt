@@ -7,7 +7,7 @@ use Rattle.std.proofs.lemmas.List.{take_at}
 use Rattle.std.proofs.lemmas.Option.{same_Some}
 use Rattle.store_core.specs.Acts.{Act, Load, Save, SaveGrammar}
 use Rattle.store_shell.specs.Forms.{Asks}
-use Rattle.store_shell.specs.Verbs.{text_of, is_space}
+use Rattle.store_shell.specs.Verbs.{verb_word, is_blank}
 use Rattle.store_shell.specs.declared.verb.Verb.{Verb}
 use Rattle.store_shell.specs.declared.verb.Verb.TheVariants as verb
 
@@ -17,19 +17,19 @@ position_at n words lt =
     rw e refl
 
 -- where the first space is
-verb_at : (v : Verb) (rest : List ℕ) → position is_space (text_of v ++ 32 ∷ rest) ≡ Some (length (text_of v))
+verb_at : (v : Verb) (rest : List ℕ) → position is_blank (verb_word v ++ 32 ∷ rest) ≡ Some (length (verb_word v))
 verb_at verb.Load rest = position_at 4 (codes "load " ++ rest) (omega arith)
 verb_at verb.Save rest = position_at 4 (codes "save " ++ rest) (omega arith)
 verb_at verb.SaveGrammar rest = position_at 12 (codes "save-grammar " ++ rest) (omega arith)
 
 -- a word and a space are cut there
-word_at : (v : Verb) (rest words : List ℕ) (at : ℕ) → position is_space words ≡ Some at → words ≡ text_of v ++ 32 ∷ rest → take at words ≡ text_of v
+word_at : (v : Verb) (rest words : List ℕ) (at : ℕ) → position is_blank words ≡ Some at → words ≡ verb_word v ++ 32 ∷ rest → take at words ≡ verb_word v
 word_at v rest words at e is =
-    let end : at ≡ length (text_of v) = same_Some at (length (text_of v)) (sym e ∙ (ap (position is_space) is ∙ verb_at v rest)) in
-    rw (is, end) (take_at (text_of v) (32 ∷ rest) (length (text_of v)) refl)
+    let end : at ≡ length (verb_word v) = same_Some at (length (verb_word v)) (sym e ∙ (ap (position is_blank) is ∙ verb_at v rest)) in
+    rw (is, end) (take_at (verb_word v) (32 ∷ rest) (length (verb_word v)) refl)
 
 -- a command's word is one of the verbs
-pub no_verb : (words : List ℕ) (at : ℕ) (act : Act) → position is_space words ≡ Some at → ((v : Verb) → take at words ≡ text_of v → ⊥) → Asks words act → ⊥
+pub no_verb : (words : List ℕ) (at : ℕ) (act : Act) → position is_blank words ≡ Some at → ((v : Verb) → take at words ≡ verb_word v → ⊥) → Asks words act → ⊥
 no_verb words at (Load name) e none h = none verb.Load (word_at verb.Load name words at e h.1)
 no_verb words at (Save name) e none h = none verb.Save (word_at verb.Save name words at e h.1)
 no_verb words at (SaveGrammar name) e none h = none verb.SaveGrammar (word_at verb.SaveGrammar name words at e h.1)

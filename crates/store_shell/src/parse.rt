@@ -7,7 +7,7 @@ ghost use Rattle.store_core.specs.CommandOf.{act_of};
 ghost use Rattle.store_shell.specs.Lines.{kept};
 ghost use Rattle.store_shell.specs.Forms.{without_return, IsFileName, Asks, IsForm};
 ghost use Rattle.store_shell.specs.Parsed.{form_of};
-ghost use Rattle.store_shell.specs.Verbs.{is_space};
+ghost use Rattle.store_shell.specs.Verbs.{is_blank};
 
 use crate::verb::Verb;
 use store_core::Command;
@@ -73,7 +73,7 @@ fn parse_command(words: &[u8]) -> Option<Command<'_>>
 }
 
 fn first_space(words: &[u8]) -> Option<usize>
-    ensures first { result ≡ position is_space words.now }
+    ensures first { result ≡ position is_blank words.now }
     ensures within { IfSome result (λ at. at < length words.now) }
 {
     words.iter().position(|byte| *byte == b' ')

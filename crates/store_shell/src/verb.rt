@@ -10,11 +10,11 @@ pub enum Verb {
 impl Verb {
     ghost use Rattle.std.specs.Prelude.{◌≡◌, ◌≢◌, MatchOption};
     ghost use Rattle.store_shell.specs.declared.verb.Verb.{Verb};
-    ghost use Rattle.store_shell.specs.Verbs.{text_of};
+    ghost use Rattle.store_shell.specs.Verbs.{verb_word};
 
     /// The verb that this word is, or None where it is none.
     pub fn of(word: &[u8]) -> Option<Verb>
-        ensures { MatchOption result ((verb : Verb) → word.now ≢ text_of verb) (λ verb. word.now ≡ text_of verb) }
+        ensures { MatchOption result ((verb : Verb) → word.now ≢ verb_word verb) (λ verb. word.now ≡ verb_word verb) }
     {
         match word {
             b"load" => Some(Verb::Load),

@@ -3,9 +3,9 @@ use Rattle.std.specs.Prelude.{ℕ, List, Option, Some, None, Result, Ok, Err, re
 use Rattle.std.proofs.Common.{subst, ◌∙◌}
 use Rattle.tree_outside.specs.Files.{Told}
 use Rattle.tree_outside.specs.Outside.{Stays}
-use Rattle.tree_outside.specs.Shelf.{Does, appended, beside_of, Kept, Keeps}
+use Rattle.tree_outside.specs.Shelf.{Changes, appended, beside_of, Kept, Keeps}
 
-pub beside_after : {E : Type 0} (old new : Option Told) (r : Result (Unit {0}) E) (bytes : List ℕ) → Does old new r (appended bytes) → Stays (beside_of old) (beside_of new)
+pub beside_after : {E : Type 0} (old new : Option Told) (r : Result (Unit {0}) E) (bytes : List ℕ) → Changes old new r (appended bytes) → Stays (beside_of old) (beside_of new)
 beside_after None new r bytes h = tt
 beside_after (Some t) new (Ok _) bytes h = rw h refl
 beside_after (Some t) new (Err e) bytes h = rw h refl

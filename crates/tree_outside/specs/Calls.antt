@@ -22,7 +22,7 @@ abbrev pub failed : Calls → Calls
 failed c = record c { faults = counted c.faults }
 
 -- A call is counted, and as a fault too where it fails. It fails where it is due; else only where this holds.
-pub record Counts {T E : Type 0} (old new : Calls) (result : Result T E) (grows : Type 0) : Type 0 where
+pub record IsCounted {T E : Type 0} (old new : Calls) (result : Result T E) (grows : Type 0) : Type 0 where
   pub counted : new ≡ (if is_err result then failed (begun old) else begun old)
   pub due : IsDue old → IsErr result
   pub only : IsErr result → IsDue old ⊎ grows

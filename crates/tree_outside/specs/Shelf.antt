@@ -6,14 +6,14 @@ use Rattle.tree_outside.specs.Files.{Files, Told}
 use Rattle.tree_outside.specs.Outside.{Stays}
 
 -- where it tells what was there before, it tells this now
-abbrev pub Goes : Option Told → Option Told → (Told → Told) → Type 0
-Goes old new f = IfSome old (λ t. new ≡ Some (f t))
+abbrev pub Becomes : Option Told → Option Told → (Told → Told) → Type 0
+Becomes old new f = IfSome old (λ t. new ≡ Some (f t))
 
-abbrev pub closed : Told → Told
-closed t = record t { left = [] }
+abbrev pub nothing_open : Told → Told
+nothing_open t = record t { left = [] }
 
-abbrev pub opened : List ℕ → Told → Told
-opened name t = record t { left = unwrap_or (get t.files name) [] }
+abbrev pub file_opened : List ℕ → Told → Told
+file_opened name t = record t { left = unwrap_or (get t.files name) [] }
 
 abbrev pub nothing_pending : Told → Told
 nothing_pending t = record t { pending = None }
@@ -30,8 +30,8 @@ sealed t = record t { files = option_map_or (λ xs. insert t.files t.name xs) t.
 
 abbrev pub Opens : {E : Type 0} → Option Told → Option Told → Result Bool E → List ℕ → Type 0
 Opens old new result name = MatchResult result
-    (λ found. Goes old new (opened name) × IfSome old (λ t. found ≡ is_some (get t.files name)))
-    (λ _. Goes old new closed)
+    (λ found. Becomes old new (file_opened name) × IfSome old (λ t. found ≡ is_some (get t.files name)))
+    (λ _. Becomes old new nothing_open)
 
 -- these bytes were taken from the front of the open file
 abbrev pub TakesFile : Option Told → Option Told → List ℕ → Type 0
@@ -41,10 +41,10 @@ TakesFile old new bytes = IfSome old (λ t. (rest : List ℕ) × (t.left ≡ byt
 abbrev pub ReadsFile : {E : Type 0} → Option Told → Option Told → Result ℕ E → List ℕ → Type 0
 ReadsFile old new result buf = MatchResult result
     (λ n. TakesFile old new (take n buf) × (n ≡ 0 → IfSome old (λ t. t.left ≡ [])))
-    (λ _. Goes old new (λ t. t))
+    (λ _. Becomes old new (λ t. t))
 
-abbrev pub Does : {E : Type 0} → Option Told → Option Told → Result (Unit {0}) E → (Told → Told) → Type 0
-Does old new result f = MatchResult result (λ _. Goes old new f) (λ _. Goes old new nothing_pending)
+abbrev pub Changes : {E : Type 0} → Option Told → Option Told → Result (Unit {0}) E → (Told → Told) → Type 0
+Changes old new result f = MatchResult result (λ _. Becomes old new f) (λ _. Becomes old new nothing_pending)
 
 -- what an `append` never changes of what a shelf tells
 pub record Beside : Type 0 where

@@ -1,7 +1,7 @@
 // A source and a sink in memory, which fail at given calls.
 ghost use Rattle.std.specs.Prelude.{◌≡◌, ◌≤◌, ◌<◌, Some, [], length, IfOk, OnErr};
 ghost use Rattle.tree_outside.specs.Shelf.{alone, Keeps};
-ghost use Rattle.tree_outside.specs.Calls.{Counts};
+ghost use Rattle.tree_outside.specs.Calls.{IsCounted};
 ghost use Rattle.tree_outside.specs.Outside.{HasCause, Reads, Writes};
 
 use crate::calls::Schedule;
@@ -56,7 +56,7 @@ impl Source for MemorySource {
         ensures cause { HasCause self.old.calls.faults self.new.calls.faults result }
         ensures piece { IfOk result (λ n. n ≤ self.old.piece) }
         ensures same_piece { self.new.piece ≡ self.old.piece }
-        ensures calls { Counts self.old.calls self.new.calls result ⊥ }
+        ensures calls { IsCounted self.old.calls self.new.calls result ⊥ }
     {
         if self.calls.begin() {
             return Err(self.calls.fail());
@@ -112,7 +112,7 @@ impl Sink for MemorySink {
         ensures kept { Keeps alone alone }
         ensures cause { HasCause self.old.calls.faults self.new.calls.faults result }
         ensures nothing { OnErr result (self.new.got ≡ self.old.got) }
-        ensures calls { Counts self.old.calls self.new.calls result (0 < length bytes.now) }
+        ensures calls { IsCounted self.old.calls self.new.calls result (0 < length bytes.now) }
     {
         if self.calls.begin() || self.bytes.extend_from_slice(bytes).is_err() {
             return Err(self.calls.fail());

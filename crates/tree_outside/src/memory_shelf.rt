@@ -2,11 +2,11 @@
 ghost use Rattle.std.specs.Prelude.{◌≡◌, ◌≤◌, ◌<◌, Some, length, OnOk, OnErr, IfOk, IsSome};
 ghost use Rattle.std.specs.Option.{option_copied};
 ghost use Rattle.std.specs.FinMap.{get, insert};
-ghost use Rattle.tree_outside.specs.Calls.{Counts};
+ghost use Rattle.tree_outside.specs.Calls.{IsCounted};
 ghost use Rattle.tree_outside.specs.Memory.{at_rest};
 ghost use Rattle.tree_outside.specs.MemoryFiles.{files_of};
 ghost use Rattle.tree_outside.specs.Outside.{HasCause};
-ghost use Rattle.tree_outside.specs.Shelf.{Opens, ReadsFile, Does, closed, created, appended, sealed};
+ghost use Rattle.tree_outside.specs.Shelf.{Opens, ReadsFile, Changes, nothing_open, created, appended, sealed};
 
 use crate::calls::Schedule;
 use crate::unread::Unread;
@@ -86,7 +86,7 @@ impl Shelf for MemoryShelf {
     fn open(&mut self, name: &str) -> Result<bool, Failed>
         ensures content { Opens (Some self.old.told) (Some self.new.told) result name.now }
         ensures cause { HasCause self.old.calls.faults self.new.calls.faults result }
-        ensures calls { Counts self.old.calls self.new.calls result (IsSome (get self.old.told.files name.now)) }
+        ensures calls { IsCounted self.old.calls self.new.calls result (IsSome (get self.old.told.files name.now)) }
         ensures same_piece { self.new.piece ≡ self.old.piece }
     {
         self.close();
@@ -108,7 +108,7 @@ impl Shelf for MemoryShelf {
         ensures content { ReadsFile (Some self.old.told) (Some self.new.told) result buf.new }
         ensures cause { HasCause self.old.calls.faults self.new.calls.faults result }
         ensures piece { IfOk result (λ n. n ≤ self.old.piece) }
-        ensures calls { Counts self.old.calls self.new.calls result ⊥ }
+        ensures calls { IsCounted self.old.calls self.new.calls result ⊥ }
         ensures same_piece { self.new.piece ≡ self.old.piece }
     {
         if self.calls.begin() {
@@ -118,15 +118,15 @@ impl Shelf for MemoryShelf {
     }
 
     fn close(&mut self)
-        ensures { self.new ≡ record self.old { told = closed self.old.told } }
+        ensures { self.new ≡ record self.old { told = nothing_open self.old.told } }
     {
         self.opened.clear();
     }
 
     fn create(&mut self, name: &str) -> Result<(), Failed>
-        ensures content { Does (Some self.old.told) (Some self.new.told) result (created name.now) }
+        ensures content { Changes (Some self.old.told) (Some self.new.told) result (created name.now) }
         ensures cause { HasCause self.old.calls.faults self.new.calls.faults result }
-        ensures calls { Counts self.old.calls self.new.calls result (Unit {0}) }
+        ensures calls { IsCounted self.old.calls self.new.calls result (Unit {0}) }
         ensures same_piece { self.new.piece ≡ self.old.piece }
     {
         self.pending = None;
@@ -142,9 +142,9 @@ impl Shelf for MemoryShelf {
     }
 
     fn append(&mut self, bytes: &[u8]) -> Result<(), Failed>
-        ensures content { Does (Some self.old.told) (Some self.new.told) result (appended bytes.now) }
+        ensures content { Changes (Some self.old.told) (Some self.new.told) result (appended bytes.now) }
         ensures cause { HasCause self.old.calls.faults self.new.calls.faults result }
-        ensures calls { Counts self.old.calls self.new.calls result (IsSome self.old.told.pending) }
+        ensures calls { IsCounted self.old.calls self.new.calls result (IsSome self.old.told.pending) }
         ensures same_piece { self.new.piece ≡ self.old.piece }
     {
         let pending = self.pending.take();
@@ -162,9 +162,9 @@ impl Shelf for MemoryShelf {
     }
 
     fn seal(&mut self) -> Result<(), Failed>
-        ensures content { Does (Some self.old.told) (Some self.new.told) result sealed }
+        ensures content { Changes (Some self.old.told) (Some self.new.told) result sealed }
         ensures cause { HasCause self.old.calls.faults self.new.calls.faults result }
-        ensures calls { Counts self.old.calls self.new.calls result (IsSome self.old.told.pending) }
+        ensures calls { IsCounted self.old.calls self.new.calls result (IsSome self.old.told.pending) }
         ensures same_piece { self.new.piece ≡ self.old.piece }
     {
         let pending = self.pending.take();

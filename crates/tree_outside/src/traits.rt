@@ -2,7 +2,7 @@
 ghost use Rattle.std.specs.Prelude.{◌≡◌, ◌<◌, ◌≤◌, ℕ, List, [], length, Option, IfOk};
 ghost use Rattle.tree_outside.specs.Outside.{HasCause, Reads, Writes};
 ghost use Rattle.tree_outside.specs.Files.{Files, Told};
-ghost use Rattle.tree_outside.specs.Shelf.{Kept, Keeps, Opens, Goes, ReadsFile, Does, closed, created, appended, sealed};
+ghost use Rattle.tree_outside.specs.Shelf.{Kept, Keeps, Opens, Becomes, ReadsFile, Changes, nothing_open, created, appended, sealed};
 
 /// A call failed. It comes only where the object's count of faults rose in that call, or stood at its last value.
 #[derive(Clone, Copy, Debug, PartialEq, Eq)]
@@ -69,21 +69,21 @@ pub trait Shelf {
 
     /// Ends the reading.
     fn close(&mut self)
-        ensures content { Goes (told self.old) (told self.new) closed }
+        ensures content { Becomes (told self.old) (told self.new) nothing_open }
         ensures cause { faults self.old ≤ faults self.new };
 
     /// Begins an empty pending file, and gives up an earlier one.
     fn create(&mut self, name: &str) -> Result<(), Failed>
-        ensures content { Does (told self.old) (told self.new) result (created name.now) }
+        ensures content { Changes (told self.old) (told self.new) result (created name.now) }
         ensures cause { HasCause (faults self.old) (faults self.new) result };
 
     /// Adds bytes to the pending file, if there is one.
     fn append(&mut self, bytes: &[u8]) -> Result<(), Failed>
-        ensures content { Does (told self.old) (told self.new) result (appended bytes.now) }
+        ensures content { Changes (told self.old) (told self.new) result (appended bytes.now) }
         ensures cause { HasCause (faults self.old) (faults self.new) result };
 
     /// Puts the pending file under its name, if there is one.
     fn seal(&mut self) -> Result<(), Failed>
-        ensures content { Does (told self.old) (told self.new) result sealed }
+        ensures content { Changes (told self.old) (told self.new) result sealed }
         ensures cause { HasCause (faults self.old) (faults self.new) result };
 }

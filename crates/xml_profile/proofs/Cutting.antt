@@ -5,7 +5,7 @@ use Rattle.plain_tree.specs.Tree.{Tree}
 use Rattle.xml_profile.specs.Tokens.{Token, Space, Start, Empty, End, Begins, AreTokens, is_space}
 use Rattle.xml_profile.specs.Spelling.{is_misc}
 use Rattle.xml_profile.specs.Reading.{front, back}
-use Rattle.xml_profile.specs.Stack.{Reads}
+use Rattle.xml_profile.specs.Stack.{ReadsTokens}
 use Rattle.xml_profile.proofs.Lists.{and_true}
 use Rattle.xml_profile.proofs.Tagging.{same_token, shorter}
 
@@ -31,9 +31,9 @@ one_cut (s ∷ ss) ts bytes (mid, begins, cut) b =
     ap (λ x. s ∷ x) (one_cut ss behind.0 mid cut behind.2) ∙ sym behind.1
 
 -- the first token is read, and what waited for it waits for the rest
-pub after_token : (P : Tree → Type 0) (Q R : List Token → Tree → Type 0) (t : Token) (bytes mid : List ℕ) → SameRoots P (Reads Q bytes) → Begins t bytes mid
+pub after_token : (P : Tree → Type 0) (Q R : List Token → Tree → Type 0) (t : Token) (bytes mid : List ℕ) → SameRoots P (ReadsTokens Q bytes) → Begins t bytes mid
     → ((ts : List Token) (root : Tree) → Q (t ∷ ts) root → R ts root) → ((ts : List Token) (root : Tree) → R ts root → Q (t ∷ ts) root)
-    → SameRoots P (Reads R mid)
+    → SameRoots P (ReadsTokens R mid)
 after_token P Q R t bytes mid same b there back = record {
   to = λ root p.
       let r = same.to root p in
@@ -44,14 +44,14 @@ after_token P Q R t bytes mid same b there back = record {
 
 -- the first token is refused
 pub refused_token : (Q : List Token → Tree → Type 0) (t : Token) (bytes mid : List ℕ) → Begins t bytes mid
-    → ((ts : List Token) (root : Tree) → Q (t ∷ ts) root → ⊥) → (root : Tree) → Reads Q bytes root → ⊥
+    → ((ts : List Token) (root : Tree) → Q (t ∷ ts) root → ⊥) → (root : Tree) → ReadsTokens Q bytes root → ⊥
 refused_token Q t bytes mid b refused root r =
     let behind = cut_behind t bytes mid r.tokens b r.cut in
     refused behind.0 root (subst (λ x. Q x root) behind.1 r.holds)
 
 -- there is no token, though one is wanted
 pub no_token : (Q : List Token → Tree → Type 0) (bytes : List ℕ) → ((t : Token) (after : List ℕ) → Begins t bytes after → ⊥)
-    → ((root : Tree) → Q [] root → ⊥) → (root : Tree) → Reads Q bytes root → ⊥
+    → ((root : Tree) → Q [] root → ⊥) → (root : Tree) → ReadsTokens Q bytes root → ⊥
 no_token Q bytes none wants root r = by_tokens r.tokens r.cut r.holds where
   by_tokens : (ts : List Token) → AreTokens ts bytes [] → Q ts root → ⊥
   by_tokens [] cut holds = wants root holds

@@ -6,7 +6,7 @@ use Rattle.plain_tree.specs.Tree.{Tree, node, none, more, list_of}
 use Rattle.xml_profile.specs.Tokens.{Token, Space, Start, Empty, End, Begins, AreTokens, is_space}
 use Rattle.xml_profile.specs.Reading.{front, back}
 use Rattle.xml_profile.specs.Spelling.{IsElement, IsContent, IsRoot, Spells, BeginsElement, BeginsRoot, is_misc}
-use Rattle.xml_profile.specs.Stack.{element, Closes, Completes, Reads}
+use Rattle.xml_profile.specs.Stack.{element, Closes, Completes, ReadsTokens}
 use Rattle.xml_profile.proofs.Cutting.{SameRoots, after_token, refused_token, no_token, cuts_join, cut_front, spaces_cut, misc_spaces, cut_spaces, space_tokens, spaces_at_front}
 use Rattle.xml_profile.proofs.Steps.{element-is, trees-list_of, first_token, start_name}
 
@@ -57,14 +57,14 @@ leaf_is_root n tokens root q = record {
 same_roots : (P : Tree → Type 0) → SameRoots P P
 same_roots P = record { to = λ root p. p; from = λ root p. p }
 
-pub root-starts : (n : List ℕ) (bytes mid : List ℕ) → Begins (Start n) bytes mid → SameRoots (Reads IsRoot bytes) (Reads (Completes [] n []) mid)
+pub root-starts : (n : List ℕ) (bytes mid : List ℕ) → Begins (Start n) bytes mid → SameRoots (ReadsTokens IsRoot bytes) (ReadsTokens (Completes [] n []) mid)
 root-starts n bytes mid b =
-    after_token (Reads IsRoot bytes) IsRoot (Completes [] n []) (Start n) bytes mid (same_roots (Reads IsRoot bytes)) b
+    after_token (ReadsTokens IsRoot bytes) IsRoot (Completes [] n []) (Start n) bytes mid (same_roots (ReadsTokens IsRoot bytes)) b
     (λ ts root r. root_starts n ts r.after root r.element r.rest) (λ ts root f. starts_root n ts root f)
 
-pub root-is_leaf : (n : List ℕ) (bytes mid : List ℕ) → Begins (Empty n) bytes mid → SameRoots (Reads IsRoot bytes) (Reads (Closes [] (element n [])) mid)
+pub root-is_leaf : (n : List ℕ) (bytes mid : List ℕ) → Begins (Empty n) bytes mid → SameRoots (ReadsTokens IsRoot bytes) (ReadsTokens (Closes [] (element n [])) mid)
 root-is_leaf n bytes mid b =
-    after_token (Reads IsRoot bytes) IsRoot (Closes [] (element n [])) (Empty n) bytes mid (same_roots (Reads IsRoot bytes)) b
+    after_token (ReadsTokens IsRoot bytes) IsRoot (Closes [] (element n [])) (Empty n) bytes mid (same_roots (ReadsTokens IsRoot bytes)) b
     (λ ts root r. root_is_leaf n ts r.after root r.element r.rest) (λ ts root q. leaf_is_root n ts root q)
 
 end_first : (n : List ℕ) (tokens after : List Token) (root : Tree) → IsElement root (End n ∷ tokens) after → ⊥
@@ -79,20 +79,20 @@ none_first : (after : List Token) (root : Tree) → IsElement root [] after → 
 none_first after (node kind m v ks) (inl leaf) = let tag = leaf.tag in cc
 none_first after (node kind m v ks) (inr parent) = let tag = parent.start_tag in cc
 
-pub no-root-at_end : (n bytes mid : List ℕ) → Begins (End n) bytes mid → (root : Tree) → Reads IsRoot bytes root → ⊥
+pub no-root-at_end : (n bytes mid : List ℕ) → Begins (End n) bytes mid → (root : Tree) → ReadsTokens IsRoot bytes root → ⊥
 no-root-at_end n bytes mid b root r = refused_token IsRoot (End n) bytes mid b (λ ts root r. end_first n ts r.after root r.element) root r
 
-pub no-root-at_space : (c : ℕ) (bytes mid : List ℕ) → Begins (Space c) bytes mid → (root : Tree) → Reads IsRoot bytes root → ⊥
+pub no-root-at_space : (c : ℕ) (bytes mid : List ℕ) → Begins (Space c) bytes mid → (root : Tree) → ReadsTokens IsRoot bytes root → ⊥
 no-root-at_space c bytes mid b root r = refused_token IsRoot (Space c) bytes mid b (λ ts root r. space_first c ts r.after root r.element) root r
 
-pub no-root : (bytes : List ℕ) → ((t : Token) (after : List ℕ) → Begins t bytes after → ⊥) → (root : Tree) → Reads IsRoot bytes root → ⊥
+pub no-root : (bytes : List ℕ) → ((t : Token) (after : List ℕ) → Begins t bytes after → ⊥) → (root : Tree) → ReadsTokens IsRoot bytes root → ⊥
 no-root bytes refused root r = no_token IsRoot bytes refused (λ root r. none_first r.after root r.element) root r
 
 -- behind the root
-pub spaces-close : (root : Tree) (bytes : List ℕ) → list_all is_space bytes ≡ true → Reads (Closes [] root) bytes root
+pub spaces-close : (root : Tree) (bytes : List ℕ) → list_all is_space bytes ≡ true → ReadsTokens (Closes [] root) bytes root
 spaces-close root bytes e = record { tokens = space_tokens bytes; cut = spaces_cut bytes e; holds = (refl, misc_spaces bytes) }
 
-pub close-spaces : (t root : Tree) (bytes : List ℕ) → Reads (Closes [] t) bytes root → list_all is_space bytes ≡ true
+pub close-spaces : (t root : Tree) (bytes : List ℕ) → ReadsTokens (Closes [] t) bytes root → list_all is_space bytes ≡ true
 close-spaces t root bytes r = cut_spaces r.tokens bytes r.cut r.holds.1
 
 -- the white space in front of the root
@@ -118,7 +118,7 @@ element_begins (node kind m v ks) tokens after bytes (inr parent) cut =
     let b = starts_at (Start m) tokens parent.inner bytes parent.start_tag cut in
     (m, b.0, inl b.1)
 
-pub root-begins : (bytes : List ℕ) (root : Tree) → Reads IsRoot bytes root → BeginsElement bytes
+pub root-begins : (bytes : List ℕ) (root : Tree) → ReadsTokens IsRoot bytes root → BeginsElement bytes
 root-begins bytes root r = element_begins root r.tokens r.holds.after bytes r.holds.element r.cut
 
 pub begins-root : (bytes : List ℕ) → BeginsElement (back is_space bytes) → BeginsRoot bytes
@@ -130,7 +130,7 @@ begins-root bytes tag = record {
   tag = tag;
 }
 
-pub spells-root : (bytes : List ℕ) (root : Tree) → Reads IsRoot (back is_space bytes) root → Spells bytes (node Document [] [] (more root none))
+pub spells-root : (bytes : List ℕ) (root : Tree) → ReadsTokens IsRoot (back is_space bytes) root → Spells bytes (node Document [] [] (more root none))
 spells-root bytes root r =
     let prolog = space_tokens (front is_space bytes) in
     record {
@@ -149,7 +149,7 @@ spells-root bytes root r =
 
 pub record RootOf (bytes : List ℕ) (document : Tree) : Type 0 where
   pub root : Tree
-  pub read : Reads IsRoot (back is_space bytes) root
+  pub read : ReadsTokens IsRoot (back is_space bytes) root
   pub is : document ≡ node Document [] [] (more root none)
 
 pub root-spelled : (bytes : List ℕ) (t : Tree) → Spells bytes t → RootOf bytes t

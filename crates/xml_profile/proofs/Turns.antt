@@ -7,18 +7,18 @@ use Rattle.std.proofs.lemmas.List.{reverse-append}
 use Rattle.plain_tree.specs.Tree.{Tree}
 use Rattle.xml_profile.specs.declared.reader.OpenElement.{OpenElement}
 use Rattle.xml_profile.specs.Tokens.{Token, Space, Start, Empty, End, Begins}
-use Rattle.xml_profile.specs.Stack.{element, Closes, Completes, Reads}
+use Rattle.xml_profile.specs.Stack.{element, Closes, Completes, ReadsTokens}
 use Rattle.xml_profile.proofs.Cutting.{SameRoots, after_token, refused_token, no_token}
 use Rattle.xml_profile.proofs.Steps.{start-opens, opens-start, leaf-adds, adds-leaf, end-closes, closes-end, refuses_space, wants_token}
 
 reverse-push : (xs : List OpenElement) (x : OpenElement) → reverse (xs ++ x ∷ []) ≡ x ∷ reverse xs
 reverse-push xs x = reverse-append xs (x ∷ [])
 
-module _ (P : Tree → Type 0) (outer : List OpenElement) (here : OpenElement) (bytes : List ℕ) (same : SameRoots P (Reads (Completes (reverse outer) here.name here.kids) bytes)) where
+module _ (P : Tree → Type 0) (outer : List OpenElement) (here : OpenElement) (bytes : List ℕ) (same : SameRoots P (ReadsTokens (Completes (reverse outer) here.name here.kids) bytes)) where
   -- a start tag
   pub opened : (n mid : List ℕ) (outer' : List OpenElement) (new : OpenElement) → Begins (Start n) bytes mid
       → outer' ≡ outer ++ here ∷ [] → new.name ≡ n → new.kids ≡ []
-      → SameRoots P (Reads (Completes (reverse outer') new.name new.kids) mid)
+      → SameRoots P (ReadsTokens (Completes (reverse outer') new.name new.kids) mid)
   opened n mid outer' new b o m k =
       rw (o, reverse-push outer here, m, k)
       (after_token P (Completes (reverse outer) here.name here.kids) (Completes (here ∷ reverse outer) n []) (Start n) bytes mid same b
@@ -26,7 +26,7 @@ module _ (P : Tree → Type 0) (outer : List OpenElement) (here : OpenElement) (
 
   -- an element in one tag
   pub emptied : (n mid : List ℕ) (kids : List Tree) → Begins (Empty n) bytes mid → kids ≡ here.kids ++ element n [] ∷ []
-      → SameRoots P (Reads (Completes (reverse outer) here.name kids) mid)
+      → SameRoots P (ReadsTokens (Completes (reverse outer) here.name kids) mid)
   emptied n mid kids b k =
       rw k
       (after_token P (Completes (reverse outer) here.name here.kids) (Completes (reverse outer) here.name (here.kids ++ element n [] ∷ [])) (Empty n) bytes mid same b
@@ -47,7 +47,7 @@ module _ (P : Tree → Type 0) (outer : List OpenElement) (here : OpenElement) (
   ended refused root p = no_token (Completes (reverse outer) here.name here.kids) bytes refused (λ root f. wants_token here.name here.kids _ f) root (same.to root p)
 
   -- its end tag
-  closed : (n mid : List ℕ) → Begins (End n) bytes mid → n ≡ here.name → SameRoots P (Reads (Closes (reverse outer) (element here.name here.kids)) mid)
+  closed : (n mid : List ℕ) → Begins (End n) bytes mid → n ≡ here.name → SameRoots P (ReadsTokens (Closes (reverse outer) (element here.name here.kids)) mid)
   closed n mid b e =
       after_token P (Completes (reverse outer) here.name here.kids) (Closes (reverse outer) (element here.name here.kids)) (End n) bytes mid same b
       (λ ts root f. (end-closes here.name here.kids _ n ts f).1)
@@ -55,16 +55,16 @@ module _ (P : Tree → Type 0) (outer : List OpenElement) (here : OpenElement) (
 
   -- the root's end tag
   pub last_closed : (n mid : List ℕ) → Begins (End n) bytes mid → n ≡ here.name → outer ≡ []
-      → SameRoots P (Reads (Closes [] (element here.name here.kids)) mid)
-  last_closed n mid b e o = subst (λ x. SameRoots P (Reads (Closes (reverse x) (element here.name here.kids)) mid)) o (closed n mid b e)
+      → SameRoots P (ReadsTokens (Closes [] (element here.name here.kids)) mid)
+  last_closed n mid b e o = subst (λ x. SameRoots P (ReadsTokens (Closes (reverse x) (element here.name here.kids)) mid)) o (closed n mid b e)
 
   -- the end tag of an element inside another
   pub one_closed : (n mid : List ℕ) (outer' : List OpenElement) (f : OpenElement) (kids : List Tree) → Begins (End n) bytes mid → n ≡ here.name
       → outer ≡ outer' ++ f ∷ [] → kids ≡ f.kids ++ element here.name here.kids ∷ []
-      → SameRoots P (Reads (Completes (reverse outer') f.name kids) mid)
+      → SameRoots P (ReadsTokens (Completes (reverse outer') f.name kids) mid)
   one_closed n mid outer' f kids b e o k =
       let order : reverse outer ≡ f ∷ reverse outer' = ap (λ x. reverse x) o ∙ reverse-push outer' f in
-      rw k (subst (λ x. SameRoots P (Reads (Closes x (element here.name here.kids)) mid)) order (closed n mid b e))
+      rw k (subst (λ x. SameRoots P (ReadsTokens (Closes x (element here.name here.kids)) mid)) order (closed n mid b e))
 
 pub no_items : (xs : List OpenElement) → length xs ≡ 0 → xs ≡ []
 no_items [] e = refl

@@ -50,16 +50,16 @@ pen_after pen (Open name) = record { lines = pen.lines; depth = pen.depth + 1; i
 pen_after pen (Close name) = record { lines = pen.lines; depth = pen.depth - 1; in_tag = false }
 
 -- what calls one after the other write
-abbrev pub text_of : Pen → List Call → List ℕ
-text_of pen [] = []
-text_of pen (c ∷ cs) = call_text pen c ++ text_of (pen_after pen c) cs
+abbrev pub calls_text : Pen → List Call → List ℕ
+calls_text pen [] = []
+calls_text pen (c ∷ cs) = call_text pen c ++ calls_text (pen_after pen c) cs
 
 -- The calls of a tree write its spelling, behind the end of a tag that is open, with a line feed where it stands outside all elements.
 abbrev pub CallsWriteTree : Type 0
 CallsWriteTree = (t : Tree) (pen : Pen) (next : List Call) →
-    text_of pen (calls t next)
-    ≡ ((ended_tag pen.in_tag ++ spelling t) ++ line_end pen.lines pen.depth) ++ text_of (record pen { in_tag = false }) next
+    calls_text pen (calls t next)
+    ≡ ((ended_tag pen.in_tag ++ spelling t) ++ line_end pen.lines pen.depth) ++ calls_text (record pen { in_tag = false }) next
 
 -- The calls of a document write its saved bytes.
 abbrev pub CallsSaveDocument : Type 0
-CallsSaveDocument = (t : Tree) → text_of (new_pen true) (document_calls t) ≡ saved_bytes t
+CallsSaveDocument = (t : Tree) → calls_text (new_pen true) (document_calls t) ≡ saved_bytes t

@@ -28,7 +28,7 @@ abbrev pub Completes : List OpenElement → List ℕ → List Tree → List Toke
 Completes outer name kids tokens root = Fills name kids tokens (λ whole after. Closes outer whole after root)
 
 -- the bytes are tokens of which this holds
-pub record Reads (P : List Token → Tree → Type 0) (bytes : List ℕ) (root : Tree) : Type 0 where
+pub record ReadsTokens (P : List Token → Tree → Type 0) (bytes : List ℕ) (root : Tree) : Type 0 where
   pub tokens : List Token
   pub cut : AreTokens tokens bytes []
   pub holds : P tokens root

@@ -5,7 +5,7 @@ ghost use Rattle.plain_tree.specs.Tree.{Tree, node, more, none, node_count};
 ghost use Rattle.plain_tree.specs.Documents.{IsDocument};
 ghost use Rattle.plain_tree.specs.declared.kind.Kind.TheVariants.{Document};
 ghost use Rattle.xml_profile.specs.Spelling.{IsRoot, Spells, BeginsElement, BeginsRoot};
-ghost use Rattle.xml_profile.specs.Stack.{element, Closes, Completes, Reads};
+ghost use Rattle.xml_profile.specs.Stack.{element, Closes, Completes, ReadsTokens};
 
 use crate::tokens::{FoundToken, is_all_space, next_token, skip_space};
 use plain_tree::{Bytes, Kind, Node, Nodes};
@@ -57,8 +57,8 @@ pub fn read_document(alloc: Global, bytes: &[u8]) -> Result<Node, XmlError>
 }
 
 fn read_root(alloc: Global, bytes: &[u8]) -> Result<Node, XmlError>
-    ensures spelled { IfOk result (λ n. Reads IsRoot bytes.now (tree_of n)) }
-    ensures bad { result ≡ Err XmlError.Bad → (root : Tree) → Reads IsRoot bytes.now root → ⊥ }
+    ensures spelled { IfOk result (λ n. ReadsTokens IsRoot bytes.now (tree_of n)) }
+    ensures bad { result ≡ Err XmlError.Bad → (root : Tree) → ReadsTokens IsRoot bytes.now root → ⊥ }
     ensures memory { result ≡ Err XmlError.Memory → BeginsElement bytes.now }
 {
     match next_token(bytes) {
@@ -79,8 +79,8 @@ pub(crate) struct OpenElement {
 
 // The root from behind its start tag.
 fn read_open(alloc: Global, name: &[u8], bytes: &[u8]) -> Result<Node, XmlError>
-    ensures spelled { IfOk result (λ n. Reads (Completes [] name.now []) bytes.now (tree_of n)) }
-    ensures bad { result ≡ Err XmlError.Bad → (root : Tree) → Reads (Completes [] name.now []) bytes.now root → ⊥ }
+    ensures spelled { IfOk result (λ n. ReadsTokens (Completes [] name.now []) bytes.now (tree_of n)) }
+    ensures bad { result ≡ Err XmlError.Bad → (root : Tree) → ReadsTokens (Completes [] name.now []) bytes.now root → ⊥ }
 {
     let mut outer = Vec::new(alloc);
     let mut open = opened(alloc, name)?;
@@ -114,8 +114,8 @@ fn read_open(alloc: Global, name: &[u8], bytes: &[u8]) -> Result<Node, XmlError>
 
 // The root, if only white space follows it.
 fn finish(root: Node, bytes: &[u8]) -> Result<Node, XmlError>
-    ensures spelled { IfOk result (λ n. Reads (Closes [] (tree_of root)) bytes.now (tree_of n)) }
-    ensures bad { IfErr result (λ _. (t : Tree) → Reads (Closes [] (tree_of root)) bytes.now t → ⊥) }
+    ensures spelled { IfOk result (λ n. ReadsTokens (Closes [] (tree_of root)) bytes.now (tree_of n)) }
+    ensures bad { IfErr result (λ _. (t : Tree) → ReadsTokens (Closes [] (tree_of root)) bytes.now t → ⊥) }
 {
     if is_all_space(bytes) {
         Ok(root)

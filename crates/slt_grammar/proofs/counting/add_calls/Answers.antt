@@ -1,5 +1,5 @@
 use Rattle.std.proofs.Common.{arith, ap, get_or}
-use Rattle.slt_grammar.proofs.Counts.{counted, not-counted, below-next, length-next, below-call}
+use Rattle.slt_grammar.proofs.CallCounts.{counted, not-counted, below-next, length-next, below-call}
 use Rattle.slt_grammar.proofs.counting.add_calls.Goals as goal
 use Rattle.slt_grammar.proofs.counting.add_calls.Goals.{in-Call, in_default}
 

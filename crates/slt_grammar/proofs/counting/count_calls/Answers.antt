@@ -1,6 +1,6 @@
 use Rattle.std.proofs.Common.{◌<◌, length, arith, ap}
 use Rattle.slt_grammar.specs.Grammars.{body_at}
-use Rattle.slt_grammar.proofs.Counts.{below-more, calls-room}
+use Rattle.slt_grammar.proofs.CallCounts.{below-more, calls-room}
 use Rattle.slt_grammar.proofs.counting.count_calls.Goals as goal
 
 pub add_calls-requires-clause-there : goal.add_calls-requires-clause-there

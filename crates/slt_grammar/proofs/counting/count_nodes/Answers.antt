@@ -2,7 +2,7 @@ use Rattle.std.proofs.Common.{◌≡◌, length, arith, ap}
 use Rattle.slt_grammar.specs.Bodies.{params, real_nodes}
 use Rattle.slt_grammar.specs.Grammars.{body_at}
 use Rattle.slt_grammar.specs.declared.rules.Rule.{Rule}
-use Rattle.slt_grammar.proofs.Counts.{nodes-room, real_nodes-are, sum-more}
+use Rattle.slt_grammar.proofs.CallCounts.{nodes-room, real_nodes-are, sum-more}
 use Rattle.slt_grammar.proofs.counting.count_nodes.Goals as goal
 
 pub overflow_sub-size : goal.overflow_sub-size

@@ -1,7 +1,7 @@
 use Rattle.std.proofs.Common.{rules, ◌≡◌, [], ap, sym, ◌∙◌, ◌∷◌, ◌++◌}
 use Rattle.plain_tree.specs.NodeTree.{tree_of}
 use Rattle.xml_profile.specs.Tokens.{Space, Start, Empty, End, Begins}
-use Rattle.xml_profile.specs.Stack.{Closes, Completes, Reads}
+use Rattle.xml_profile.specs.Stack.{Closes, Completes, ReadsTokens}
 use Rattle.xml_profile.proofs.Cutting.{SameRoots}
 use Rattle.xml_profile.specs.declared.reader.XmlError.TheVariants.{Bad}
 use Rattle.xml_profile.proofs.Turns.{opened, emptied, misnamed, spaced, ended, last_closed, one_closed, ok_from, bad_from, no_items}
@@ -12,7 +12,7 @@ pub returns-in-Space-clause-bad : goal.returns-in-Space-clause-bad
 returns-in-Space-clause-bad c =
     let found : Begins (Space c.in-Space.field-0) c.loop-token.rest.now c.in-Some.after.now = rw c.in-Space.is at c.in-Some.ensures.found in
     λ _ root p.
-    spaced (Reads (Completes [] c.args.name.now []) c.args.bytes.now) c.loop-token.outer.items c.loop-token.open c.loop-token.rest.now c.loop-token.invariant
+    spaced (ReadsTokens (Completes [] c.args.name.now []) c.args.bytes.now) c.loop-token.outer.items c.loop-token.open c.loop-token.rest.now c.loop-token.invariant
     c.in-Space.field-0 c.in-Some.after.now found root p
 
 pub loop-token-preserved-in_ok-push-in-Start : goal.loop-token-preserved-in_ok-push-in-Start
@@ -20,7 +20,7 @@ loop-token-preserved-in_ok-push-in-Start c =
     let found : Begins (Start c.in-Start.name.now) c.loop-token.rest.now c.in-Some.after.now = rw c.in-Start.is at c.in-Some.ensures.found in
     let inner = c.in_ok-inner-in-Start.ensures in
     let same = c.replace.ensures.after in
-    opened (Reads (Completes [] c.args.name.now []) c.args.bytes.now) c.loop-token.outer.items c.loop-token.open c.loop-token.rest.now c.loop-token.invariant
+    opened (ReadsTokens (Completes [] c.args.name.now []) c.args.bytes.now) c.loop-token.outer.items c.loop-token.open c.loop-token.rest.now c.loop-token.invariant
     c.in-Start.name.now c.in-Some.after.now c.push.new.self.items c.replace.new.dest found
     (c.in_ok-push-in-Start.ensures.items ∙ ap (λ x. c.loop-token.outer.items ++ x ∷ []) c.replace.ensures.value)
     (ap (λ x. x.name) same ∙ inner.0) (ap (λ x. x.kids) same ∙ inner.1)
@@ -28,7 +28,7 @@ loop-token-preserved-in_ok-push-in-Start c =
 pub loop-token-preserved-in_ok-push-in-Empty : goal.loop-token-preserved-in_ok-push-in-Empty
 loop-token-preserved-in_ok-push-in-Empty c =
     let found : Begins (Empty c.in-Empty.name.now) c.loop-token.rest.now c.in-Some.after.now = rw c.in-Empty.is at c.in-Some.ensures.found in
-    emptied (Reads (Completes [] c.args.name.now []) c.args.bytes.now) c.loop-token.outer.items c.loop-token.open c.loop-token.rest.now c.loop-token.invariant
+    emptied (ReadsTokens (Completes [] c.args.name.now []) c.args.bytes.now) c.loop-token.outer.items c.loop-token.open c.loop-token.rest.now c.loop-token.invariant
     c.in-Empty.name.now c.in-Some.after.now c.push-in-Empty.new.self found
     (c.in_ok-push-in-Empty.ensures.ok ∙ ap (λ x. c.loop-token.open.kids ++ x ∷ []) c.in_ok-leaf-in-Empty.ensures)
 
@@ -36,15 +36,15 @@ pub returns-then-not-same_bytes-clause-bad : goal.returns-then-not-same_bytes-cl
 returns-then-not-same_bytes-clause-bad c =
     let found : Begins (End c.in-End.name.now) c.loop-token.rest.now c.in-Some.after.now = rw c.in-End.is at c.in-Some.ensures.found in
     λ _ root p.
-    misnamed (Reads (Completes [] c.args.name.now []) c.args.bytes.now) c.loop-token.outer.items c.loop-token.open c.loop-token.rest.now c.loop-token.invariant
+    misnamed (ReadsTokens (Completes [] c.args.name.now []) c.args.bytes.now) c.loop-token.outer.items c.loop-token.open c.loop-token.rest.now c.loop-token.invariant
     c.in-End.name.now c.in-Some.after.now found (λ e. let t = c.same_bytes.ensures.1 (e ∙ sym c.as_slice.ensures) in let f = c.if-not-same_bytes.true in cc) root p
 
-closed : (c : After-finish) → SameRoots (Reads (Completes [] c.args.name.now []) c.args.bytes.now) (Reads (Closes [] (tree_of c.in_ok-node-in-End.node)) c.in-Some.after.now)
+closed : (c : After-finish) → SameRoots (ReadsTokens (Completes [] c.args.name.now []) c.args.bytes.now) (ReadsTokens (Closes [] (tree_of c.in_ok-node-in-End.node)) c.in-Some.after.now)
 closed c =
     let found : Begins (End c.in-End.name.now) c.loop-token.rest.now c.in-Some.after.now = rw c.in-End.is at c.in-Some.ensures.found in
     let empty : c.loop-token.outer.items ≡ [] = search (rules, no_items c.loop-token.outer.items) in
     rw c.in_ok-node-in-End.ensures
-    (last_closed (Reads (Completes [] c.args.name.now []) c.args.bytes.now) c.loop-token.outer.items c.loop-token.open c.loop-token.rest.now c.loop-token.invariant
+    (last_closed (ReadsTokens (Completes [] c.args.name.now []) c.args.bytes.now) c.loop-token.outer.items c.loop-token.open c.loop-token.rest.now c.loop-token.invariant
     c.in-End.name.now c.in-Some.after.now found (c.same_bytes.ensures.0 c.if-not-same_bytes.false ∙ c.as_slice.ensures) empty)
 
 pub returns-in-None-clause-spelled : goal.returns-in-None-clause-spelled
@@ -60,12 +60,12 @@ returns-in-None-clause-bad c =
 pub loop-token-preserved : goal.loop-token-preserved
 loop-token-preserved c =
     let found : Begins (End c.in-End.name.now) c.loop-token.rest.now c.in-Some.after.now = rw c.in-End.is at c.in-Some.ensures.found in
-    one_closed (Reads (Completes [] c.args.name.now []) c.args.bytes.now) c.loop-token.outer.items c.loop-token.open c.loop-token.rest.now c.loop-token.invariant
+    one_closed (ReadsTokens (Completes [] c.args.name.now []) c.args.bytes.now) c.loop-token.outer.items c.loop-token.open c.loop-token.rest.now c.loop-token.invariant
     c.in-End.name.now c.in-Some.after.now c.pop.new.self.items c.in-Some-pop.parent c.push-in-Some-pop.new.self found
     (c.same_bytes.ensures.0 c.if-not-same_bytes.false ∙ c.as_slice.ensures) c.in-Some-pop.ensures.items
     (c.in_ok-push-in-Some-pop.ensures.ok ∙ ap (λ x. c.in-Some-pop.parent.kids ++ x ∷ []) c.in_ok-node-in-End.ensures)
 
 pub returns-clause-bad : goal.returns-clause-bad
 returns-clause-bad c = λ _ root p.
-    ended (Reads (Completes [] c.args.name.now []) c.args.bytes.now) c.loop-token.outer.items c.loop-token.open c.loop-token.rest.now c.loop-token.invariant
+    ended (ReadsTokens (Completes [] c.args.name.now []) c.args.bytes.now) c.loop-token.outer.items c.loop-token.open c.loop-token.rest.now c.loop-token.invariant
     c.in_default.ensures.none root p

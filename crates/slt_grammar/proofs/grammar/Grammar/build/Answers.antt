@@ -5,7 +5,7 @@ use Rattle.slt_grammar.specs.Building.{AreBuilt}
 use Rattle.slt_grammar.specs.Grammars.{body_at}
 use Rattle.slt_grammar.specs.declared.rules.Rule.{Rule}
 use Rattle.slt_grammar.specs.declared.grammar.StoredRule.{StoredRule}
-use Rattle.slt_grammar.proofs.Counts.{sum-more}
+use Rattle.slt_grammar.proofs.CallCounts.{sum-more}
 use Rattle.slt_grammar.proofs.Storing.{AreStored, ranks-small, stored-more, all-kept}
 use Rattle.slt_grammar.proofs.grammar.Grammar.build.Goals as goal
 

@@ -9,7 +9,7 @@ use Rattle.slt_grammar.specs.Grammars.{size}
 use Rattle.fcns_encoding.specs.Interning.{Interns, pairs_of_tree}
 use Rattle.grammar_file.specs.FileBytes.{file_bytes}
 use Rattle.store_core.specs.Acts.{Act, Load, Save, SaveGrammar}
-use Rattle.store_core.specs.Worlds.{Parts, PartsStandFor, World, Same, HasFile}
+use Rattle.store_core.specs.Worlds.{Parts, PartsStandFor, IsLawfulState, World, Same, HasFile}
 use Rattle.store_core.specs.Texts.{answer_line, refusal_line}
 use Rattle.store_core.specs.Refusals.{Cause}
 use Rattle.store_core.specs.declared.answer.Answer.{Answer}
@@ -73,6 +73,10 @@ pub record Refuses (act : Act) (old : World) (out : List ℕ) (new : World) : Ty
   pub same : Same old new
   pub printed : out ≡ refusal_line refusal
 
+-- One command: the states before and after it are lawful, the count of the shelf's faults doesn't fall, and the command is done
+-- or refused.
 pub record Step (act : Act) (old : World) (out : List ℕ) (new : World) : Type 0 where
+  pub before : IsLawfulState old.state
+  pub after : IsLawfulState new.state
   pub later : old.count ≤ new.count
   pub done : Does act old out new ⊎ Refuses act old out new

@@ -20,7 +20,8 @@ pub record Parts : Type 0 where
 abbrev pub PartsStandFor : Parts → Tree → Type 0
 PartsStandFor parts t = StandsFor parts.rules parts.names parts.texts t
 
--- the rules are a swept grammar, and the parts stand for a document of fewer than 2^63 nodes
+-- What is held of a document is lawful: the rules are a grammar of which each rule but the start is called, and with the names
+-- and the texts they stand for a document of fewer than 2^63 nodes.
 pub record AreLawfulParts (parts : Parts) : Type 0 where
   pub tree : Tree
   pub stand : PartsStandFor parts tree
@@ -34,6 +35,7 @@ pub record AreLawfulParts (parts : Parts) : Type 0 where
 abbrev pub State : Type 0
 State = Option Parts
 
+-- a state of the plain tree machine: nothing, or what is held of a document, and that is lawful
 abbrev pub IsLawfulState : State → Type 0
 IsLawfulState state = IfSome state AreLawfulParts
 

@@ -1,6 +1,7 @@
 // What a command answers, and the line that says so.
 ghost use Rattle.std.specs.Prelude.{◌≡◌, ◌+◌, ◌≤◌, ◌++◌, [], length, codes};
 ghost use Rattle.tree_outside.specs.Outside.{HasCause, Writes};
+ghost use Rattle.tree_outside.specs.Shelf.{Keeps};
 ghost use Rattle.store_core.specs.Texts.{line_of, answer_line, refusal_line};
 
 use itoa::{Buffer, Integer};
@@ -67,6 +68,7 @@ pub(crate) fn write_line<K: Sink>(
     sink: &mut K,
 ) -> Result<(), Failed>
     ensures content { Writes (K.got sink.old) (K.got sink.new) result (line_of outcome) }
+    ensures kept { Keeps (K.kept sink.old) (K.kept sink.new) }
     ensures cause { HasCause (K.faults sink.old) (K.faults sink.new) result }
 {
     match outcome {
@@ -94,6 +96,7 @@ fn refusal_text(refusal: Refusal) -> &'static [u8]
 fn write_count<K: Sink, I: Integer>(words: &[u8], count: I, sink: &mut K) -> Result<(), Failed>
     requires { length words.now ≤ 40 }
     ensures content { Writes (K.got sink.old) (K.got sink.new) result (words.now ++ I.text count ++ codes "\n") }
+    ensures kept { Keeps (K.kept sink.old) (K.kept sink.new) }
     ensures cause { HasCause (K.faults sink.old) (K.faults sink.new) result }
 {
     let mut line = Line::new();
@@ -105,6 +108,7 @@ fn write_count<K: Sink, I: Integer>(words: &[u8], count: I, sink: &mut K) -> Res
 
 fn write_grammar<K: Sink>(rules: usize, size: u64, bytes: u128, sink: &mut K) -> Result<(), Failed>
     ensures content { Writes (K.got sink.old) (K.got sink.new) result (answer_line (Answer.Grammar rules size bytes)) }
+    ensures kept { Keeps (K.kept sink.old) (K.kept sink.new) }
     ensures cause { HasCause (K.faults sink.old) (K.faults sink.new) result }
 {
     let mut line = Line::new();

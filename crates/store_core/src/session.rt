@@ -1,6 +1,7 @@
 // The session and its commands.
 ghost use Rattle.std.specs.Prelude.{◌≡◌, ◌≤◌, List, ℕ, None};
 ghost use Rattle.tree_outside.specs.Outside.{HasCause, Writes};
+ghost use Rattle.tree_outside.specs.Shelf.{Keeps};
 
 use crate::answer::{Answer, Refusal, write_line};
 use crate::command::{Command, Settings};
@@ -85,6 +86,7 @@ impl Session {
             (world self.old (F.told shelf.old) (F.faults shelf.old)) out
             (world self.new (F.told shelf.new) (F.faults shelf.new))
             × Writes (K.got sink.old) (K.got sink.new) result out }
+        ensures kept { Keeps (K.kept sink.old) (K.kept sink.new) }
         ensures cause { HasCause (K.faults sink.old) (K.faults sink.new) result }
     {
         let outcome = self.outcome(alloc, command, shelf, steps);
@@ -100,6 +102,7 @@ impl Session {
         shelf: &mut F,
         steps: &mut Steps<L>,
     ) -> Result<Answer, Refusal>
+        ensures lawful { IsLawfulState self.old × IsLawfulState self.new }
         ensures later { F.faults shelf.old ≤ F.faults shelf.new }
         ensures comes { Comes (act_of command.entry) (world self.old (F.told shelf.old) (F.faults shelf.old)) result (world self.new (F.told shelf.new) (F.faults shelf.new)) }
     {
@@ -116,9 +119,12 @@ impl Session {
         name: &str,
         shelf: &mut F,
     ) -> Result<Answer, Refusal>
+        ensures lawful { IsLawfulState self.old × IsLawfulState self.new }
         ensures later { F.faults shelf.old ≤ F.faults shelf.new }
         ensures comes { Comes (act.Load name.now) (world self.old (F.told shelf.old) (F.faults shelf.old)) result (world self.new (F.told shelf.new) (F.faults shelf.new)) }
     {
+        // A look at the field tells that what was held is lawful, also where the loading is refused.
+        let _ = &self.store;
         let loaded = load_document(alloc, name, shelf)?;
         self.store = Some(loaded.store);
         Ok(Answer::Nodes(loaded.count))
@@ -131,6 +137,7 @@ impl Session {
         shelf: &mut F,
         steps: &mut Steps<L>,
     ) -> Result<Answer, Refusal>
+        ensures lawful { IsLawfulState self.now }
         ensures later { F.faults shelf.old ≤ F.faults shelf.new }
         ensures comes { Comes (act.Save name.now) (world self.now (F.told shelf.old) (F.faults shelf.old)) result (world self.now (F.told shelf.new) (F.faults shelf.new)) }
     {
@@ -144,6 +151,7 @@ impl Session {
     }
 
     fn save_grammar<F: Shelf>(&self, name: &str, shelf: &mut F) -> Result<Answer, Refusal>
+        ensures lawful { IsLawfulState self.now }
         ensures later { F.faults shelf.old ≤ F.faults shelf.new }
         ensures comes { Comes (act.SaveGrammar name.now) (world self.now (F.told shelf.old) (F.faults shelf.old)) result (world self.now (F.told shelf.new) (F.faults shelf.new)) }
     {

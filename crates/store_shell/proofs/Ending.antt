@@ -9,8 +9,8 @@ use Rattle.store_shell.specs.Feeding.{Ends, Feeds}
 use Rattle.store_shell.specs.Serving.{Script, IsWhole, Serves}
 use Rattle.store_shell.specs.declared.script.Flow.{Flow}
 use Rattle.store_shell.specs.declared.script.Flow.TheVariants as flow
-use Rattle.store_shell.specs.declared.script.Status.{Status}
-use Rattle.store_shell.specs.declared.script.Status.TheVariants as status
+use Rattle.store_shell.specs.declared.status.Status.{Status}
+use Rattle.store_shell.specs.declared.status.Status.TheVariants as status
 use Rattle.store_shell.proofs.Cuts.{cut_none, nothing}
 use Rattle.store_shell.proofs.Pieces.{Feeds-on}
 use Rattle.store_shell.proofs.Runs.{Did-nil, Did-one, Did-append, Stops-one, Stops-after, Quits-one, Quits-after}

@@ -5,9 +5,9 @@ use Rattle.std.proofs.lemmas.List.{append_assoc, append-nil}
 use Rattle.std.proofs.lemmas.List.Elements.{All-nil, All-cons, All-append}
 use Rattle.tree_outside.specs.Outside.{Gets, GetsFront, Stays}
 use Rattle.tree_outside.proofs.Beside.{Stays-refl}
-use Rattle.store_core.specs.Worlds.{World}
+use Rattle.store_core.specs.Worlds.{World, IsLawfulState}
 use Rattle.store_shell.specs.Feeding.{Goes}
-use Rattle.store_shell.specs.Forms.{Form, Quit, IsForm}
+use Rattle.store_shell.specs.Forms.{Form, Empty, Long, Bad, Quit, Command, IsForm}
 use Rattle.store_shell.specs.Runs.{One, DoesLine, Run}
 use Rattle.store_shell.specs.Serving.{Did, Stops, Quits}
 use Rattle.store_shell.proofs.OneForm.{no_quit}
@@ -111,3 +111,15 @@ Quits-after ls ms done q = record {
 -- a line of another form
 pub Goes-as : (line : List ℕ) (form : Form) (w v : World) (out : List ℕ) → (form ≡ Quit → ⊥) → IsForm line form → One form w out v → Goes line w out v
 Goes-as line form w v out ne h one = record { no_quit = no_quit line form h ne; does = record { form = form; says = h; does = one } }
+
+-- ---- lawful states
+one_lawful : (form : Form) (w v : World) (out : List ℕ) → IsLawfulState w.state → One form w out v → IsLawfulState v.state
+one_lawful Empty w v out h one = subst (λ (u : World). IsLawfulState u.state) (sym one.1) h
+one_lawful Long w v out h one = subst (λ (u : World). IsLawfulState u.state) (sym one.1) h
+one_lawful Bad w v out h one = subst (λ (u : World). IsLawfulState u.state) (sym one.1) h
+one_lawful Quit w v out h one = subst (λ (u : World). IsLawfulState u.state) (sym one.1) h
+one_lawful (Command act) w v out h one = one.after
+
+pub Run-lawful : (lines : List (List ℕ)) (w v : World) (out : List ℕ) → IsLawfulState w.state → Run lines w out v → IsLawfulState v.state
+Run-lawful [] w v out h r = subst (λ (u : World). IsLawfulState u.state) (sym r.1) h
+Run-lawful (l ∷ ls) w v out h r = Run-lawful ls r.0 v r.2 (one_lawful r.3.form w r.0 r.1 h r.3.does) r.4

@@ -5,8 +5,8 @@ use Rattle.store_core.specs.Worlds.{World}
 use Rattle.store_shell.specs.Forms.{Quit, IsForm, HasNoQuit}
 use Rattle.store_shell.specs.Lines.{IsCut}
 use Rattle.store_shell.specs.Runs.{DoesLine, Run}
-use Rattle.store_shell.specs.declared.script.Status.{Status}
-use Rattle.store_shell.specs.declared.script.Status.TheVariants as status
+use Rattle.store_shell.specs.declared.status.Status.{Status}
+use Rattle.store_shell.specs.declared.status.Status.TheVariants as status
 
 -- the bytes that were taken from the source, at most 2^30: the lines that ended, and what follows them
 pub record Script : Type 0 where
@@ -60,6 +60,12 @@ pub record Finishes (script : Script) (left : Option (List ℕ)) (old new : Worl
   pub end : Quits script.lines lines ⊎ (IsWhole script left × ((lines ≡ all_lines script) ⊎ Quits (all_lines script) lines))
   pub did : Did lines old new before now
 
+-- the words were refused, or there was no memory to begin with
+abbrev pub IsRefused : Status → Type 0
+IsRefused status.Words = Unit {0}
+IsRefused status.Memory = Unit {0}
+IsRefused _ = ⊥
+
 -- Nothing was read or written.
 pub record Refused (script : Script) (old new : World) (before now : Option (List ℕ)) : Type 0 where
   pub bytes : script.bytes ≡ []
@@ -75,3 +81,12 @@ Serves script left status.WriteFault old new before now =
     Stops script.lines old new before now ⊎ (IsWhole script left × Stops (all_lines script) old new before now)
 Serves script left status.Words old new before now = Refused script old new before now
 Serves script left status.Memory old new before now = Refused script old new before now
+
+-- the exit status with which a program says how a script ended
+abbrev pub exit_status : Status → ℕ
+exit_status status.Done = 0
+exit_status status.Memory = 1
+exit_status status.Words = 2
+exit_status status.ReadFault = 3
+exit_status status.WriteFault = 4
+exit_status status.LongScript = 5

@@ -1,5 +1,5 @@
 // The laws of lines and forms, each on a public call that does nothing.
-ghost use Rattle.store_shell.specs.Laws.{CutsOne, LinesAreFew, HasOneForm};
+ghost use Rattle.store_shell.specs.Laws.{CutsOne, LinesAreFew, HasOneForm, RunsStayLawful};
 
 /// Bytes are cut into lines and a tail in one way alone.
 pub fn cuts_one()
@@ -14,4 +14,9 @@ pub fn lines_are_few()
 /// A line has one form alone.
 pub fn has_one_form()
     ensures { HasOneForm }
+{}
+
+/// A run of the plain tree machine from a lawful state leaves a lawful state.
+pub fn runs_stay_lawful()
+    ensures { RunsStayLawful }
 {}

@@ -10,7 +10,9 @@ mod laws;
 mod line;
 mod parse;
 mod script;
+mod status;
 mod verb;
 
-pub use laws::{cuts_one, has_one_form, lines_are_few};
-pub use script::{Status, serve};
+pub use laws::{cuts_one, has_one_form, lines_are_few, runs_stay_lawful};
+pub use script::serve;
+pub use status::Status;

@@ -2,13 +2,15 @@
 ghost use Rattle.std.specs.Prelude.{◌≡◌, ◌≢◌, ◌↔◌, ◌≤◌, ℕ, List, [], ◌∷◌, MatchResult};
 ghost use Rattle.std.specs.Option.{option_copied};
 ghost use Rattle.tree_outside.specs.Outside.{HasCause, Rose, Takes};
+ghost use Rattle.tree_outside.specs.Shelf.{Keeps};
 ghost use Rattle.store_core.specs.Worlds.{world};
 ghost use Rattle.store_shell.specs.Lines.{IsOneLine, kept};
 ghost use Rattle.store_shell.specs.Feeding.{Ends, Feeds};
-ghost use Rattle.store_shell.specs.Serving.{Script, Serves};
+ghost use Rattle.store_shell.specs.Serving.{Script, Serves, IsRefused};
 
 use crate::line::Line;
 use crate::parse::{Parsed, parse};
+use crate::status::Status;
 use read_steps::Steps;
 use std::alloc::Global;
 use std::sync::ledger::Ledger;
@@ -31,23 +33,6 @@ enum Flow {
     Quit,
 }
 
-/// How a script ended.
-#[derive(Clone, Copy, Debug, PartialEq, Eq)]
-pub enum Status {
-    /// It was read to its end or to a `quit`, and each line before was done.
-    Done,
-    /// There was no memory to begin with, and nothing was read.
-    Memory,
-    /// The words were refused, and nothing was read.
-    Words,
-    /// The source failed. The lines that had ended were done.
-    ReadFault,
-    /// The sink failed, and got a front of the text of the lines so far.
-    WriteFault,
-    /// The script has 2^30 bytes or more. The lines that had ended were done.
-    LongScript,
-}
-
 /// Reads the script from the source, does each line's command on the session and the shelf, and writes its text to the sink.
 /// As yet there are no words.
 pub fn serve<S: Source, K: Sink, F: Shelf, L: Ledger>(
@@ -63,6 +48,9 @@ pub fn serve<S: Source, K: Sink, F: Shelf, L: Ledger>(
         × Serves script (S.left source.old) result
         (world session.old (F.told shelf.old) (F.faults shelf.old)) (world session.new (F.told shelf.new) (F.faults shelf.new))
         (K.got sink.old) (K.got sink.new) }
+    ensures untouched { IsRefused result → (source.new ≡ source.old) × (sink.new ≡ sink.old) × (shelf.new ≡ shelf.old) }
+    ensures later { (S.faults source.old ≤ S.faults source.new) × (K.faults sink.old ≤ K.faults sink.new) × (F.faults shelf.old ≤ F.faults shelf.new) }
+    ensures kept { Keeps (K.kept sink.old) (K.kept sink.new) }
     ensures words { (result ≡ Status.Words) ↔ (words.now ≢ []) }
     ensures read_fault { result ≡ Status.ReadFault → Rose (S.faults source.old) (S.faults source.new) }
     ensures write_fault { result ≡ Status.WriteFault → Rose (K.faults sink.old) (K.faults sink.new) }
@@ -120,6 +108,8 @@ fn feed<K: Sink, F: Shelf, L: Ledger>(
     ensures feeds { (part : List ℕ) → IsOneLine part → line.old ≡ kept part → Feeds part piece.now result
         (world session.old (F.told shelf.old) (F.faults shelf.old)) (world session.new (F.told shelf.new) (F.faults shelf.new))
         (K.got sink.old) (K.got sink.new) line.new }
+    ensures later { F.faults shelf.old ≤ F.faults shelf.new }
+    ensures kept { Keeps (K.kept sink.old) (K.kept sink.new) }
     ensures cause { HasCause (K.faults sink.old) (K.faults sink.new) result }
 {
     for byte in piece {
@@ -144,6 +134,8 @@ fn feed_byte<K: Sink, F: Shelf, L: Ledger>(
     ensures feeds { (part : List ℕ) → IsOneLine part → line.old ≡ kept part → Feeds part (byte ∷ []) result
         (world session.old (F.told shelf.old) (F.faults shelf.old)) (world session.new (F.told shelf.new) (F.faults shelf.new))
         (K.got sink.old) (K.got sink.new) line.new }
+    ensures later { F.faults shelf.old ≤ F.faults shelf.new }
+    ensures kept { Keeps (K.kept sink.old) (K.kept sink.new) }
     ensures cause { HasCause (K.faults sink.old) (K.faults sink.new) result }
 {
     if byte != b'\n' {
@@ -167,6 +159,8 @@ fn end_line<K: Sink, F: Shelf, L: Ledger>(
     ensures ends { (bytes : List ℕ) → option_copied line.entry ≡ kept bytes → Ends bytes result
         (world session.old (F.told shelf.old) (F.faults shelf.old)) (world session.new (F.told shelf.new) (F.faults shelf.new))
         (K.got sink.old) (K.got sink.new) }
+    ensures later { F.faults shelf.old ≤ F.faults shelf.new }
+    ensures kept { Keeps (K.kept sink.old) (K.kept sink.new) }
     ensures cause { HasCause (K.faults sink.old) (K.faults sink.new) result }
 {
     match parse(line) {

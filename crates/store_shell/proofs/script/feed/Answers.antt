@@ -5,11 +5,11 @@ use Rattle.store_core.specs.declared.session.SinkFailed.{SinkFailed}
 use Rattle.store_shell.specs.Feeding.{Feeds}
 use Rattle.store_shell.specs.declared.script.Flow.{Flow}
 use Rattle.store_shell.proofs.Pieces.{Feeds-nil, Feeds-next, Feeds-all, Feeds-ended}
-use Rattle.tree_outside.proofs.Beside.{Stays-refl}
+use Rattle.tree_outside.proofs.Beside.{Stays-refl, Keeps-refl, Keeps-trans}
 use Rattle.store_shell.proofs.script.feed.Goals as goal
 
 pub loop-byte-init : goal.loop-byte-init
-loop-byte-init g c = record { feeds = λ part one e. Feeds-nil part _ _ _ _ one e (Stays-refl _); later = omega arith }
+loop-byte-init g c = record { feeds = λ part one e. Feeds-nil part _ _ _ _ one e (Stays-refl _); later = omega arith; shelf = omega arith; kept = Keeps-refl (g.K.Sink.kept c.args.sink.now) }
 
 pub returns-in_err-feed_byte : goal.returns-in_err-feed_byte
 returns-in_err-feed_byte g c =
@@ -28,6 +28,8 @@ returns-in_err-feed_byte g c =
           let at = c.in_err-feed_byte.ensures.feeds so_far.tail so_far.cut.rest so_far.does.1 in
           let next = Feeds-next part piece i (Err c.in_err-feed_byte.field-0.0) w0 w1 w2 g0 g1 g2 c.loop-byte.line c.feed_byte.new.line c.loop-byte-test.true so_far at in
           Feeds-all part piece (i + 1) c.in_err-feed_byte.field-0.0 p.0 w0 w2 g0 g2 c.feed_byte.new.line next;
+      later = omega (arith, c.in_err-feed_byte.ensures.later);
+      kept = Keeps-trans (g.K.Sink.kept c.args.sink.now) (g.K.Sink.kept c.loop-byte.sink) (g.K.Sink.kept c.feed_byte.new.sink) c.loop-byte.invariant.kept c.in_err-feed_byte.ensures.kept;
       cause = record { later = omega (arith, c.in_err-feed_byte.ensures.cause.later); failed = omega (arith, c.in_err-feed_byte.ensures.cause.failed) };
     })
 
@@ -64,4 +66,6 @@ loop-byte-preserved g c = record {
       let P : Flow → Type 0 = λ r. Feeds {E = SinkFailed} part (take (i + 1) piece) (Ok r) w0 w2 g0 g2 c.feed_byte.new.line in
       subst P c.in-On.is next;
   later = omega (arith, c.in_ok-feed_byte.ensures.cause.later);
+  shelf = omega (arith, c.in_ok-feed_byte.ensures.later);
+  kept = Keeps-trans (g.K.Sink.kept c.args.sink.now) (g.K.Sink.kept c.loop-byte.sink) (g.K.Sink.kept c.feed_byte.new.sink) c.loop-byte.invariant.kept c.in_ok-feed_byte.ensures.kept;
 }

@@ -1,4 +1,5 @@
 use Rattle.std.proofs.Common.{◌≡◌, ◌≤◌, ℕ, List, take, Ok}
+use Rattle.tree_outside.specs.Shelf.{Keeps}
 use Rattle.store_core.specs.Worlds.{world}
 use Rattle.store_core.specs.declared.session.SinkFailed.{SinkFailed}
 use Rattle.store_shell.specs.Feeding.{Feeds}
@@ -12,4 +13,6 @@ invariant-loop-byte g l = record {
       (world l.fn.session (g.F.Shelf.told l.fn.shelf) (g.F.Shelf.faults l.fn.shelf)) (world l.session (g.F.Shelf.told l.shelf) (g.F.Shelf.faults l.shelf))
       (g.K.Sink.got l.fn.sink) (g.K.Sink.got l.sink) l.line;
   later : g.K.Sink.faults l.fn.sink ≤ g.K.Sink.faults l.sink;
+  shelf : g.F.Shelf.faults l.fn.shelf ≤ g.F.Shelf.faults l.shelf;
+  kept : Keeps (g.K.Sink.kept l.fn.sink) (g.K.Sink.kept l.sink);
 }

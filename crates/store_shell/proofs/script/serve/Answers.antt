@@ -1,7 +1,7 @@
 use Rattle.std.proofs.Common.{◌≡◌, ◌≤◌, ◌<◌, ◌^◌, ℕ, List, [], ◌++◌, Option, length, take, drop, Result, Ok, arith, refl, sym, ap, subst, ◌∙◌}
 use Rattle.std.proofs.lemmas.List.{append-nil, length-take}
 use Rattle.tree_outside.specs.Outside.{Takes}
-use Rattle.tree_outside.proofs.Beside.{Stays-refl}
+use Rattle.tree_outside.proofs.Beside.{Stays-refl, Keeps-refl, Keeps-trans}
 use Rattle.store_core.specs.Worlds.{World, world}
 use Rattle.store_core.specs.declared.session.SinkFailed.{SinkFailed}
 use Rattle.store_shell.specs.Feeding.{Feeds}
@@ -32,6 +32,8 @@ loop-taken-init g c =
       fed = Feeds-nil [] w0 g0 g0 c.in-Ok.line nothing (c.in-Ok.ensures ∙ sym kept-nil) (Stays-refl g0);
       source = omega arith;
       sink = omega arith;
+      shelf = omega arith;
+      kept = Keeps-refl (g.K.Sink.kept c.args.sink.now);
     }
 
 pub returns-in-Err-clause-serves : goal.returns-in-Err-clause-serves
@@ -99,6 +101,8 @@ loop-taken-preserved g c =
       fed = subst P (c.in-Ok-On.is ∙ ap Ok c.in-Ok-On.field-0-is) all;
       source = omega arith;
       sink = omega arith;
+      shelf = omega arith;
+      kept = Keeps-trans (g.K.Sink.kept c.args.sink.now) (g.K.Sink.kept c.loop-taken.sink) (g.K.Sink.kept c.feed.new.sink) inv.kept c.feed.ensures.kept;
     }
 
 pub returns-in-Ok-Quit-clause-serves : goal.returns-in-Ok-Quit-clause-serves

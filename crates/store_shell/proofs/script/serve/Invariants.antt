@@ -1,5 +1,6 @@
 use Rattle.std.proofs.Common.{◌≡◌, ◌≤◌, ◌-◌, ℕ, List, [], length, Ok}
 use Rattle.tree_outside.specs.Outside.{Takes}
+use Rattle.tree_outside.specs.Shelf.{Keeps}
 use Rattle.store_core.specs.Worlds.{world}
 use Rattle.store_core.specs.declared.session.SinkFailed.{SinkFailed}
 use Rattle.store_shell.specs.Feeding.{Feeds}
@@ -17,6 +18,8 @@ invariant-loop-taken g l = record {
       (g.K.Sink.got l.fn.sink) (g.K.Sink.got l.sink) l.line;
   source : g.S.Source.faults l.fn.source ≤ g.S.Source.faults l.source;
   sink : g.K.Sink.faults l.fn.sink ≤ g.K.Sink.faults l.sink;
+  shelf : g.F.Shelf.faults l.fn.shelf ≤ g.F.Shelf.faults l.shelf;
+  kept : Keeps (g.K.Sink.kept l.fn.sink) (g.K.Sink.kept l.sink);
 }
 
 abbrev pub decreases-loop-taken : goal.decreases-loop-taken

@@ -3,7 +3,6 @@ ghost use Rattle.std.specs.Prelude.{◌≡◌, ◌≢◌, ◌+◌, ◌*◌, ◌^
 ghost use Rattle.std.specs.List.{flat_map};
 ghost use Rattle.tree_outside.specs.Outside.{Gets, GetsFront, HasCause};
 ghost use Rattle.tree_outside.specs.Shelf.{Keeps};
-ghost use Rattle.plain_tree.specs.Tree.{kind_code};
 ghost use Rattle.slt_grammar.specs.Grammars.{body_at, rank_at};
 ghost use Rattle.slt_grammar.specs.Keyed.{rules_of};
 ghost use Rattle.grammar_file.specs.Numbers.{number_bytes};
@@ -94,21 +93,8 @@ fn write_name<K: Sink>(kind: Kind, name: &[u8], out: &mut Buffer<'_, K>) -> Resu
     ensures puts { Puts (seen K.Sink out.old) (seen K.Sink out.new) result (name_bytes (kind, name.now)) }
     ensures small { OnOk result (length (name_bytes (kind, name.now)) ≤ 2 ^ 63 + 11) }
 {
-    out.byte(kind_byte(kind))?;
+    out.byte(kind.number())?;
     write_text(name, out)
-}
-
-fn kind_byte(kind: Kind) -> u8
-    ensures { result ≡ kind_code kind }
-{
-    match kind {
-        Kind::Document => 0,
-        Kind::Element => 1,
-        Kind::Attribute => 2,
-        Kind::Text => 3,
-        Kind::Comment => 4,
-        Kind::Instruction => 5,
-    }
 }
 
 fn write_rules<K: Sink, L: Ledger>(

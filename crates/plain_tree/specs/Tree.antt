@@ -34,6 +34,7 @@ abbrev mutual
 abbrev pub list_count : List Tree → ℕ
 list_count ts = node_count_all (trees ts)
 
+-- the number of a kind, from 0 on
 abbrev pub kind_code : Kind → ℕ
 kind_code Document = 0
 kind_code Element = 1

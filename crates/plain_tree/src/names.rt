@@ -68,7 +68,7 @@ impl Names {
         let name = Bytes::from_slice(alloc, name)?;
         self.pairs.reserve(1)?;
         let place = self.pairs.len();
-        add_at(&mut self.places, kind_number(kind), key, place)?;
+        add_at(&mut self.places, kind.number() as usize, key, place)?;
         self.pairs.push(Pair { kind, name })?;
         Ok(place)
     }
@@ -79,7 +79,7 @@ impl Names {
         ensures none { IfNone result ((i : ℕ) → slice_get self.now i ≢ Some (kind, name.now)) }
         ensures distinct { AreDistinct self.now }
     {
-        find_at(&self.places, kind_number(kind), name)
+        find_at(&self.places, kind.number() as usize, name)
     }
 
     /// The pair at a place, and None exactly where the place isn't below the length.
@@ -137,20 +137,6 @@ impl PlaceMap {
     {
         self.map.insert(name, place)?;
         Ok(())
-    }
-}
-
-fn kind_number(kind: Kind) -> usize
-    ensures number { result ≡ kind_code kind }
-    ensures small { result < 6 }
-{
-    match kind {
-        Kind::Document => 0,
-        Kind::Element => 1,
-        Kind::Attribute => 2,
-        Kind::Text => 3,
-        Kind::Comment => 4,
-        Kind::Instruction => 5,
     }
 }
 

@@ -7,7 +7,7 @@ use Rattle.plain_tree.proofs.names.Names.find.Goals as goal
 use Rattle.plain_tree.proofs.names.Names.find.Goals.{After-find_at}
 
 is_place : (c : After-find_at) → c.find_at.result ≡ place_of c.args.name.now (map_at c.self.inside.places c.args.kind)
-is_place c = c.find_at.ensures ∙ ap (λ n. place_of c.args.name.now (slice_index_or c.self.inside.places n [])) c.kind_number.ensures.number
+is_place c = c.find_at.ensures ∙ ap (λ n. place_of c.args.name.now (slice_index_or c.self.inside.places n [])) c.number.ensures.value
 
 pub returns-clause-some : goal.returns-clause-some
 returns-clause-some c = rw (← c.self.view_is) (found_some _ _ c.self.invariant c.args.kind c.args.name.now c.find_at.result (is_place c))

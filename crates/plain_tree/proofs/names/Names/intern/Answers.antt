@@ -6,16 +6,16 @@ use Rattle.plain_tree.specs.NameTable.{pairs_of, map_at}
 use Rattle.plain_tree.proofs.NameFinding.{no_place}
 use Rattle.plain_tree.proofs.NameAdding.{agrees_added, pushed_pairs, grown_maps, length-pairs_of, last_item}
 use Rattle.plain_tree.proofs.names.Names.intern.Goals as goal
-use Rattle.plain_tree.proofs.names.Names.intern.Goals.{After-kind_number, In_ok-push}
+use Rattle.plain_tree.proofs.names.Names.intern.Goals.{After-number, In_ok-push}
 
-absent : (c : After-kind_number) → place_of c.args.name.now (map_at c.self.inside.places c.args.kind) ≡ None
+absent : (c : After-number) → place_of c.args.name.now (map_at c.self.inside.places c.args.kind) ≡ None
 absent c = no_place _ _ c.self.invariant c.args.kind c.args.name.now
     (λ i. subst (λ z. slice_get z i ≢ Some (c.args.kind, c.args.name.now)) (sym c.self.view_is) (c.in_default.ensures.none i))
 
 pub add_at-requires-clause-absent : goal.add_at-requires-clause-absent
 add_at-requires-clause-absent c =
-    let d = (goal.at.add_at-requires-clause-absent c).After-kind_number in
-    rw (c.in_ok-key.ensures.items_if_clones_equal (λ x y e. e), c.kind_number.ensures.number) (absent d)
+    let d = (goal.at.add_at-requires-clause-absent c).After-number in
+    rw (c.in_ok-key.ensures.items_if_clones_equal (λ x y e. e), c.number.ensures.value) (absent d)
 
 pairs_are : (c : In_ok-push) → pairs_of c.push.new.self.items ≡ pairs_of c.self.inside.pairs.items ++ (c.args.kind, c.args.name.now) ∷ []
 pairs_are c =
@@ -28,10 +28,10 @@ place_is c =
 
 pub invariant_of-self-2 : goal.invariant_of-self-2
 invariant_of-self-2 c =
-    let d = (goal.at.invariant_of-self-2 c).After-kind_number in
-    let room : kind_code c.args.kind < length c.self.inside.places = rw (← c.kind_number.ensures.number) (omega (arith, c.kind_number.ensures.small)) in
-    let maps = grown_maps c.add_at.new.maps c.self.inside.places c.kind_number.result (kind_code c.args.kind) c.len-place.result
-    (length (pairs_of c.self.inside.pairs.items)) c.in_ok-key.key.items c.args.name.now c.in_ok-add_at.ensures.ok c.kind_number.ensures.number
+    let d = (goal.at.invariant_of-self-2 c).After-number in
+    let room : kind_code c.args.kind < length c.self.inside.places = rw (← c.number.ensures.value) (omega (arith, c.number.ensures.small)) in
+    let maps = grown_maps c.add_at.new.maps c.self.inside.places c.number.result (kind_code c.args.kind) c.len-place.result
+    (length (pairs_of c.self.inside.pairs.items)) c.in_ok-key.key.items c.args.name.now c.in_ok-add_at.ensures.ok c.number.ensures.value
     (c.in_ok-key.ensures.items_if_clones_equal (λ x y e. e)) (place_is c) in
     rw (pairs_are c, maps) (agrees_added (pairs_of c.self.inside.pairs.items) c.self.inside.places c.args.kind c.args.name.now c.self.invariant room (absent d))
 

@@ -14,7 +14,7 @@ sink_name b = b.sink.ghost_name
 
 -- the bytes that it holds
 abbrev pub held_of : {K : Type 0} → Buffer K → List ℕ
-held_of b = b.held
+held_of b = b.held.items
 
 -- how many bytes were put
 abbrev pub count_of : {K : Type 0} → Buffer K → ℕ
@@ -27,6 +27,6 @@ seen told b = record {
   kept = told.kept b.sink.now;
   faults = told.faults b.sink.now;
   sink = b.sink.ghost_name;
-  held = b.held;
+  held = b.held.items;
   count = b.count;
 }

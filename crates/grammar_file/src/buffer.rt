@@ -1,19 +1,22 @@
 // A sink that gets bytes in pieces of some kilobytes.
-ghost use Rattle.std.specs.Prelude.{◌≡◌, ◌≤◌, ◌<◌, ◌+◌, ◌-◌, ◌^◌, min, [], ◌∷◌, length, OnOk};
+ghost use Rattle.std.specs.Prelude.{◌≡◌, [], ◌∷◌, OnOk};
 ghost use Rattle.grammar_file.specs.Numbers.{number_bytes};
 ghost use Rattle.grammar_file.specs.Buffers.{Puts};
 ghost use Rattle.grammar_file.specs.BufferOf.{seen, sink_of, sink_name, held_of, count_of};
 
-use crate::piece::{PIECE, Piece};
-use tree_outside::{Failed, Sink};
+use arrayvec::ArrayVec;
+use tree_outside::{ByteCount, Failed, Sink};
+
+// How many bytes a piece has at most.
+const PIECE: usize = 4096;
 
 /// Holds bytes for a sink until a piece is full. After a call that answered `Failed` no further call may be made.
 #[derive(Drop)]
 pub(crate) struct Buffer<'a, K: Sink> {
     sink: &'a mut K,
-    held: Piece,
-    // how many bytes were put; at the last value of its type the count stands still
-    count: u128,
+    held: ArrayVec<u8, PIECE>,
+    // how many bytes were put
+    count: ByteCount,
 }
 
 impl<'a, K: Sink> Buffer<'a, K> {
@@ -25,8 +28,8 @@ impl<'a, K: Sink> Buffer<'a, K> {
     {
         Buffer {
             sink,
-            held: Piece::new(),
-            count: 0,
+            held: ArrayVec::new(),
+            count: ByteCount::new(),
         }
     }
 
@@ -34,7 +37,7 @@ impl<'a, K: Sink> Buffer<'a, K> {
     pub(crate) fn count(&self) -> u128
         ensures { result ≡ count_of self.now }
     {
-        self.count
+        self.count.get()
     }
 
     /// Puts a number: seven bits a byte, the lowest first, and 128 more in each byte but the last.
@@ -58,13 +61,15 @@ impl<'a, K: Sink> Buffer<'a, K> {
     pub(crate) fn bytes(&mut self, bytes: &[u8]) -> Result<(), Failed>
         ensures { Puts (seen K.Sink self.old) (seen K.Sink self.new) result bytes.now }
     {
-        self.make_room(bytes.len())?;
-        self.count = added(self.count, bytes.len());
-        if bytes.len() > PIECE {
-            return self.sink.write(bytes);
+        if self.held.remaining_capacity() < bytes.len() {
+            self.flush()?;
         }
-        self.held.add(bytes);
-        Ok(())
+        self.count.add(bytes.len());
+        match self.held.try_extend_from_slice(bytes) {
+            Ok(()) => Ok(()),
+            // They are longer than a piece, and nothing is held.
+            Err(_) => self.sink.write(bytes),
+        }
     }
 
     /// Writes the bytes that are held.
@@ -76,23 +81,4 @@ impl<'a, K: Sink> Buffer<'a, K> {
         self.held.clear();
         Ok(())
     }
-
-    // Makes room for so many bytes; where they are more than a piece, nothing is held then.
-    fn make_room(&mut self, count: usize) -> Result<(), Failed>
-        ensures puts { Puts (seen K.Sink self.old) (seen K.Sink self.new) result [] }
-        ensures room { OnOk result (count ≤ 4096 → length (held_of self.new) + count ≤ 4096) }
-        ensures empty { OnOk result (4096 < count → held_of self.new ≡ []) }
-    {
-        if count <= self.held.room() {
-            return Ok(());
-        }
-        self.flush()
-    }
-}
-
-// So many bytes more.
-fn added(count: u128, bytes: usize) -> u128
-    ensures { result ≡ min (count + bytes) (2 ^ 128 - 1) }
-{
-    count.saturating_add(bytes as u128)
 }

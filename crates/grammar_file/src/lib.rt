@@ -6,7 +6,6 @@
 
 mod buffer;
 mod laws;
-mod piece;
 mod writing;
 
 pub use laws::equal_files_have_equal_parts;

@@ -1,12 +1,12 @@
 -- The calls of a writer that the labels of a body ask for.
-use Rattle.std.specs.Prelude.{ℕ, ◌+◌, true, List, [], ◌∷◌, drop, Option, Some, None, slice_get}
+use Rattle.std.specs.Prelude.{ℕ, ◌+◌, true, List, [], ◌∷◌, drop, length, Option, Some, None, slice_get}
 use Rattle.std.specs.Option.{option_map, option_map_or}
+use Rattle.tree_outside.specs.ByteCounts.{counted}
 use Rattle.plain_tree.specs.declared.kind.Kind.{Kind}
 use Rattle.plain_tree.specs.declared.kind.Kind.TheVariants.{Document, Element, Attribute, Text, Comment, Instruction}
 use Rattle.rule_arena.specs.declared.label.Label.{Label}
 use Rattle.rule_arena.specs.declared.label.Label.TheVariants.{Bottom, Symbol, Call as CallOf, Param}
 use Rattle.xml_profile.specs.Pen.{Call, Open, Close, Pen, call_text, pen_after, new_pen, calls_text}
-use Rattle.xml_profile.specs.WriterOf.{counted}
 
 -- the name of an element; no other kind of node is written, as yet
 abbrev pub element_name : Option (Kind × List ℕ) → Option (List ℕ)
@@ -73,4 +73,4 @@ pen_past pen (Some call) = pen_after pen call
 -- how many bytes were written after it
 abbrev pub count_past : ℕ → Pen → Option Call → ℕ
 count_past count pen None = count
-count_past count pen (Some call) = counted count (call_text pen call)
+count_past count pen (Some call) = counted count (length (call_text pen call))

@@ -1,12 +1,13 @@
 // What a command answers, and the line that says so.
-ghost use Rattle.std.specs.Prelude.{◌≡◌, ◌+◌, ◌≤◌, ◌++◌, [], length, codes};
+ghost use Rattle.std.specs.Prelude.{◌≡◌, ◌+◌, ◌≤◌, ◌++◌, length, codes};
+ghost use Rattle.arrayvec.specs.ArrayVec.{array_vec_len};
 ghost use Rattle.tree_outside.specs.Outside.{HasCause, Writes};
 ghost use Rattle.tree_outside.specs.Shelf.{Keeps};
 ghost use Rattle.store_core.specs.Texts.{line_of, answer_line, refusal_line};
 
+use arrayvec::ArrayVec;
 use itoa::{Buffer, Integer};
 use std::alloc::AllocError;
-use std::marker::Model;
 use tree_outside::{Failed, Sink};
 use xml_profile::XmlError;
 
@@ -99,10 +100,10 @@ fn write_count<K: Sink, I: Integer>(words: &[u8], count: I, sink: &mut K) -> Res
     ensures kept { Keeps (K.kept sink.old) (K.kept sink.new) }
     ensures cause { HasCause (K.faults sink.old) (K.faults sink.new) result }
 {
-    let mut line = Line::new();
-    line.add(words);
-    line.add_number(count);
-    line.add(b"\n");
+    let mut line: AnswerLine = ArrayVec::new();
+    add(&mut line, words);
+    add_number(&mut line, count);
+    add(&mut line, b"\n");
     sink.write(line.as_slice())
 }
 
@@ -111,68 +112,32 @@ fn write_grammar<K: Sink>(rules: usize, size: u64, bytes: u128, sink: &mut K) ->
     ensures kept { Keeps (K.kept sink.old) (K.kept sink.new) }
     ensures cause { HasCause (K.faults sink.old) (K.faults sink.new) result }
 {
-    let mut line = Line::new();
-    line.add(b"ok rules ");
-    line.add_number(rules);
-    line.add(b" size ");
-    line.add_number(size);
-    line.add(b" bytes ");
-    line.add_number(bytes);
-    line.add(b"\n");
+    let mut line: AnswerLine = ArrayVec::new();
+    add(&mut line, b"ok rules ");
+    add_number(&mut line, rules);
+    add(&mut line, b" size ");
+    add_number(&mut line, size);
+    add(&mut line, b" bytes ");
+    add_number(&mut line, bytes);
+    add(&mut line, b"\n");
     sink.write(line.as_slice())
 }
 
 // Room for the longest answer: its words and a line feed, and three numbers of at most 40 digits.
-const LINE: usize = 160;
+type AnswerLine = ArrayVec<u8, 160>;
 
-// A line as far as it was put together; contracts see its bytes.
-#[derive(Drop)]
-struct Line {
-    bytes: [u8; LINE],
-    len: usize,
+fn add(line: &mut AnswerLine, text: &[u8])
+    requires { array_vec_len line.old + length text.now ≤ 160 }
+    ensures { line.new.items ≡ line.old.items ++ text.now }
+{
+    let _fits = line.try_extend_from_slice(text);
 }
 
-impl Model for Line {
-    ghost use Rattle.std.specs.Prelude.{◌≤◌, ℕ, List, take};
-
-    ghost Value = { List ℕ };
-
-    ghost view = { λ a. take a.len a.bytes };
-
-    ghost invariant = { λ a. a.len ≤ 160 };
-}
-
-impl Line {
-    fn new() -> Line
-        ensures { result ≡ [] }
-    {
-        Line {
-            bytes: [0; LINE],
-            len: 0,
-        }
-    }
-
-    fn add(&mut self, text: &[u8])
-        requires { length self.old + length text.now ≤ 160 }
-        ensures { self.new ≡ self.old ++ text.now }
-    {
-        let end = self.len + text.len();
-        self.bytes[self.len..end].copy_from_slice(text);
-        self.len = end;
-    }
-
-    fn add_number<I: Integer>(&mut self, number: I)
-        requires { length self.old + 40 ≤ 160 }
-        ensures text { self.new ≡ self.old ++ I.text number }
-        ensures short { length self.new ≤ length self.old + 40 }
-    {
-        let mut buffer = Buffer::new();
-        self.add(buffer.format(number).as_bytes());
-    }
-
-    fn as_slice(&self) -> &[u8]
-        ensures { result.now ≡ self.now }
-    {
-        &self.bytes[..self.len]
-    }
+fn add_number<I: Integer>(line: &mut AnswerLine, number: I)
+    requires { array_vec_len line.old + 40 ≤ 160 }
+    ensures text { line.new.items ≡ line.old.items ++ I.text number }
+    ensures short { array_vec_len line.new ≤ array_vec_len line.old + 40 }
+{
+    let mut buffer = Buffer::new();
+    add(line, buffer.format(number).as_bytes());
 }

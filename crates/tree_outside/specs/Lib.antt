@@ -1,3 +1,4 @@
+pub mod ByteCounts
 pub mod Calls
 pub mod Files
 pub mod Memory

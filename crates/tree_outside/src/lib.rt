@@ -3,9 +3,10 @@
 //! Each has a count of its faults. A call answers `Failed` only where the count rose in that call, and where an object
 //! tells its content, a call says what it does to that. The objects in memory tell all, and fail at the calls that their
 //! maker names. The real ones are the edge of what is proved: they tell no content. A `Pending` is the pending file of a
-//! shelf as a sink.
+//! shelf as a sink. A `ByteCount` counts what a sink got.
 #![tactic(auto)]
 
+mod byte_count;
 mod calls;
 mod memory;
 mod memory_shelf;
@@ -15,6 +16,7 @@ mod real_shelf;
 mod traits;
 mod unread;
 
+pub use byte_count::ByteCount;
 pub use memory::{MemorySink, MemorySource};
 pub use memory_shelf::MemoryShelf;
 pub use pending::Pending;

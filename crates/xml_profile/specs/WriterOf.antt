@@ -1,5 +1,5 @@
 -- What is seen of a writer.
-use Rattle.std.specs.Prelude.{ℕ, ◌+◌, ◌-◌, ◌^◌, min, List, length}
+use Rattle.std.specs.Prelude.{ℕ}
 use Rattle.xml_profile.specs.Pen.{Pen}
 use Rattle.xml_profile.specs.declared.writer.Writer.{Writer}
 
@@ -17,7 +17,3 @@ sink_name w = w.sink.ghost_name
 -- how many bytes it wrote so far
 abbrev pub count_of : {K : Type 0} → Writer K → ℕ
 count_of w = w.count
-
--- the count with these bytes, until its last value
-abbrev pub counted : ℕ → List ℕ → ℕ
-counted count bytes = min (count + length bytes) (2 ^ 128 - 1)

@@ -1,11 +1,12 @@
 // XML written to a sink, call by call.
-ghost use Rattle.std.specs.Prelude.{◌≡◌, ◌<◌, ◌+◌, ◌-◌, ◌^◌, min, [], ◌∷◌, ◌++◌, OnOk, OnErr};
+ghost use Rattle.std.specs.Prelude.{◌≡◌, ◌<◌, ◌^◌, ◌∷◌, ◌++◌, length, OnOk, OnErr};
+ghost use Rattle.tree_outside.specs.ByteCounts.{counted};
 ghost use Rattle.tree_outside.specs.Outside.{HasCause, Writes};
 ghost use Rattle.tree_outside.specs.Shelf.{Keeps};
 ghost use Rattle.xml_profile.specs.Pen.{Open, Close, call_text, pen_after, new_pen};
-ghost use Rattle.xml_profile.specs.WriterOf.{pen_of, sink_of, sink_name, count_of, counted};
+ghost use Rattle.xml_profile.specs.WriterOf.{pen_of, sink_of, sink_name, count_of};
 
-use tree_outside::{Failed, Sink};
+use tree_outside::{ByteCount, Failed, Sink};
 
 /// Writes elements to a sink. A call that answered `Failed` leaves pen and count as they were, though the sink may have got a
 /// front of what the call writes.
@@ -15,8 +16,8 @@ pub struct Writer<'a, K: Sink> {
     lines: bool,
     depth: u64,
     in_tag: bool,
-    // how many bytes were written; at the last value of its type the count stands still
-    count: u128,
+    // how many bytes were written
+    count: ByteCount,
 }
 
 impl<'a, K: Sink> Writer<'a, K> {
@@ -32,7 +33,7 @@ impl<'a, K: Sink> Writer<'a, K> {
             lines,
             depth: 0,
             in_tag: false,
-            count: 0,
+            count: ByteCount::new(),
         }
     }
 
@@ -40,7 +41,7 @@ impl<'a, K: Sink> Writer<'a, K> {
     pub fn count(&self) -> u128
         ensures { result ≡ count_of self.now }
     {
-        self.count
+        self.count.get()
     }
 
     /// Begins an element. `Failed` comes only where the sink failed.
@@ -48,7 +49,7 @@ impl<'a, K: Sink> Writer<'a, K> {
         requires { (pen_of self.old).depth < 2 ^ 63 }
         ensures written { Writes (K.got (sink_of self.old)) (K.got (sink_of self.new)) result (call_text (pen_of self.old) (Open name.now)) }
         ensures pen { OnOk result (pen_of self.new ≡ pen_after (pen_of self.old) (Open name.now)) }
-        ensures count { OnOk result (count_of self.new ≡ counted (count_of self.old) (call_text (pen_of self.old) (Open name.now))) }
+        ensures count { OnOk result (count_of self.new ≡ counted (count_of self.old) (length (call_text (pen_of self.old) (Open name.now)))) }
         ensures failed_pen { OnErr result (pen_of self.new ≡ pen_of self.old) }
         ensures failed_count { OnErr result (count_of self.new ≡ count_of self.old) }
         ensures kept { Keeps (K.kept (sink_of self.old)) (K.kept (sink_of self.new)) }
@@ -57,7 +58,7 @@ impl<'a, K: Sink> Writer<'a, K> {
     {
         let front: &[u8] = if self.in_tag { b"><" } else { b"<" };
         write_two(self.sink, front, name)?;
-        self.count = added(self.count, front.len() + name.len());
+        self.count.add(front.len() + name.len());
         self.depth += 1;
         self.in_tag = true;
         Ok(())
@@ -68,7 +69,7 @@ impl<'a, K: Sink> Writer<'a, K> {
         requires { 0 < (pen_of self.old).depth }
         ensures written { Writes (K.got (sink_of self.old)) (K.got (sink_of self.new)) result (call_text (pen_of self.old) (Close name.now)) }
         ensures pen { OnOk result (pen_of self.new ≡ pen_after (pen_of self.old) (Close name.now)) }
-        ensures count { OnOk result (count_of self.new ≡ counted (count_of self.old) (call_text (pen_of self.old) (Close name.now))) }
+        ensures count { OnOk result (count_of self.new ≡ counted (count_of self.old) (length (call_text (pen_of self.old) (Close name.now)))) }
         ensures failed_pen { OnErr result (pen_of self.new ≡ pen_of self.old) }
         ensures failed_count { OnErr result (count_of self.new ≡ count_of self.old) }
         ensures kept { Keeps (K.kept (sink_of self.old)) (K.kept (sink_of self.new)) }
@@ -79,23 +80,16 @@ impl<'a, K: Sink> Writer<'a, K> {
         if self.in_tag {
             let end: &[u8] = if ends_line { b"/>\n" } else { b"/>" };
             self.sink.write(end)?;
-            self.count = added(self.count, end.len());
+            self.count.add(end.len());
         } else {
             let end: &[u8] = if ends_line { b">\n" } else { b">" };
             write_end_tag(self.sink, name, end)?;
-            self.count = added(self.count, 2 + name.len() + end.len());
+            self.count.add(2 + name.len() + end.len());
         }
         self.depth -= 1;
         self.in_tag = false;
         Ok(())
     }
-}
-
-// So many bytes more.
-fn added(count: u128, bytes: usize) -> u128
-    ensures { result ≡ min (count + bytes) (2 ^ 128 - 1) }
-{
-    count.saturating_add(bytes as u128)
 }
 
 fn write_two<K: Sink>(sink: &mut K, first: &[u8], second: &[u8]) -> Result<(), Failed>

@@ -3,5 +3,4 @@ pub mod Listing
 pub mod NumberLemmas
 pub mod Putting
 pub mod Sizes
-pub mod Walking
 pub mod Unique

@@ -5,6 +5,7 @@ use Rattle.std.proofs.lemmas.List.Sums.{sum_by-cons}
 use Rattle.std.proofs.lemmas.Bool.Decides.{nat_tests}
 use Rattle.std.specs.List.{flat_map}
 use Rattle.plain_tree.specs.declared.kind.Kind.{Kind}
+use Rattle.rule_arena.specs.declared.label.Label.{Label}
 use Rattle.slt_grammar.specs.Grammars.{whole}
 use Rattle.slt_grammar.specs.declared.rules.Rule.{Rule}
 use Rattle.grammar_file.specs.Numbers.{number_bytes}
@@ -17,6 +18,9 @@ name_size pair = 2 ^ 63 + 11
 
 abbrev pub text_size : List ℕ → ℕ
 text_size text = 2 ^ 63 + 10
+
+abbrev pub label_size : Label → ℕ
+label_size label = 11
 
 abbrev pub rule_size : Rule → ℕ
 rule_size R = 1 + 11 * length R.body

@@ -142,10 +142,9 @@ fn write_body<K: Sink, L: Ledger>(
         (flat_map label_bytes (body_at (rules_of grammar.now.rules) rule)) }
     ensures small { OnOk result (length (flat_map label_bytes (body_at (rules_of grammar.now.rules) rule)) ≤ 11 * length (body_at (rules_of grammar.now.rules) rule)) }
 {
-    let mut next = Some(grammar.root(rule));
-    while let Some(key) = next {
-        write_label(grammar.item(key, steps).label, out)?;
-        next = grammar.next_in_preorder(key, steps);
+    let mut labels = grammar.walk(rule);
+    while let Some(label) = labels.next(steps) {
+        write_label(label, out)?;
     }
     Ok(())
 }

@@ -1,6 +1,7 @@
 pub mod Scans
 pub mod Held
 pub mod KeyedLemmas
+pub mod Walking
 pub mod CallCounts
 pub mod Growing
 pub mod Storing

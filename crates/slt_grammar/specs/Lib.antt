@@ -9,6 +9,7 @@ pub mod Coding
 pub mod Standing
 pub mod Laws
 pub mod Keyed
+pub mod BodyWalks
 pub mod Holding
 pub mod Listing
 pub mod Building

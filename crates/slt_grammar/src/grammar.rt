@@ -2,6 +2,7 @@
 ghost use Rattle.std.specs.Prelude.{◌≡◌, ◌+◌, ◌<◌, ℕ, Some, length};
 
 use crate::bodies::{body_of, rank_of};
+use crate::body_walk::BodyWalk;
 use crate::building::build_body;
 use crate::counting::count_nodes;
 use crate::rules::Rule;
@@ -51,7 +52,7 @@ impl Model for Grammar {
 impl Grammar {
     ghost use Rattle.rule_arena.specs.Terms.{Node, kids_in, parent_in};
     ghost use Rattle.std.specs.Prelude.{slice_get, slice_index, ◌^◌, IfOk};
-    ghost use Rattle.slt_grammar.specs.Grammars.{calls_of, rank_at, size, whole, IsGrammar};
+    ghost use Rattle.slt_grammar.specs.Grammars.{body_at, calls_of, rank_at, size, whole, IsGrammar};
     ghost use Rattle.slt_grammar.specs.Keyed.{IsKeyed, key_at, nodes_at, rules_of};
 
     // The grammar of these rules, whose labels and calls were counted.
@@ -148,6 +149,14 @@ impl Grammar {
         ensures step { steps.new ≡ steps.old + 1 }
     {
         self.arena.next_in_preorder(key, steps)
+    }
+
+    /// A walk over the labels of a rule's body.
+    pub fn walk(&self, rule: usize) -> BodyWalk<'_>
+        requires { rule < length self.now.rules }
+        ensures { result ≡ body_at (rules_of self.now.rules) rule }
+    {
+        BodyWalk::new(self, rule)
     }
 
     /// Above the number of every node's key.

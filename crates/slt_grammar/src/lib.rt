@@ -1,12 +1,14 @@
 //! Straight-line linear tree grammars with ranked parameters.
 //!
 //! A grammar is a list of rules, each with a rank and a body; the last rule is the start. `Body` and `RuleList` hold what
-//! was not checked yet, `check` makes a `Grammar` of it, whose bodies lie in an arena. `bodies` scans a body, `counting`
-//! counts nodes and calls, `building` puts bodies into the arena. `laws` says what holds of what grammars mean; contracts see
-//! rules whose nodes carry their keys (`specs/Keyed.antt`), and `proofs/KeyedLemmas.antt` has their laws for the crates above.
+//! was not checked yet, `check` makes a `Grammar` of it, whose bodies lie in an arena; a `BodyWalk` goes over the labels of
+//! one. `bodies` scans a body, `counting` counts nodes and calls, `building` puts bodies into the arena. `laws` says what holds
+//! of what grammars mean; contracts see rules whose nodes carry their keys (`specs/Keyed.antt`), and
+//! `proofs/KeyedLemmas.antt` has their laws for the crates above.
 #![tactic(auto)]
 
 mod bodies;
+mod body_walk;
 mod building;
 mod checking;
 mod counting;
@@ -14,6 +16,7 @@ mod grammar;
 mod laws;
 mod rules;
 
+pub use body_walk::BodyWalk;
 pub use checking::{GrammarError, check};
 pub use grammar::Grammar;
 pub use laws::{

@@ -35,11 +35,9 @@ pub(crate) fn write_document<K: Sink, L: Ledger>(
     let _limit = store.grammar.limit();
     let mut writer = Writer::new(sink, true);
     let mut outer = Vec::new(alloc);
-    let mut next = Some(store.grammar.root(store.grammar.rules() - 1));
-    while let Some(key) = next {
-        let label = store.grammar.item(key, steps).label;
+    let mut labels = store.grammar.walk(store.grammar.rules() - 1);
+    while let Some(label) = labels.next(steps) {
         write_label(&mut writer, &store.names, &mut outer, label)?;
-        next = store.grammar.next_in_preorder(key, steps);
     }
     Ok(writer.count())
 }

@@ -1,40 +1,33 @@
-use Rattle.std.proofs.Common.{rules, ◌-◌, length, sym, ◌∙◌, ap, arith}
+use Rattle.std.proofs.Common.{rules, ◌<◌, ◌-◌, ◌^◌, length, sym, ◌∙◌, ap, arith}
 use Rattle.tree_outside.proofs.Beside.{Keeps-trans}
 use Rattle.tree_outside.specs.Outside.{Gets}
-use Rattle.slt_grammar.specs.Keyed.{labels_of, nodes_at}
+use Rattle.slt_grammar.specs.Grammars.{body_at}
+use Rattle.slt_grammar.specs.Keyed.{rules_of}
+use Rattle.slt_grammar.proofs.CallCounts.{nodes-room}
 use Rattle.xml_profile.specs.Pen.{Pen}
 use Rattle.xml_profile.specs.WriterOf.{sink_of}
-use Rattle.store_core.specs.Saving.{body_text}
-use Rattle.store_core.proofs.Saves.{writing_goes, writing_ends, body-nodes, last-there, nodes-few}
+use Rattle.store_core.specs.StoreOf.{start_text}
+use Rattle.store_core.proofs.Saves.{writing_goes, writing_ends, last-there}
 use Rattle.store_core.proofs.writing.write_document.Goals as goal
 
-pub loop-next-preserved : goal.loop-next-preserved
-loop-next-preserved g c =
-    let w = c.loop-next.invariant.writing in
+pub loop-label-preserved : goal.loop-label-preserved
+loop-label-preserved g c =
     let keyed = c.args.store.now.grammar.rules in
     let start = length keyed - 1 in
-    let here = w.here ∙ c.in-Some.is in
+    let few : length (body_at (rules_of keyed) start) < 2 ^ 63 = omega (arith, nodes-room (rules_of keyed) start (last-there keyed c.rules.ensures.grammar.some), c.limit-limit.ensures.keyed.few) in
     let e = c.in_ok-write_label.ensures in
     record {
       writing = rw (e.pen, e.count)
-          (writing_goes _ _ _ _ _ c.in-Some.key _ (record { key = c.in-Some.key; label = c.item-label.result.label; kids = length c.item-label.result.kids })
-          _ _ _ _ _ _ _ _ w c.in-Some.is (c.item-label.ensures.node start w.place here) (c.next_in_preorder-next.ensures.next start w.place here)
-          (omega (arith, c.item-label.ensures.step, c.next_in_preorder-next.ensures.step)) (omega (arith, nodes-few keyed start (last-there keyed c.rules.ensures.grammar.some), c.limit-limit.ensures.keyed.few))
-          e.written e.short e.outer (sym (ap (λ (p : Pen). p.depth) e.pen) ∙ e.depth));
-      same = e.same_reference ∙ c.loop-next.invariant.same;
-      kept = Keeps-trans _ _ _ c.loop-next.invariant.kept e.kept;
+          (writing_goes _ _ _ _ _ c.in-Some.label _ _ _ _ _ _ c.loop-label.invariant.writing c.in-Some.ensures.label few e.written e.short e.outer (sym (ap (λ (p : Pen). p.depth) e.pen) ∙ e.depth));
+      same = e.same_reference ∙ c.loop-label.invariant.same;
+      kept = Keeps-trans _ _ _ c.loop-label.invariant.kept e.kept;
       later = omega (arith, e.later);
     }
 
 pub returns-clause-written : goal.returns-clause-written
 returns-clause-written g c =
-    let keyed = c.args.store.now.grammar.rules in
-    let names = c.args.store.now.names in
-    let got : Gets (g.K.Sink.got c.args.sink.now) (g.K.Sink.got (sink_of c.loop-next.writer)) (body_text names (labels_of (nodes_at keyed (length keyed - 1)))) =
-    (writing_ends _ _ _ _ _ _ _ _ _ _ c.loop-next.invariant.writing c.in_default.is).0 in
-    rw (body-nodes keyed (length keyed - 1)) (search (rules, got))
+    let got : Gets (g.K.Sink.got c.args.sink.now) (g.K.Sink.got (sink_of c.loop-label.writer)) (start_text c.args.store.now) = (writing_ends _ _ _ _ _ _ _ _ c.loop-label.invariant.writing c.in_default.ensures.label.0).0 in
+    search (rules, got)
 
 pub returns-clause-count : goal.returns-clause-count
-returns-clause-count g c =
-    let keyed = c.args.store.now.grammar.rules in
-    rw (body-nodes keyed (length keyed - 1)) (c.count.ensures ∙ (writing_ends _ _ _ _ _ _ _ _ _ _ c.loop-next.invariant.writing c.in_default.is).1)
+returns-clause-count g c = c.count.ensures ∙ (writing_ends _ _ _ _ _ _ _ _ c.loop-label.invariant.writing c.in_default.ensures.label.0).1

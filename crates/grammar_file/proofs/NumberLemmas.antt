@@ -1,5 +1,5 @@
 -- The bytes of a number, one after another.
-use Rattle.std.proofs.Common.{◌≡◌, ℕ, zero, suc, ◌+◌, ◌-◌, ◌/◌, ◌%◌, ◌<◌, ◌≤◌, [], ◌∷◌, Bool, true, false, refl, zero-add, ap, ◌∙◌, subst, arith}
+use Rattle.std.proofs.Common.{◌≡◌, length, ℕ, zero, suc, ◌+◌, ◌-◌, ◌/◌, ◌%◌, ◌<◌, ◌≤◌, [], ◌∷◌, Bool, true, false, refl, zero-add, ap, ◌∙◌, subst, arith}
 use Rattle.std.specs.Prelude.{nat_lt}
 use Rattle.std.proofs.lemmas.Bool.Decides.{nat_tests}
 use Rattle.grammar_file.specs.Numbers.{bytes_within, number_bytes}
@@ -45,3 +45,10 @@ number-next n h =
     let enough : bytes_within n (n / 128) ≡ bytes_within (suc (n / 128)) (n / 128) =
     subst (λ m. bytes_within m (n / 128) ≡ bytes_within (suc (n / 128)) (n / 128)) e (within-enough more (suc (n / 128)) (n / 128) (omega arith)) in
     within-next n n h ∙ ap (λ bs. (128 + n % 128) ∷ bs) enough
+
+-- a number below 128 has one byte, and another one more than its 128th part
+pub one-most : (n : ℕ) → n < 128 → length (number_bytes n) ≤ 1
+one-most n h = rw (number-one n h) (omega arith)
+
+pub more-most : (n most : ℕ) → length (number_bytes (n / 128)) ≤ most → 128 ≤ n → length (number_bytes n) ≤ suc most
+more-most n most h large = rw (number-next n large) (omega (arith, h))

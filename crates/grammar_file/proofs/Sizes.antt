@@ -10,7 +10,7 @@ use Rattle.slt_grammar.specs.Grammars.{whole}
 use Rattle.slt_grammar.specs.declared.rules.Rule.{Rule}
 use Rattle.grammar_file.specs.Numbers.{number_bytes}
 use Rattle.grammar_file.specs.FileBytes.{list_bytes, text_bytes, name_bytes, rule_bytes, file_bytes}
-use Rattle.grammar_file.proofs.NumberLemmas.{number-one, number-next}
+use Rattle.grammar_file.proofs.NumberLemmas.{one-most, more-most}
 use Rattle.grammar_file.proofs.Listing.{sizes, sizes-same}
 
 abbrev pub name_size : Kind × List ℕ → ℕ
@@ -24,12 +24,6 @@ label_size label = 11
 
 abbrev pub rule_size : Rule → ℕ
 rule_size R = 1 + 11 * length R.body
-
-one-most : (n : ℕ) → n < 128 → length (number_bytes n) ≤ 1
-one-most n h = rw (number-one n h) (omega arith)
-
-more-most : (n most : ℕ) → length (number_bytes (n / 128)) ≤ most → 128 ≤ n → length (number_bytes n) ≤ suc most
-more-most n most h large = rw (number-next n large) (omega (arith, h))
 
 -- the first number with so many bytes and one more
 abbrev above : ℕ → ℕ

@@ -10,9 +10,11 @@ mod byte_count;
 mod calls;
 mod memory;
 mod memory_shelf;
+mod part_file;
 mod pending;
 mod real;
 mod real_shelf;
+mod target;
 mod traits;
 mod unread;
 

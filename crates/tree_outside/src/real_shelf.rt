@@ -3,27 +3,25 @@ ghost use Rattle.std.specs.Prelude.{◌≡◌, ◌≤◌, None};
 ghost use Rattle.tree_outside.specs.Outside.{Rose};
 
 use crate::calls::one_more;
+use crate::part_file::PartFile;
 use crate::real::read_some;
 use crate::{Failed, Shelf};
-use std::alloc::{AllocError, Global};
+use std::alloc::Global;
 use std::fs;
-use std::io::{self, BufWriter, ErrorKind, Write};
+use std::io::ErrorKind;
 use std::marker::Model;
 use std::rt::Files;
 
-/// How many bytes of the pending file are gathered before they are written.
-const GATHERED: usize = 1 << 16;
-
-/// A shelf over the system's files. Until `seal`, the pending file has its name with `.part` added. Contracts see the
-/// count of its faults.
+/// A shelf over the system's files. Contracts see the count of its faults.
+///
+/// Links of a name are followed, and stay. A file that `seal` replaces hands on who may read, write and run it, and nothing
+/// else. Until then the pending file lies beside it, with `.part` added to its name; what had that name is removed.
 #[derive(Drop)]
 pub struct RealShelf<'a, R: Files> {
     alloc: Global,
     rt: &'a R,
     opened: Option<R::File>,
-    pending: Option<BufWriter<R::File>>,
-    name: String,
-    part: String,
+    pending: Option<PartFile<R>>,
     faults: u64,
 }
 
@@ -37,7 +35,8 @@ impl<'a, R: Files> Model for RealShelf<'a, R> {
 
 impl<'a, R: Files> RealShelf<'a, R> {
     /// A shelf over the files of this runtime. `open` answers false only where the system says that there is no such file;
-    /// each other error is a fault, and so is a want of memory.
+    /// each other error is a fault, and so is a want of memory. `create` fails for a name that leads to a folder, a device, a
+    /// pipe or a socket.
     pub fn new(alloc: Global, rt: &'a R) -> RealShelf<'a, R>
         ensures { result ≡ 0 }
     {
@@ -46,28 +45,7 @@ impl<'a, R: Files> RealShelf<'a, R> {
             rt,
             opened: None,
             pending: None,
-            name: String::new(alloc),
-            part: String::new(alloc),
             faults: 0,
-        }
-    }
-
-    // Makes the file with `.part` added, and takes the buffer for it.
-    fn begin(&mut self, name: &str) -> io::Result<()>
-        ensures { self.new ≡ self.old }
-    {
-        self.name = String::from_str(self.alloc, name)?;
-        self.part = part_name(self.alloc, name)?;
-        let file = fs::create(self.rt, self.part.as_str())?;
-        match BufWriter::with_capacity(self.alloc, GATHERED, file) {
-            Ok(writer) => {
-                self.pending = Some(writer);
-                Ok(())
-            }
-            Err(error) => {
-                self.remove_part();
-                Err(error)
-            }
         }
     }
 
@@ -75,14 +53,9 @@ impl<'a, R: Files> RealShelf<'a, R> {
     fn give_up(&mut self)
         ensures { self.new ≡ self.old }
     {
-        if self.pending.take().is_some() {
-            self.remove_part();
+        if let Some(part) = self.pending.take() {
+            part.give_up(self.rt);
         }
-    }
-
-    // What can't be removed stays; the next `create` of the name writes over it.
-    fn remove_part(&self) {
-        let _ = fs::remove_file(self.rt, self.part.as_str());
     }
 
     fn fail(&mut self) -> Failed
@@ -127,17 +100,20 @@ impl<R: Files> Shelf for RealShelf<'_, R> {
 
     fn create(&mut self, name: &str) -> Result<(), Failed> {
         self.give_up();
-        match self.begin(name) {
-            Ok(()) => Ok(()),
+        match PartFile::create(self.alloc, self.rt, name) {
+            Ok(part) => {
+                self.pending = Some(part);
+                Ok(())
+            }
             Err(_) => Err(self.fail()),
         }
     }
 
     fn append(&mut self, bytes: &[u8]) -> Result<(), Failed> {
-        let Some(writer) = &mut self.pending else {
+        let Some(part) = &mut self.pending else {
             return Ok(());
         };
-        match writer.write_all(bytes) {
+        match part.append(bytes) {
             Ok(()) => Ok(()),
             Err(_) => {
                 self.give_up();
@@ -147,26 +123,12 @@ impl<R: Files> Shelf for RealShelf<'_, R> {
     }
 
     fn seal(&mut self) -> Result<(), Failed> {
-        let Some(writer) = self.pending.take() else {
+        let Some(part) = self.pending.take() else {
             return Ok(());
         };
-        if put_whole(writer).is_ok()
-            && fs::rename(self.rt, self.part.as_str(), self.name.as_str()).is_ok()
-        {
-            return Ok(());
+        match part.put(self.rt) {
+            Ok(()) => Ok(()),
+            Err(_) => Err(self.fail()),
         }
-        self.remove_part();
-        Err(self.fail())
     }
-}
-
-// Writes what is gathered, and closes the file.
-fn put_whole<W: Write + Drop>(mut writer: BufWriter<W>) -> io::Result<()> {
-    writer.flush()
-}
-
-fn part_name(alloc: Global, name: &str) -> Result<String, AllocError> {
-    let mut part = String::from_str(alloc, name)?;
-    part.push_str(".part")?;
-    Ok(part)
 }

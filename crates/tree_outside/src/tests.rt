@@ -11,6 +11,8 @@ use std::fs;
 use std::io::{self, ErrorKind, Read, Write};
 use std::test::Fail;
 
+mod saves;
+
 // What is left of a source, by reads of at most four bytes.
 fn drain<S: Source>(alloc: Global, source: &mut S) -> Result<Vec<u8>, Fail> {
     let mut all = Vec::new(alloc);
@@ -141,9 +143,11 @@ fn a_real_shelf_keeps_real_files(rt: HostRuntime) -> Result<(), Fail> {
     assert_eq!(rt; shelf.seal(), Ok(()));
 
     // What can't be renamed leaves no part.
-    assert_eq!(rt; shelf.create("folder"), Ok(()));
+    assert_eq!(rt; shelf.create("late"), Ok(()));
+    fs::create_dir(&rt, "late")?;
     assert_eq!(rt; shelf.seal(), Err(Failed));
-    assert!(rt; !fs::exists(&rt, "folder.part")?);
+    assert!(rt; !fs::exists(&rt, "late.part")?);
+    fs::remove_dir(&rt, "late")?;
     fs::remove_dir(&rt, "folder")?;
     fs::remove_file(&rt, "a")?;
     Ok(())

@@ -4,6 +4,7 @@
 ghost use Rattle.std.specs.Prelude.{◌≡◌, ◌<◌};
 
 use read_steps::Steps;
+use std::io::ErrorKind;
 use std::marker::Brand;
 use std::process::ExitCode;
 use std::rt::Env;
@@ -40,13 +41,18 @@ fn message(status: Status) -> &'static str {
     }
 }
 
-/// The words behind the program's name, or none where there is no memory for them.
-fn words_of(rt: &HostRuntime) -> Option<Vec<String>> {
+/// The words behind the program's name. A word that isn't UTF-8 is a bad one; anything else that goes wrong is for want of
+/// memory.
+fn words_of(rt: &HostRuntime) -> Result<Vec<String>, Status> {
+    let all = env::args(rt).map_err(|error| match error.kind() {
+        ErrorKind::InvalidData => Status::Words,
+        _ => Status::Memory,
+    })?;
     let mut words = Vec::new(rt.alloc());
-    for word in env::args(rt).ok()?.skip(1) {
-        words.push(word).ok()?;
+    for word in all.skip(1) {
+        words.push(word).map_err(|_| Status::Memory)?;
     }
-    Some(words)
+    Ok(words)
 }
 
 /// Serves the script on standard input, with a counter of the ledger `L`.
@@ -55,8 +61,9 @@ fn run<L: Ledger>(rt: &HostRuntime, blank: Blank) -> Status
     requires parts { blank.parts ≡ L.parts }
     requires some { 0 < blank.parts }
 {
-    let Some(words) = words_of(rt) else {
-        return Status::Memory;
+    let words = match words_of(rt) {
+        Ok(words) => words,
+        Err(status) => return status,
     };
     let alloc = rt.alloc();
     let mut session = Session::new();

@@ -17,30 +17,6 @@ use tree_outside::{RealShelf, RealSink, RealSource};
 #[cfg(test)]
 mod tests;
 
-/// The number with which the program ends.
-fn number(status: Status) -> u8 {
-    match status {
-        Status::Done => 0,
-        Status::Memory => 1,
-        Status::Words => 2,
-        Status::ReadFault => 3,
-        Status::WriteFault => 4,
-        Status::LongScript => 5,
-    }
-}
-
-/// The line on standard error, empty where all was done.
-fn message(status: Status) -> &'static str {
-    match status {
-        Status::Done => "",
-        Status::Memory => "treestore: memory\n",
-        Status::Words => "treestore: bad words\n",
-        Status::ReadFault => "treestore: read fault\n",
-        Status::WriteFault => "treestore: write fault\n",
-        Status::LongScript => "treestore: long script\n",
-    }
-}
-
 /// The words behind the program's name. A word that isn't UTF-8 is a bad one; anything else that goes wrong is for want of
 /// memory.
 fn words_of(rt: &HostRuntime) -> Result<Vec<String>, Status> {
@@ -84,6 +60,8 @@ fn run<L: Ledger>(rt: &HostRuntime, blank: Blank) -> Status
 
 fn main(rt: HostRuntime) -> ExitCode {
     let status = run::<Brand>(&rt, Blank::new(1));
-    let _ = rt.eprint(message(status));
-    ExitCode::from(number(status))
+    if status != Status::Done {
+        let _ = eprintln!(rt; "treestore: {status}");
+    }
+    ExitCode::from(status.exit_status())
 }

@@ -12,6 +12,7 @@ use std::io::{self, ErrorKind, Read, Write};
 use std::test::Fail;
 
 mod saves;
+mod unsynced;
 
 // What is left of a source, by reads of at most four bytes.
 fn drain<S: Source>(alloc: Global, source: &mut S) -> Result<Vec<u8>, Fail> {

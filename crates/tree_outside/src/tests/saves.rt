@@ -7,7 +7,7 @@ use std::rt::Files;
 use std::test::Fail;
 
 // Saves a name, with these bytes.
-fn save<F: Shelf>(shelf: &mut F, name: &str, bytes: &[u8]) -> Result<(), Failed> {
+pub fn save<F: Shelf>(shelf: &mut F, name: &str, bytes: &[u8]) -> Result<(), Failed> {
     shelf.create(name)?;
     shelf.append(bytes)?;
     shelf.seal()

@@ -22,7 +22,8 @@ pub struct PartFile<R: Files> {
 }
 
 impl<R: Files> PartFile<R> {
-    /// Makes the file, empty, for what a save of this name is to replace or to make. Where that fails, nothing new is left.
+    /// Makes the file, empty, for what a save of this name is to replace or to make. An error comes where the name leads to
+    /// what is no regular file, where the system refuses a call, and for want of memory; then nothing new is left.
     pub fn create(alloc: Global, rt: &R, name: &str) -> io::Result<PartFile<R>> {
         let Target {
             path: target,

@@ -27,7 +27,8 @@ impl Target {
     /// where its links go in a circle, and where the system does not let them be followed.
     pub fn of<R: Files>(alloc: Global, rt: &R, name: &str) -> io::Result<Target> {
         let access = access_of(rt, name)?;
-        let unlinked = match access {
+        // What the system says of a path that is no link: where something is there, and where nothing is.
+        let no_link = match access {
             Some(_) => ErrorKind::InvalidInput,
             None => ErrorKind::NotFound,
         };
@@ -38,7 +39,7 @@ impl Target {
                     path.pop();
                     path.push(text)?;
                 }
-                Err(error) if error.kind() == unlinked => return Ok(Target { path, access }),
+                Err(error) if error.kind() == no_link => return Ok(Target { path, access }),
                 Err(error) => return Err(error),
             }
         }

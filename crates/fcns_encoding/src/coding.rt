@@ -76,6 +76,3 @@ impl Coded {
         Ok(())
     }
 }
-
-#[cfg(test)]
-mod tests;

@@ -10,6 +10,3 @@ mod writing;
 
 pub use laws::{equal_files_have_equal_parts, numbers_are_read_back};
 pub use writing::{WriteError, write};
-
-#[cfg(test)]
-mod tests;

@@ -155,32 +155,3 @@ fn add_at(maps: &mut [PlaceMap], at: usize, name: Vec<u8>, place: usize) -> Resu
 {
     maps[at].add(name, place)
 }
-
-#[cfg(test)]
-mod tests {
-    use super::*;
-    use std::test::Fail;
-
-    #[test]
-    fn pairs_stand_where_they_first_came(rt: HostRuntime) -> Result<(), Fail> {
-        let alloc = rt.alloc();
-        let mut names = Names::new(alloc);
-        let pairs: [(Kind, &[u8], usize); 5] = [
-            (Kind::Document, b"", 0),
-            (Kind::Element, b"a", 1),
-            (Kind::Attribute, b"a", 2),
-            (Kind::Element, b"b", 3),
-            (Kind::Element, b"a", 1),
-        ];
-        for (kind, name, place) in pairs {
-            assert_eq!(rt; names.intern(alloc, kind, name)?, place);
-        }
-        assert_eq!(rt; names.len(), 4);
-        assert_eq!(rt; names.find(Kind::Text, b"a"), None);
-        let (kind, name) = names.at(3).ok_or("no pair")?;
-        assert_eq!(rt; kind, Kind::Element);
-        assert_eq!(rt; name, b"b".as_slice());
-        assert!(rt; names.at(4).is_none());
-        Ok(())
-    }
-}

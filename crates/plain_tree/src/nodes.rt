@@ -147,6 +147,3 @@ fn freed(node: Node, mut waiting: Vec<Node>) -> Vec<Node>
         }
     }
 }
-
-#[cfg(test)]
-mod tests;

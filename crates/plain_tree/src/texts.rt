@@ -59,23 +59,3 @@ impl Texts {
         self.texts
     }
 }
-
-#[cfg(test)]
-mod tests {
-    use super::*;
-    use std::test::Fail;
-
-    #[test]
-    fn texts_stand_in_their_order(rt: HostRuntime) -> Result<(), Fail> {
-        let alloc = rt.alloc();
-        let mut texts = Texts::new(alloc);
-        texts.push(Bytes::from_slice(alloc, b"x")?)?;
-        texts.push(Bytes::from_slice(alloc, b"")?)?;
-        assert_eq!(rt; texts.len(), 2);
-        let second = texts.get(1).ok_or("no text")?;
-        assert!(rt; second.as_slice().is_empty());
-        assert!(rt; texts.get(2).is_none());
-        assert_eq!(rt; texts.into_vec().len(), 2);
-        Ok(())
-    }
-}

@@ -111,6 +111,3 @@ fn outward<'a>(outer: &mut Vec<Frame<'a>>) -> Place<'a>
         None => Place::Done,
     }
 }
-
-#[cfg(test)]
-mod tests;

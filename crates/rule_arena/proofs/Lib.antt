@@ -12,7 +12,6 @@ pub mod SpliceLemmas
 pub mod KidsLemmas
 pub mod NodeLemmas
 pub mod Sound
-pub mod Rooted
 pub mod SpliceWrites
 pub mod Spliced
 pub mod AddLemmas

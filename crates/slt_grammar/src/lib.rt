@@ -25,6 +25,3 @@ pub use laws::{
 };
 pub use rule_arena::{Item, Key, Kids, Label};
 pub use rules::{Body, Rule, RuleList};
-
-#[cfg(test)]
-mod tests;

@@ -161,6 +161,3 @@ impl Session {
         }
     }
 }
-
-#[cfg(test)]
-mod tests;

@@ -43,26 +43,3 @@ impl TextList {
         }
     }
 }
-
-#[cfg(test)]
-mod tests {
-    use super::*;
-    use plain_tree::Bytes;
-    use std::test::Fail;
-
-    #[test]
-    fn texts_are_got_by_their_place(rt: HostRuntime) -> Result<(), Fail> {
-        let alloc = rt.alloc();
-        let mut texts = Texts::new(alloc);
-        texts.push(Bytes::from_slice(alloc, b"x")?)?;
-        texts.push(Bytes::from_slice(alloc, b"")?)?;
-        texts.push(Bytes::from_slice(alloc, b"x")?)?;
-        let list = TextList::new(texts);
-        assert_eq!(rt; list.len(), 3);
-        assert_eq!(rt; list.get(0).ok_or("no text")?, b"x".as_slice());
-        assert_eq!(rt; list.get(1).ok_or("no text")?, b"".as_slice());
-        assert!(rt; list.get(3).is_none());
-        assert!(rt; list.get(u64::MAX).is_none());
-        Ok(())
-    }
-}

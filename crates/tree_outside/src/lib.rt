@@ -25,6 +25,3 @@ pub use pending::Pending;
 pub use real::{RealSink, RealSource};
 pub use real_shelf::RealShelf;
 pub use traits::{Failed, Shelf, Sink, Source};
-
-#[cfg(test)]
-mod tests;

@@ -14,9 +14,6 @@ use store_core::Session;
 use store_shell::{Status, serve};
 use tree_outside::{RealShelf, RealSink, RealSource};
 
-#[cfg(test)]
-mod tests;
-
 /// The words behind the program's name. A word that isn't UTF-8 is a bad one; anything else that goes wrong is for want of
 /// memory.
 fn words_of(rt: &HostRuntime) -> Result<Vec<String>, Status> {

@@ -4,8 +4,6 @@
 
 mod laws;
 mod reader;
-#[cfg(test)]
-mod tests;
 mod tokens;
 mod writer;
 

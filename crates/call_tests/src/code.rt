@@ -1,0 +1,64 @@
+// The code of a tree with nodes of several kinds, and its texts. Codes of elements are seen in `scripts`, in grammar files.
+use fcns_encoding::encode;
+use plain_tree::{Bytes, Kind, Names, Node, Nodes};
+use slt_grammar::Label::{self, Bottom, Symbol};
+use std::alloc::{AllocError, Global};
+use std::test::Fail;
+
+fn leaf(alloc: Global, kind: Kind, name: &[u8], value: &[u8]) -> Result<Node, AllocError> {
+    Ok(Node {
+        kind,
+        name: Bytes::from_slice(alloc, name)?,
+        value: Bytes::from_slice(alloc, value)?,
+        kids: Nodes::new(alloc),
+    })
+}
+
+static KIDS: [(Kind, &[u8], &[u8]); 3] = [
+    (Kind::Attribute, b"b", b"x"),
+    (Kind::Text, b"", b"y"),
+    (Kind::Comment, b"", b"z"),
+];
+
+// a(b(bottom, text(bottom, comment(bottom, bottom))), bottom), behind the element `b`, which the names had already.
+static LABELS: [Label; 9] = [
+    Symbol(1),
+    Symbol(2),
+    Bottom,
+    Symbol(3),
+    Bottom,
+    Symbol(4),
+    Bottom,
+    Bottom,
+    Bottom,
+];
+
+// <a b="x">y<!--z--></a>
+fn element_of_kids(alloc: Global) -> Result<Node, AllocError> {
+    let mut root = leaf(alloc, Kind::Element, b"a", b"")?;
+    for &(kind, name, value) in &KIDS {
+        root.kids.push(leaf(alloc, kind, name, value)?)?;
+    }
+    Ok(root)
+}
+
+#[test]
+fn a_node_is_coded_and_its_texts_are_kept(rt: HostRuntime) -> Result<(), Fail> {
+    let alloc = rt.alloc();
+    let mut names = Names::new(alloc);
+    names.intern(alloc, Kind::Element, b"b")?;
+    names.intern(alloc, Kind::Element, b"a")?;
+    let coded = encode(alloc, &element_of_kids(alloc)?, &mut names)?;
+    assert!(rt; coded.body.as_slice() == LABELS.as_slice());
+    for (place, &(kind, name, value)) in KIDS.iter().enumerate() {
+        assert!(rt; names.find(kind, name) == Some(place + 2));
+        assert!(rt;
+            coded
+                .texts
+                .get(place)
+                .is_some_and(|text| text.as_slice() == value)
+        );
+    }
+    assert!(rt; names.len() == 5 && coded.texts.len() == 3);
+    Ok(())
+}

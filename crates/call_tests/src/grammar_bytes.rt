@@ -1,0 +1,108 @@
+// Grammar files byte by byte, and sinks that fail.
+use super::grammar::{Row, START, TWICE, rules_of};
+use grammar_file::{WriteError, write};
+use plain_tree::{Bytes, Kind, Names, Texts};
+use slt_grammar::Label::{Bottom, Symbol};
+use slt_grammar::check;
+use std::alloc::{AllocError, Global};
+use std::test::Fail;
+use text_list::TextList;
+use tree_outside::MemorySink;
+
+// A file of the document's pair and the elements `a` and `b`.
+struct File {
+    rules: &'static [Row],
+    // So many `x` are the one text; where there are none, there is no text.
+    text: usize,
+    // The sink's writes of these numbers fail.
+    fails: &'static [u64],
+    // What stands before the text, and how many bytes there are in all.
+    front: &'static [u8],
+    len: usize,
+}
+
+// The rule of `<a/>`.
+const LEAF: Row = (0, &[Symbol(0), Symbol(1), Bottom, Bottom, Bottom]);
+
+// Its text is longer than what goes to the sink at once.
+const LONG: File = File {
+    rules: &[LEAF],
+    text: 5000,
+    fails: &[],
+    front: b"TGF1\x03\x00\x00\x01\x01a\x01\x01b\x01\x00\x02\x00\x02\x01\x00\x00\x00\x01\x88\x27",
+    len: 5025,
+};
+
+static FILES: [File; 5] = [
+    File {
+        rules: &[TWICE, START],
+        text: 0,
+        fails: &[],
+        front: b"TGF1\x03\x00\x00\x01\x01a\x01\x01b\
+            \x02\x01\x02\x02\x00\x02\x02\x00\x01\
+            \x00\x02\x00\x02\x01\x03\x00\x03\x00\x03\x00\x00\x00\x00\x00",
+        len: 37,
+    },
+    File {
+        text: 300,
+        front: b"TGF1\x03\x00\x00\x01\x01a\x01\x01b\x01\x00\x02\x00\x02\x01\x00\x00\x00\x01\xAC\x02",
+        len: 325,
+        ..LONG
+    },
+    LONG,
+    File {
+        fails: &[0],
+        ..LONG
+    },
+    File {
+        fails: &[1],
+        ..LONG
+    },
+];
+
+fn names_of_elements(alloc: Global) -> Result<Names, AllocError> {
+    let mut names = Names::new(alloc);
+    names.intern(alloc, Kind::Document, b"")?;
+    names.intern(alloc, Kind::Element, b"a")?;
+    names.intern(alloc, Kind::Element, b"b")?;
+    Ok(names)
+}
+
+fn text_of(alloc: Global, len: usize) -> Result<TextList, AllocError> {
+    let mut texts = Texts::new(alloc);
+    if len > 0 {
+        let bytes = vec![in alloc; b'x'; len]?;
+        texts.push(Bytes::from_slice(alloc, bytes.as_slice())?)?;
+    }
+    Ok(TextList::new(texts))
+}
+
+// All bytes of a file.
+fn whole_of(alloc: Global, file: &File) -> Result<Vec<u8>, AllocError> {
+    let mut whole = file.front.to_vec(alloc)?;
+    whole.resize(file.len, b'x')?;
+    Ok(whole)
+}
+
+#[test]
+fn files_have_these_bytes(rt: HostRuntime) -> Result<(), Fail> {
+    let alloc = rt.alloc();
+    let names = names_of_elements(alloc)?;
+    for (row, file) in FILES.iter().enumerate() {
+        let whole = whole_of(alloc, file)?;
+        let mut sink = MemorySink::new(alloc, file.fails.to_vec(alloc)?);
+        let texts = text_of(alloc, file.text)?;
+        let grammar = check(alloc, rules_of(alloc, file.rules)?)?;
+        let answer = write(&grammar, &names, &texts, &mut sink);
+        let fails = !file.fails.is_empty();
+        let wanted = if fails {
+            Err(WriteError::Failed)
+        } else {
+            Ok(file.len as u128)
+        };
+        assert_eq!(rt; answer, wanted, "row {row}");
+        let got = sink.bytes();
+        assert!(rt; whole.starts_with(got) && (fails || got.len() == file.len));
+    }
+    Ok(())
+}

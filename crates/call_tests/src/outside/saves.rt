@@ -1,0 +1,185 @@
+// What a save does to what is there: links, who may read and write, what is no file, and a pending file that comes to nothing.
+use std::fs::{self, Permissions};
+use std::io;
+use std::os::unix::fs::{PermissionsExt, symlink};
+use std::rt::Files;
+use std::test::Fail;
+use tree_outside::{Failed, RealShelf, Shelf};
+
+// What is done with real files, and what is seen of them then. The first text is a name.
+#[derive(Clone, Copy)]
+enum Step {
+    MakeFolder(&'static str),
+    MakeFile(&'static str, &'static str),
+    // A link, and what it says.
+    MakeLink(&'static str, &'static str),
+    SetMode(&'static str, u32),
+    // The file of this name is begun, and gets no bytes.
+    Begin(&'static str),
+    // What was begun is sealed, or that fails.
+    Seal(bool),
+    // A file is saved whole with its name as its bytes, or that fails.
+    Save(&'static str, bool),
+    IsLink(&'static str),
+    // It is no link, and holds this text.
+    IsFile(&'static str, &'static str),
+    HasMode(&'static str, u32),
+    HasNames(&'static str, u64),
+}
+
+use Step::{
+    Begin, HasMode, HasNames, IsFile, IsLink, MakeFile, MakeFolder, MakeLink, Save, Seal, SetMode,
+};
+
+// The first of these saves makes the file, the others replace it.
+static LINKS: [Step; 18] = [
+    MakeFolder("saves/links"),
+    MakeLink("saves/links/two", "one"),
+    MakeLink("saves/links/one", "file"),
+    MakeLink("saves/links/up", "../links/one"),
+    MakeLink("saves/links/folder", "."),
+    Save("saves/links/two", true),
+    IsFile("saves/links/file", "saves/links/two"),
+    Save("saves/links/one", true),
+    IsFile("saves/links/file", "saves/links/one"),
+    Save("saves/links/up", true),
+    IsFile("saves/links/file", "saves/links/up"),
+    Save("saves/links/folder/one", true),
+    IsFile("saves/links/file", "saves/links/folder/one"),
+    IsLink("saves/links/two"),
+    IsLink("saves/links/one"),
+    IsLink("saves/links/up"),
+    IsLink("saves/links/folder"),
+    HasNames("saves/links", 5),
+];
+
+// The mode of a file, those of the pending one and of the one that takes its place.
+static MODES: [(u32, u32); 5] = [
+    (0o600, 0o600),
+    (0o640, 0o640),
+    (0o444, 0o444),
+    (0o777, 0o777),
+    (0o4755, 0o755),
+];
+
+// What leads to no file is left as it is.
+static REFUSED: [Step; 11] = [
+    MakeFolder("saves/refused"),
+    MakeFolder("saves/refused/folder"),
+    MakeFolder("saves/refused/blocked.part"),
+    MakeLink("saves/refused/to_folder", "folder"),
+    MakeLink("saves/refused/circle", "circle"),
+    Save("saves/refused/folder", false),
+    Save("saves/refused/to_folder", false),
+    Save("saves/refused/circle", false),
+    Save("saves/refused/missing/a", false),
+    Save("saves/refused/blocked", false),
+    HasNames("saves/refused", 4),
+];
+
+// A link in the place of the pending file isn't written through.
+static BESIDE: [Step; 7] = [
+    MakeFolder("saves/beside"),
+    MakeFile("saves/beside/precious", "old"),
+    MakeLink("saves/beside/a.part", "precious"),
+    Save("saves/beside/a", true),
+    IsFile("saves/beside/precious", "old"),
+    IsFile("saves/beside/a", "saves/beside/a"),
+    HasNames("saves/beside", 2),
+];
+
+// A pending file is gone where another one is begun, and where it can't be renamed.
+static GIVEN_UP: [Step; 8] = [
+    MakeFolder("saves/given_up"),
+    Begin("saves/given_up/early"),
+    Begin("saves/given_up/late"),
+    IsFile("saves/given_up/late.part", ""),
+    HasNames("saves/given_up", 1),
+    MakeFolder("saves/given_up/late"),
+    Seal(false),
+    HasNames("saves/given_up", 1),
+];
+
+// Saves a name, with these bytes.
+pub fn save<F: Shelf>(shelf: &mut F, name: &str, bytes: &[u8]) -> Result<(), Failed> {
+    shelf.create(name)?;
+    shelf.append(bytes)?;
+    shelf.seal()
+}
+
+// How many names a folder has.
+fn names_in<R: Files + Alloc + Clone>(rt: &R, folder: &str) -> io::Result<u64> {
+    let mut count = 0u64;
+    for entry in fs::read_dir(rt, folder)? {
+        let _ = entry?;
+        count = count.saturating_add(1);
+    }
+    Ok(count)
+}
+
+fn mode_of<R: Files>(rt: &R, name: &str) -> io::Result<u32> {
+    Ok(fs::metadata(rt, name)?.permissions().mode() & 0o7777)
+}
+
+// Does a step, and answers whether all is as it says.
+fn is_so<R: Files + Alloc + Clone>(
+    rt: &R,
+    shelf: &mut RealShelf<'_, R>,
+    step: Step,
+) -> io::Result<bool> {
+    match step {
+        MakeFolder(name) => fs::create_dir(rt, name)?,
+        MakeFile(name, text) => fs::write(rt, name, text)?,
+        MakeLink(name, says) => symlink(rt, says, name)?,
+        SetMode(name, mode) => fs::set_permissions(rt, name, Permissions::from_mode(mode))?,
+        Begin(name) => return Ok(shelf.create(name).is_ok()),
+        Seal(done) => return Ok(shelf.seal().is_ok() == done),
+        Save(name, done) => return Ok(save(shelf, name, name.as_bytes()).is_ok() == done),
+        IsLink(name) => return Ok(fs::symlink_metadata(rt, name)?.is_symlink()),
+        IsFile(name, text) => {
+            let is_file = fs::symlink_metadata(rt, name)?.is_file();
+            return Ok(is_file && fs::read_to_string(rt, name)?.as_str() == text);
+        }
+        HasMode(name, mode) => return Ok(mode_of(rt, name)? == mode),
+        HasNames(folder, count) => return Ok(names_in(rt, folder)? == count),
+    }
+    Ok(true)
+}
+
+#[test]
+fn a_save_leaves_the_rest_as_it_is(rt: HostRuntime) -> Result<(), Fail> {
+    fs::create_dir(&rt, "saves")?;
+    let mut shelf = RealShelf::new(rt.alloc(), &rt);
+    for steps in [
+        LINKS.as_slice(),
+        REFUSED.as_slice(),
+        BESIDE.as_slice(),
+        GIVEN_UP.as_slice(),
+    ] {
+        for (row, &step) in steps.iter().enumerate() {
+            assert!(rt; is_so(&rt, &mut shelf, step)?, "step {row}");
+        }
+    }
+    fs::remove_dir_all(&rt, "saves")?;
+    Ok(())
+}
+
+#[test]
+fn a_save_hands_on_who_may_read_and_write(rt: HostRuntime) -> Result<(), Fail> {
+    fs::write(&rt, "guarded", "old")?;
+    let mut shelf = RealShelf::new(rt.alloc(), &rt);
+    for &(old, new) in &MODES {
+        for step in [
+            SetMode("guarded", old),
+            Begin("guarded"),
+            HasMode("guarded", old),
+            HasMode("guarded.part", new),
+            Seal(true),
+            HasMode("guarded", new),
+        ] {
+            assert!(rt; is_so(&rt, &mut shelf, step)?, "from {old:o}");
+        }
+    }
+    fs::remove_file(&rt, "guarded")?;
+    Ok(())
+}

@@ -6,7 +6,7 @@ pub fn equal_files_have_equal_parts()
     ensures { EqualFilesHaveEqualParts }
 {}
 
-/// The bytes of a number are read as that number, and no fewer bytes are.
+/// The bytes of a number are read as that number by unsigned LEB128 (DWARF 5, section 7.6), and no fewer bytes are.
 pub fn numbers_are_read_back()
     ensures read { NumbersAreReadBack }
     ensures shortest { NumbersAreShortest }

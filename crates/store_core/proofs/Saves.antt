@@ -1,9 +1,9 @@
 -- Writing a document from the labels of a body.
 use Rattle.std.proofs.Common.{◌≡◌, ℕ, true, ◌+◌, ◌-◌, ◌*◌, ◌<◌, ◌≤◌, ◌^◌, List, [], ◌∷◌, ◌++◌, length, Option, Some, None, refl, sym, ap, ◌∙◌, append_assoc, append-nil, length-append, arith}
-use Rattle.std.proofs.lemmas.List.{length-map}
 use Rattle.tree_outside.specs.Outside.{Gets}
 use Rattle.plain_tree.specs.declared.kind.Kind.{Kind}
 use Rattle.rule_arena.specs.declared.label.Label.{Label}
+use Rattle.slt_grammar.proofs.KeyedLemmas.{length-rules_of}
 use Rattle.slt_grammar.specs.Keyed.{KeyedRule, rules_of}
 use Rattle.xml_profile.specs.Pen.{Call, Pen, call_text, calls_text, new_pen}
 use Rattle.std.specs.Option.{option_map_or}
@@ -83,4 +83,4 @@ module _ (names : List (Kind × List ℕ)) (body : List Label) (before : Option 
 
 -- the last rule is one of them
 pub last-there : (G : List KeyedRule) → 0 < length (rules_of G) → length G - 1 < length (rules_of G)
-last-there G some = let same : length (rules_of G) ≡ length G = length-map G _ in omega arith
+last-there G some = omega (arith, length-rules_of G)

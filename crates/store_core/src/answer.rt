@@ -126,6 +126,7 @@ fn write_grammar<K: Sink>(rules: usize, size: u64, bytes: u128, sink: &mut K) ->
 // Room for the longest answer: its words and a line feed, and three numbers of at most 40 digits.
 type AnswerLine = ArrayVec<u8, 160>;
 
+// Adds a text for which there is room.
 fn add(line: &mut AnswerLine, text: &[u8])
     requires { array_vec_len line.old + length text.now ≤ 160 }
     ensures { line.new.items ≡ line.old.items ++ text.now }

@@ -33,6 +33,7 @@ impl ByteCount {
         self.bytes = self.bytes.saturating_add(bytes as u128);
     }
 
+    /// How many bytes were counted, at most 2^128 - 1.
     pub fn get(&self) -> u128
         ensures { result ≡ self.now }
     {

@@ -1,5 +1,5 @@
-// Deep trees that are freed, and the visits of a small one.
-use plain_tree::{Bytes, Kind, Node, Nodes, Visit, Walk};
+// Deep trees that are freed. The order of a walk is seen in `scripts`, in saved documents and grammar files.
+use plain_tree::{Bytes, Kind, Node, Nodes};
 use std::alloc::{AllocError, Global};
 use std::test::Fail;
 
@@ -60,42 +60,5 @@ fn deep_trees_are_freed(rt: HostRuntime) -> Result<(), Fail> {
         let kids = grown(rt.alloc(), shape)?;
         assert!(rt; kids.len() > shape.before.max(shape.behind));
     }
-    Ok(())
-}
-
-// <a><b><c/></b><d/></a>
-fn small_tree(alloc: Global) -> Result<Node, AllocError> {
-    let mut of_b = Nodes::new(alloc);
-    of_b.push(element(alloc, b"c", Nodes::new(alloc))?)?;
-    let mut of_a = Nodes::new(alloc);
-    of_a.push(element(alloc, b"b", of_b)?)?;
-    of_a.push(element(alloc, b"d", Nodes::new(alloc))?)?;
-    element(alloc, b"a", of_a)
-}
-
-static VISITS: [(bool, &[u8]); 8] = [
-    (true, b"a"),
-    (true, b"b"),
-    (true, b"c"),
-    (false, b"c"),
-    (false, b"b"),
-    (true, b"d"),
-    (false, b"d"),
-    (false, b"a"),
-];
-
-#[test]
-fn a_walk_opens_and_closes_each_node(rt: HostRuntime) -> Result<(), Fail> {
-    let root = small_tree(rt.alloc())?;
-    let mut walk = Walk::new(rt.alloc(), &root);
-    for &(opens, name) in &VISITS {
-        let seen = match walk.next()? {
-            Some(Visit::Open(node)) => opens && node.name.as_slice() == name,
-            Some(Visit::Close(node)) => !opens && node.name.as_slice() == name,
-            None => false,
-        };
-        assert!(rt; seen);
-    }
-    assert!(rt; walk.next()?.is_none());
     Ok(())
 }

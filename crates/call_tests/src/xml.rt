@@ -8,11 +8,9 @@ fn elements_are_written_without_line_feeds(rt: HostRuntime) -> Result<(), Fail> 
     let mut sink = MemorySink::new(rt.alloc(), Vec::new(rt.alloc()));
     let mut writer = Writer::new(&mut sink, false);
     writer.open(b"a")?;
+    writer.close(b"a")?;
     writer.open(b"b")?;
     writer.close(b"b")?;
-    writer.close(b"a")?;
-    writer.open(b"c")?;
-    writer.close(b"c")?;
-    assert_eq!(rt; sink.bytes(), b"<a><b/></a><c/>".as_slice());
+    assert_eq!(rt; sink.bytes(), b"<a/><b/>".as_slice());
     Ok(())
 }

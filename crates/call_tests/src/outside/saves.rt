@@ -31,8 +31,8 @@ use Step::{
     Begin, HasMode, HasNames, IsFile, IsLink, MakeFile, MakeFolder, MakeLink, Save, Seal, SetMode,
 };
 
-// The first of these saves makes the file, the others replace it.
-static LINKS: [Step; 18] = [
+static STEPS: [Step; 75] = [
+    // The first of these saves makes the file, the others replace it.
     MakeFolder("saves/links"),
     MakeLink("saves/links/two", "one"),
     MakeLink("saves/links/one", "file"),
@@ -51,19 +51,7 @@ static LINKS: [Step; 18] = [
     IsLink("saves/links/up"),
     IsLink("saves/links/folder"),
     HasNames("saves/links", 5),
-];
-
-// The mode of a file, those of the pending one and of the one that takes its place.
-static MODES: [(u32, u32); 5] = [
-    (0o600, 0o600),
-    (0o640, 0o640),
-    (0o444, 0o444),
-    (0o777, 0o777),
-    (0o4755, 0o755),
-];
-
-// What leads to no file is left as it is.
-static REFUSED: [Step; 11] = [
+    // What leads to no file is left as it is.
     MakeFolder("saves/refused"),
     MakeFolder("saves/refused/folder"),
     MakeFolder("saves/refused/blocked.part"),
@@ -75,10 +63,7 @@ static REFUSED: [Step; 11] = [
     Save("saves/refused/missing/a", false),
     Save("saves/refused/blocked", false),
     HasNames("saves/refused", 4),
-];
-
-// A link in the place of the pending file isn't written through.
-static BESIDE: [Step; 7] = [
+    // A link in the place of the pending file isn't written through.
     MakeFolder("saves/beside"),
     MakeFile("saves/beside/precious", "old"),
     MakeLink("saves/beside/a.part", "precious"),
@@ -86,10 +71,7 @@ static BESIDE: [Step; 7] = [
     IsFile("saves/beside/precious", "old"),
     IsFile("saves/beside/a", "saves/beside/a"),
     HasNames("saves/beside", 2),
-];
-
-// A pending file is gone where another one is begun, and where it can't be renamed.
-static GIVEN_UP: [Step; 8] = [
+    // A pending file is gone where another one is begun, and where it can't be renamed.
     MakeFolder("saves/given_up"),
     Begin("saves/given_up/early"),
     Begin("saves/given_up/late"),
@@ -98,6 +80,38 @@ static GIVEN_UP: [Step; 8] = [
     MakeFolder("saves/given_up/late"),
     Seal(false),
     HasNames("saves/given_up", 1),
+    // The pending file and the one that takes the place of a file have its mode, but for who runs it as whom.
+    MakeFile("saves/guarded", "old"),
+    SetMode("saves/guarded", 0o600),
+    Begin("saves/guarded"),
+    HasMode("saves/guarded", 0o600),
+    HasMode("saves/guarded.part", 0o600),
+    Seal(true),
+    HasMode("saves/guarded", 0o600),
+    SetMode("saves/guarded", 0o640),
+    Begin("saves/guarded"),
+    HasMode("saves/guarded", 0o640),
+    HasMode("saves/guarded.part", 0o640),
+    Seal(true),
+    HasMode("saves/guarded", 0o640),
+    SetMode("saves/guarded", 0o444),
+    Begin("saves/guarded"),
+    HasMode("saves/guarded", 0o444),
+    HasMode("saves/guarded.part", 0o444),
+    Seal(true),
+    HasMode("saves/guarded", 0o444),
+    SetMode("saves/guarded", 0o777),
+    Begin("saves/guarded"),
+    HasMode("saves/guarded", 0o777),
+    HasMode("saves/guarded.part", 0o777),
+    Seal(true),
+    HasMode("saves/guarded", 0o777),
+    SetMode("saves/guarded", 0o4755),
+    Begin("saves/guarded"),
+    HasMode("saves/guarded", 0o4755),
+    HasMode("saves/guarded.part", 0o755),
+    Seal(true),
+    HasMode("saves/guarded", 0o755),
 ];
 
 // Saves a name, with these bytes.
@@ -150,36 +164,9 @@ fn is_so<R: Files + Alloc + Clone>(
 fn a_save_leaves_the_rest_as_it_is(rt: HostRuntime) -> Result<(), Fail> {
     fs::create_dir(&rt, "saves")?;
     let mut shelf = RealShelf::new(rt.alloc(), &rt);
-    for steps in [
-        LINKS.as_slice(),
-        REFUSED.as_slice(),
-        BESIDE.as_slice(),
-        GIVEN_UP.as_slice(),
-    ] {
-        for (row, &step) in steps.iter().enumerate() {
-            assert!(rt; is_so(&rt, &mut shelf, step)?, "step {row}");
-        }
+    for (row, &step) in STEPS.iter().enumerate() {
+        assert!(rt; is_so(&rt, &mut shelf, step)?, "step {row}");
     }
     fs::remove_dir_all(&rt, "saves")?;
-    Ok(())
-}
-
-#[test]
-fn a_save_hands_on_who_may_read_and_write(rt: HostRuntime) -> Result<(), Fail> {
-    fs::write(&rt, "guarded", "old")?;
-    let mut shelf = RealShelf::new(rt.alloc(), &rt);
-    for &(old, new) in &MODES {
-        for step in [
-            SetMode("guarded", old),
-            Begin("guarded"),
-            HasMode("guarded", old),
-            HasMode("guarded.part", new),
-            Seal(true),
-            HasMode("guarded", new),
-        ] {
-            assert!(rt; is_so(&rt, &mut shelf, step)?, "from {old:o}");
-        }
-    }
-    fs::remove_file(&rt, "guarded")?;
     Ok(())
 }

@@ -2,7 +2,7 @@
 use Rattle.std.specs.Prelude.{◌≡◌, true, []}
 use Rattle.plain_tree.specs.declared.kind.Kind.TheVariants.{Document, Element}
 use Rattle.plain_tree.specs.Tree.{Tree, node, Trees, none, more}
-use Rattle.plain_tree.specs.XmlNames.{is_name}
+use Rattle.plain_tree.specs.BareNames.{is_name}
 
 abbrev mutual
   -- an element with a name, no value, and elements as kids

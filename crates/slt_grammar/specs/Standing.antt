@@ -6,7 +6,7 @@ use Rattle.plain_tree.specs.Tree.{Tree, none, more}
 use Rattle.plain_tree.specs.Numbers.{texts}
 use Rattle.plain_tree.specs.Documents.{IsDocument}
 use Rattle.plain_tree.specs.NameTable.{AreDistinct}
-use Rattle.plain_tree.specs.XmlNames.{is_name, is_target}
+use Rattle.plain_tree.specs.BareNames.{is_name, is_target}
 use Rattle.slt_grammar.specs.Grammars.{value}
 use Rattle.slt_grammar.specs.Coding.{Codes}
 use Rattle.slt_grammar.specs.declared.rules.Rule.{Rule}

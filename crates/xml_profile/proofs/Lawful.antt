@@ -1,6 +1,6 @@
 -- What bytes spell is a lawful document, and not larger than they are.
 use Rattle.std.proofs.Common.{◌≡◌, ℕ, ◌+◌, ◌*◌, ◌≤◌, Bool, true, false, List, [], ◌∷◌, length, refl, sym, subst, inl, inr, arith}
-use Rattle.plain_tree.specs.XmlNames.{is_name}
+use Rattle.plain_tree.specs.BareNames.{is_name}
 use Rattle.plain_tree.specs.Tree.{Tree, node, Trees, none, more, node_count, node_count_all}
 use Rattle.plain_tree.specs.Documents.{IsElementTree, AreElementTrees}
 use Rattle.xml_profile.specs.Tokens.{Token, Space, Start, Empty, End, IsToken, AreTokens, is_space}

@@ -3,7 +3,7 @@ use Rattle.std.proofs.Common.{◌⊎◌, inl, inr, subst, ◌≡◌, ℕ, ◌+�
 use Rattle.std.specs.Prelude.{Option, Some, None, ◌==◌}
 use Rattle.std.proofs.lemmas.Bool.Decides.{nat_tests}
 use Rattle.std.specs.List.{list_all}
-use Rattle.plain_tree.specs.XmlNames.{is_name_start, is_name_char, is_name}
+use Rattle.plain_tree.specs.BareNames.{is_name_start, is_name_char, is_name}
 use Rattle.xml_profile.specs.Tokens.{Token, Space, Start, Empty, End, IsTag, IsToken, Begins, is_space}
 use Rattle.xml_profile.specs.Reading.{front, back, closed, start_closed, start_at, end_at, tag_at, token_at}
 use Rattle.xml_profile.proofs.Lists.{front-back, Stops, and_true, front-append, back-append, list_all-front}

@@ -1,7 +1,7 @@
 -- The token at the front of bytes, as a function.
 use Rattle.std.specs.Prelude.{ℕ, ◌==◌, Bool, List, [], ◌∷◌, Option, Some, None, if◌then◌else◌}
 use Rattle.std.specs.Borrow.{Bor}
-use Rattle.plain_tree.specs.XmlNames.{is_name_char, is_name}
+use Rattle.plain_tree.specs.BareNames.{is_name_char, is_name}
 use Rattle.xml_profile.specs.Tokens.{Token, Space, Start, Empty, End, is_space}
 use Rattle.xml_profile.specs.declared.tokens.FoundToken.{FoundToken}
 use Rattle.xml_profile.specs.declared.tokens.FoundToken.TheVariants as found

@@ -1,7 +1,7 @@
 -- The tokens of a document, and which bytes spell each (XML 1.0, fifth edition). No token knows what follows it.
 use Rattle.std.specs.Prelude.{◌≡◌, ℕ, ◌==◌, Bool, true, ◌||◌, List, [], ◌∷◌, ◌++◌}
 use Rattle.std.specs.List.{list_all}
-use Rattle.plain_tree.specs.XmlNames.{is_name}
+use Rattle.plain_tree.specs.BareNames.{is_name}
 
 pub data Token : Type 0 where
   Space : (c : ℕ) → Token

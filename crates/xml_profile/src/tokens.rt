@@ -1,7 +1,7 @@
 // The token at the front of bytes.
 ghost use Rattle.std.specs.Prelude.{◌≡◌, ◌≤◌, ◌-◌, ◌<◌, length, IfSome, IfNone, List, ℕ, if◌then◌else◌};
 ghost use Rattle.std.specs.List.{list_all};
-ghost use Rattle.plain_tree.specs.XmlNames.{is_name_start, is_name_char, is_name};
+ghost use Rattle.plain_tree.specs.BareNames.{is_name_start, is_name_char, is_name};
 ghost use Rattle.xml_profile.specs.Tokens.{is_space, Token, Space, Begins};
 ghost use Rattle.xml_profile.specs.Reading.{front, back, closed, start_closed, start_at, end_at, tag_at, token_at, seen, token_of};
 

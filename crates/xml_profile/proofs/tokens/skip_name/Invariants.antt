@@ -1,5 +1,5 @@
 use Rattle.std.proofs.Common.{◌≡◌, ◌≤◌, length}
-use Rattle.plain_tree.specs.XmlNames.{is_name_char}
+use Rattle.plain_tree.specs.BareNames.{is_name_char}
 use Rattle.xml_profile.specs.Reading.{back}
 use Rattle.xml_profile.proofs.tokens.skip_name.Given as goal
 

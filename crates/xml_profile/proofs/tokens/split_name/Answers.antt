@@ -1,4 +1,4 @@
-use Rattle.plain_tree.specs.XmlNames.{is_name_char}
+use Rattle.plain_tree.specs.BareNames.{is_name_char}
 use Rattle.xml_profile.proofs.Lists.{take-front}
 use Rattle.xml_profile.proofs.tokens.split_name.Goals as goal
 

@@ -1,0 +1,12 @@
+pub mod NameBytes
+pub mod Cutting
+pub mod References
+pub mod Attributes
+pub mod Markup
+pub mod Declarations
+pub mod Tokens
+pub mod TokenAt
+pub mod Seen
+pub mod SeenTokens
+pub mod Laws
+pub mod NameSets

@@ -1,0 +1,16 @@
+pub mod LineEndLaws
+pub mod ScanLaws
+pub mod WholeScans
+pub mod Ending
+pub mod RunLaws
+pub mod Takings
+pub mod Cuts
+pub mod Reading
+pub mod Breaking
+pub mod Advancing
+pub mod Lines
+pub mod ScanPlain
+pub mod ScanMarks
+pub mod ScanTags
+pub mod ScanDeclarations
+pub mod Givings

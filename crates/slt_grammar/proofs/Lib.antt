@@ -17,3 +17,7 @@ pub mod Contexts
 pub mod Keeping
 pub mod Values
 pub mod Folding
+pub mod Spreads
+pub mod TourLemmas
+pub mod TourWalking
+pub mod StopLemmas

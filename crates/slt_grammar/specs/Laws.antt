@@ -1,5 +1,5 @@
 -- The laws of grammars on which the steps above stand.
-use Rattle.std.specs.Prelude.{◌≡◌, ℕ, ◌<◌, ◌≤◌, List, length, get_or, map}
+use Rattle.std.specs.Prelude.{◌≡◌, ℕ, ◌<◌, ◌≤◌, List, [], length, get_or, map}
 use Rattle.rule_arena.specs.declared.label.Label.TheVariants.{Bottom, Call}
 use Rattle.plain_tree.specs.declared.kind.Kind.{Kind}
 use Rattle.plain_tree.specs.Tree.{Tree}
@@ -7,6 +7,7 @@ use Rattle.slt_grammar.specs.Algebras.{Algebra, ranks_of, all_meanings}
 use Rattle.slt_grammar.specs.Terms.{Term, substitute, up, holes, holes_of}
 use Rattle.slt_grammar.specs.Grammars.{IsGrammar, body_at, rank_at, value_at}
 use Rattle.slt_grammar.specs.Editing.{inlined, with_body, rule_added, shifted}
+use Rattle.slt_grammar.specs.Segments.{preorder, piece, spread, body_tour}
 use Rattle.slt_grammar.specs.Standing.{StandsFor}
 use Rattle.slt_grammar.specs.declared.rules.Rule.{Rule}
 
@@ -39,3 +40,7 @@ ValuesAreLinear = (G : List Rule) (r : ℕ) → IsGrammar G → r < length G →
 abbrev pub StandsForOne : Type 0
 StandsForOne = (G : List Rule) (names : List (Kind × List ℕ)) (values : List (List ℕ)) (s t : Tree)
     → StandsFor G names values s → StandsFor G names values t → s ≡ t
+
+-- what the stops of a body's tour stand for, one after another, is the preorder of the rule's value
+abbrev pub ToursSpellValues : Type 0
+ToursSpellValues = (G : List Rule) (r : ℕ) → IsGrammar G → r < length G → preorder G r ≡ spread (piece G) (body_tour G r) []

@@ -4,12 +4,15 @@ pub mod Algebras
 pub mod Terms
 pub mod Grammars
 pub mod Editing
+pub mod Tours
+pub mod Segments
 pub mod Faults
 pub mod Coding
 pub mod Standing
 pub mod Laws
 pub mod Keyed
 pub mod BodyWalks
+pub mod TourWalks
 pub mod Holding
 pub mod Listing
 pub mod Building

@@ -1,6 +1,6 @@
 // What holds of grammars, whatever their rules mean. The bodies are empty: their contracts are the laws.
 ghost use Rattle.slt_grammar.specs.Algebras.{Algebra};
-ghost use Rattle.slt_grammar.specs.Laws.{InliningKeepsMeanings, SubstitutionsCompose, SharedRunIsExpandedRun, AddingKeepsMeanings, ValuesAreLinear, StandsForOne};
+ghost use Rattle.slt_grammar.specs.Laws.{InliningKeepsMeanings, SubstitutionsCompose, SharedRunIsExpandedRun, AddingKeepsMeanings, ValuesAreLinear, StandsForOne, ToursSpellValues};
 
 /// A call that is replaced by its rule's body changes no rule's meaning, in any algebra over S.
 pub fn inlining_keeps_meanings<S>()
@@ -30,4 +30,10 @@ pub fn values_are_linear()
 /// Rules, names and texts stand for at most one document.
 pub fn stands_for_one()
     ensures { StandsForOne }
+{}
+
+/// What the stops of a body's tour stand for, one after another, is the preorder of the rule's value. A part of a call stands for
+/// a segment of the called rule's value.
+pub fn tours_spell_values()
+    ensures { ToursSpellValues }
 {}

@@ -14,14 +14,18 @@ mod checking;
 mod counting;
 mod grammar;
 mod laws;
+mod level;
 mod rules;
+mod tour_walk;
 
 pub use body_walk::BodyWalk;
 pub use checking::{GrammarError, check};
 pub use grammar::Grammar;
 pub use laws::{
     adding_keeps_meanings, inlining_keeps_meanings, shared_run_is_expanded_run, stands_for_one,
-    substitutions_compose, values_are_linear,
+    substitutions_compose, tours_spell_values, values_are_linear,
 };
+pub use level::Level;
 pub use rule_arena::{Item, Key, Kids, Label};
 pub use rules::{Body, Rule, RuleList};
+pub use tour_walk::TourWalk;

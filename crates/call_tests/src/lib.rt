@@ -13,6 +13,8 @@ mod grammar;
 #[cfg(test)]
 mod grammar_bytes;
 #[cfg(test)]
+mod nodes;
+#[cfg(test)]
 mod outside;
 #[cfg(test)]
 mod scripts;

@@ -5,6 +5,9 @@ pub mod Numbers
 pub mod BareNames
 pub mod XmlNames
 pub mod Documents
+pub mod Parts
+pub mod Lawful
+pub mod Joined
 pub mod Visits
 pub mod Walks
 pub mod Seen

@@ -26,6 +26,13 @@ impl ByteCount {
         ByteCount { bytes: 0 }
     }
 
+    /// The same count once more.
+    pub fn copy(&self) -> ByteCount
+        ensures { result ≡ self.now }
+    {
+        ByteCount { bytes: self.bytes }
+    }
+
     /// Counts so many bytes more.
     pub fn add(&mut self, bytes: usize)
         ensures { self.new ≡ counted self.old bytes }

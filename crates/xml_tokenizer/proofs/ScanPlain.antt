@@ -10,7 +10,8 @@ use Rattle.std.proofs.lemmas.Bool.Decides.{nat_tests}
 use Rattle.std.proofs.lemmas.List.Folds.{list_all-append}
 use Rattle.plain_tree.specs.XmlNames.{is_within, is_char, is_space, are_spaces, is_white, is_name, is_xml, are_chars}
 use Rattle.xml_tokens.specs.NameBytes.{is_name_byte}
-use Rattle.xml_tokens.specs.Cutting.{is_other, has_part, begins_with}
+use Rattle.xml_tokens.specs.Cutting.{is_other}
+use Rattle.plain_tree.specs.Parts.{has_part, begins_with}
 use Rattle.xml_tokenizer.specs.Scanning.{scan_step, scanned, next_step}
 use Rattle.xml_tokens.specs.Tokens.{Token, Character, Reference, Section, Start, Empty, End, Comment, Instruction, Declaration, Doctype, IsToken}
 use Rattle.xml_tokens.specs.Markup.{IsCharacter, IsSection, IsComment, IsInstruction, IsStart, IsEnd, is_apart}

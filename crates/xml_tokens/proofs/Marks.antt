@@ -4,7 +4,8 @@ use Rattle.std.specs.Prelude.{Some, not, ◌&&◌}
 use Rattle.std.specs.List.{list_all}
 use Rattle.plain_tree.specs.XmlNames.{is_space, are_spaces, begins_space, is_white, is_name, is_name_char, is_name_start, is_xml, are_chars}
 use Rattle.xml_tokens.specs.NameBytes.{is_name_byte}
-use Rattle.xml_tokens.specs.Cutting.{front, back, before, has_part}
+use Rattle.xml_tokens.specs.Cutting.{front, back, before}
+use Rattle.plain_tree.specs.Parts.{has_part}
 use Rattle.xml_tokens.specs.Tokens.{Token, Comment, Section, Instruction, IsToken}
 use Rattle.xml_tokens.specs.Markup.{IsComment, IsSection, IsInstruction, is_apart}
 use Rattle.xml_tokens.specs.TokenAt.{comment_at, section_at, data_at, instruction_at, name_at}

@@ -27,16 +27,6 @@ abbrev pub before : List ℕ → List ℕ → Option (List ℕ)
 before word [] = if bytes_eq [] word then Some [] else None
 before word (c ∷ cs) = if bytes_eq (c ∷ cs) word then Some [] else option_map (λ front. c ∷ front) (before word cs)
 
-abbrev pub begins_with : List ℕ → List ℕ → Bool
-begins_with [] bytes = true
-begins_with (p ∷ ps) [] = false
-begins_with (p ∷ ps) (c ∷ cs) = (c == p) && begins_with ps cs
-
--- the bytes of part, of which there are some, stand one after the other in the bytes
-abbrev pub has_part : List ℕ → List ℕ → Bool
-has_part part [] = false
-has_part part (c ∷ cs) = begins_with part (c ∷ cs) || has_part part cs
-
 -- R holds of a text at the front of the bytes, and after follows
 pub record Begins (R : List ℕ → Type 0) (bytes after : List ℕ) : Type 0 where
   pub text : List ℕ

@@ -2,7 +2,7 @@
 use Rattle.std.specs.Prelude.{◌≡◌, ℕ, ◌==◌, Bool, true, false, not, ◌&&◌, List, [], ◌∷◌, ◌++◌, codes}
 use Rattle.std.specs.Char.{encode_utf8}
 use Rattle.plain_tree.specs.XmlNames.{is_char, are_chars, is_space, are_spaces, is_white, is_name, is_target}
-use Rattle.xml_tokens.specs.Cutting.{has_part}
+use Rattle.plain_tree.specs.Parts.{has_part}
 use Rattle.xml_tokens.specs.Attributes.{AreAttributes, are_distinct}
 
 -- CharData (production 14), one character of it: neither < nor &. The condition on ]]> is the content's.

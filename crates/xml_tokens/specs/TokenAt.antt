@@ -4,7 +4,8 @@ use Rattle.std.specs.Str.{bytes_eq, is_utf8, chars}
 use Rattle.std.specs.Char.{encode_utf8}
 use Rattle.plain_tree.specs.XmlNames.{are_chars, is_space, begins_space, is_name, is_xml}
 use Rattle.xml_tokens.specs.NameBytes.{is_name_byte}
-use Rattle.xml_tokens.specs.Cutting.{front, back, behind, before, has_part, is_other}
+use Rattle.xml_tokens.specs.Cutting.{front, back, behind, before, is_other}
+use Rattle.plain_tree.specs.Parts.{has_part}
 use Rattle.xml_tokens.specs.References.{char_of, referred}
 use Rattle.xml_tokens.specs.Tokens.{Token, Character, Reference, Section, Start, Empty, End, Comment, Instruction, Declaration, Doctype}
 use Rattle.xml_tokens.specs.Attributes.{is_quote, space_if_white, are_distinct}

@@ -72,7 +72,7 @@ fn is_name_char(c: char) -> bool
 }
 
 /// `xml` in any mixture of cases.
-pub(crate) fn is_xml(bytes: &[u8]) -> bool
+pub fn is_xml(bytes: &[u8]) -> bool
     ensures { result ≡ is_xml bytes.now }
 {
     matches!(bytes, [b'X' | b'x', b'M' | b'm', b'L' | b'l'])
@@ -115,7 +115,7 @@ fn is_name_utf8(bytes: &[u8]) -> bool
 // Chars of ASCII are tested byte by byte, and the rest from the first other byte on as text.
 /// Whether the bytes are characters that may stand in a document.
 #[tactic(auto, using(crate::proofs::Texts::chars_byte, crate::proofs::Texts::chars_none))]
-pub(crate) fn are_chars(bytes: &[u8]) -> bool
+pub fn are_chars(bytes: &[u8]) -> bool
     ensures { result ≡ are_chars bytes.now }
 {
     let mut rest = bytes;

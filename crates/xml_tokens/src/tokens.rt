@@ -2,7 +2,7 @@
 ghost use Rattle.std.specs.Prelude.{◌≡◌, ◌<◌, ◌&&◌, Some, None, IfOk, IfSome, IfNone, ◌∷◌, []};
 ghost use Rattle.std.specs.Str.{chars};
 ghost use Rattle.xml_tokens.specs.Seen.{seen_part};
-ghost use Rattle.xml_tokens.specs.Cutting.{has_part, begins_with};
+ghost use Rattle.plain_tree.specs.Parts.{has_part, begins_with};
 ghost use Rattle.xml_tokens.specs.Tokens.{Token, IsToken};
 ghost use Rattle.xml_tokens.specs.TokenAt.{close_at, start_at, end_at, comment_at, section_at, data_at, instruction_at, bang_at, question_at, markup_at, reference_at, character_at, one_char, char_at, token_at};
 ghost use Rattle.xml_tokens.specs.SeenTokens.{seen_token, token_of, attributes_of};

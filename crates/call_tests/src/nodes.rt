@@ -1,0 +1,160 @@
+// The writer's bytes, and which names and values are lawful.
+use plain_tree::Kind::{self, Attribute, Comment, Document, Element, Instruction, Text};
+use std::alloc::Global;
+use std::test::Fail;
+use tree_outside::MemorySink;
+use xml_nodes::{Writer, lawful};
+
+enum Call {
+    Open(&'static [u8]),
+    Leaf(Kind, &'static [u8], &'static [u8]),
+    Close(&'static [u8]),
+}
+
+// Calls, whether outermost nodes end lines, and what is written.
+struct Row {
+    calls: &'static [Call],
+    lines: bool,
+    bytes: &'static [u8],
+}
+
+static ROWS: [Row; 7] = [
+    Row {
+        calls: &[
+            Call::Open(b"a"),
+            Call::Leaf(Attribute, b"x", b"1"),
+            Call::Leaf(Attribute, b"y", b" \n"),
+            Call::Leaf(Text, b"", b"t<"),
+            Call::Close(b"a"),
+        ],
+        lines: true,
+        bytes: b"<a x=\"1\" y=\" &#xA;\">t&lt;</a>\n",
+    },
+    Row {
+        calls: &[
+            Call::Leaf(Comment, b"", b"p"),
+            Call::Leaf(Comment, b"", b"q"),
+            Call::Open(b"a"),
+            Call::Leaf(Attribute, b"k", b"1"),
+            Call::Leaf(Text, b"", b"u&v"),
+            Call::Close(b"a"),
+            Call::Leaf(Instruction, b"go", b"now"),
+        ],
+        lines: true,
+        bytes: b"<!--p-->\n<!--q-->\n<a k=\"1\">u&amp;v</a>\n<?go now?>\n",
+    },
+    Row {
+        calls: &[
+            Call::Open(b"a"),
+            Call::Leaf(Attribute, b"k", b"1"),
+            Call::Open(b"b"),
+            Call::Close(b"b"),
+            Call::Close(b"a"),
+            Call::Open(b"c"),
+            Call::Close(b"c"),
+        ],
+        lines: false,
+        bytes: b"<a k=\"1\"><b/></a><c/>",
+    },
+    Row {
+        calls: &[Call::Leaf(Attribute, b"y", b"\r\"<>&\t'")],
+        lines: true,
+        bytes: b"y=\"&#xD;&quot;&lt;>&amp;&#x9;'\"\n",
+    },
+    Row {
+        calls: &[Call::Leaf(Text, b"", b"\r\"<]]>&\t\n")],
+        lines: true,
+        bytes: b"&#xD;\"&lt;]]&gt;&amp;\t\n\n",
+    },
+    Row {
+        calls: &[Call::Leaf(Instruction, b"go", b"")],
+        lines: false,
+        bytes: b"<?go?>",
+    },
+    Row {
+        calls: &[
+            Call::Open(b"a"),
+            Call::Leaf(Comment, b"", b" c "),
+            Call::Close(b"a"),
+        ],
+        lines: false,
+        bytes: b"<a><!-- c --></a>",
+    },
+];
+
+fn written(alloc: Global, row: &Row) -> Result<MemorySink, Fail> {
+    let mut sink = MemorySink::new(alloc, Vec::new(alloc));
+    let mut writer = Writer::new(&mut sink, row.lines);
+    let mut depth = 0u32;
+    for call in row.calls {
+        match call {
+            Call::Open(name) => {
+                depth = depth.checked_add(1).ok_or("too deep")?;
+                writer.open(name)?;
+            }
+            Call::Leaf(kind, name, value) => {
+                if kind.has_value() {
+                    writer.leaf(*kind, name, value)?;
+                }
+            }
+            Call::Close(name) => {
+                depth = depth.checked_sub(1).ok_or("nothing is open")?;
+                writer.close(name)?;
+            }
+        }
+    }
+    if writer.count() != row.bytes.len() as u128 {
+        return Err("another count")?;
+    }
+    Ok(sink)
+}
+
+#[test]
+fn calls_write_their_bytes(rt: HostRuntime) -> Result<(), Fail> {
+    for row in &ROWS {
+        let sink = written(rt.alloc(), row)?;
+        assert_eq!(rt; sink.bytes(), row.bytes);
+    }
+    Ok(())
+}
+
+// A kind, a name and a value, and whether they are lawful.
+static PAIRS: [(Kind, &[u8], &[u8], bool); 30] = [
+    (Document, b"", b"", true),
+    (Document, b"a", b"", false),
+    (Element, b"a", b"", true),
+    (Element, b"a:b-1.c", b"", true),
+    (Element, b"\xC3\xA9", b"", true),
+    (Element, b"a", b"x", false),
+    (Element, b"", b"", false),
+    (Element, b"1a", b"", false),
+    (Element, b"-a", b"", false),
+    (Element, b"a\xC3\x97", b"", false),
+    (Element, b"a\xC3", b"", false),
+    (Attribute, b"a", b"", true),
+    (Attribute, b"a", b"<\r\n", true),
+    (Attribute, b"a", b"\x0c", false),
+    (Attribute, b"a", b"\xEF\xBF\xBE", false),
+    (Text, b"", b"]]>", true),
+    (Text, b"", b"", false),
+    (Text, b"a", b"x", false),
+    (Comment, b"", b"", true),
+    (Comment, b"", b"a - b", true),
+    (Comment, b"", b"a--b", false),
+    (Comment, b"", b"a-", false),
+    (Comment, b"", b"a\rb", false),
+    (Instruction, b"a", b"", true),
+    (Instruction, b"a", b"b ?", true),
+    (Instruction, b"a", b"?>", false),
+    (Instruction, b"a", b" b", false),
+    (Instruction, b"a", b"b\r", false),
+    (Instruction, b"xMl", b"", false),
+    (Instruction, b"xml-a", b"", true),
+];
+
+#[test]
+fn names_and_values_are_told_apart(rt: HostRuntime) {
+    for (kind, name, value, expected) in &PAIRS {
+        assert_eq!(rt; lawful(*kind, name, value), *expected, "{name:?} {value:?}");
+    }
+}

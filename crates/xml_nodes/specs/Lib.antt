@@ -1,0 +1,15 @@
+pub mod Content
+pub mod Spelling
+pub mod LawfulTokens
+pub mod Machine
+pub mod Taking
+pub mod StateOf
+pub mod Stands
+pub mod Place
+pub mod Saved
+pub mod SavedTokens
+pub mod Pen
+pub mod Escapes
+pub mod Sending
+pub mod WriterOf
+pub mod Laws

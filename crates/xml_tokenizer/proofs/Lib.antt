@@ -14,3 +14,4 @@ pub mod ScanMarks
 pub mod ScanTags
 pub mod ScanDeclarations
 pub mod Givings
+pub mod SinkExamples

@@ -225,20 +225,23 @@ struct Log {
 }
 
 impl Log {
-    fn write(&mut self, parts: &[&[u8]]) -> Result<(), Refused> {
-        for part in parts {
-            match self.bytes.extend_from_slice(part) {
-                Ok(()) => {}
-                Err(_) => return Err(Refused::Memory),
-            }
+    fn write(&mut self, text: &[u8]) -> Result<(), Refused> {
+        match self.bytes.extend_from_slice(text) {
+            Ok(()) => Ok(()),
+            Err(_) => Err(Refused::Memory),
         }
-        Ok(())
+    }
+
+    fn write_between(&mut self, open: &[u8], text: &[u8], close: &[u8]) -> Result<(), Refused> {
+        self.write(open)?;
+        self.write(text)?;
+        self.write(close)
     }
 
     fn write_char(&mut self, c: char) -> Result<(), Refused> {
         let mut buffer = [0; 4];
         let text = c.encode_utf8(&mut buffer);
-        self.write(&[text.as_bytes()])
+        self.write(text.as_bytes())
     }
 
     fn write_tag(
@@ -247,28 +250,32 @@ impl Log {
         attributes: &[Attribute<'_>],
         close: &[u8],
     ) -> Result<(), Refused> {
-        self.write(&[b"<", name])?;
+        self.write_between(b"<", name, b"")?;
         for attribute in attributes {
-            self.write(&[b" ", attribute.name, b"=", attribute.value.as_slice()])?;
+            self.write_between(b" ", attribute.name, b"=")?;
+            self.write(attribute.value.as_slice())?;
         }
-        self.write(&[close])
+        self.write(close)
     }
 
     fn write_token(&mut self, found: &Found<'_>) -> Result<(), Refused> {
         match found {
             Found::Character(c) => self.write_char(*c),
             Found::Reference(c) => {
-                self.write(&[b"&"])?;
+                self.write(b"&")?;
                 self.write_char(*c)
             }
-            Found::Section(value) => self.write(&[b"[", value, b"]"]),
+            Found::Section(value) => self.write_between(b"[", value, b"]"),
             Found::Start(name, attributes) => self.write_tag(name, attributes, b">"),
             Found::Empty(name, attributes) => self.write_tag(name, attributes, b"/>"),
-            Found::End(name) => self.write(&[b"</", name, b">"]),
-            Found::Comment(value) => self.write(&[b"{", value, b"}"]),
-            Found::Instruction(target, value) => self.write(&[b"?", target, b" ", value, b"?"]),
-            Found::Declaration => self.write(&[b"X"]),
-            Found::Doctype => self.write(&[b"D"]),
+            Found::End(name) => self.write_between(b"</", name, b">"),
+            Found::Comment(value) => self.write_between(b"{", value, b"}"),
+            Found::Instruction(target, value) => {
+                self.write_between(b"?", target, b" ")?;
+                self.write_between(b"", value, b"?")
+            }
+            Found::Declaration => self.write(b"X"),
+            Found::Doctype => self.write(b"D"),
         }
     }
 }
@@ -290,7 +297,7 @@ impl TokenSink for Log {
     }
 
     fn run(&mut self, bytes: &[u8]) -> Result<(), RunRefused> {
-        match self.write(&[bytes]) {
+        match self.write(bytes) {
             Ok(()) => Ok(()),
             Err(_) => Err(RunRefused::Memory),
         }
@@ -345,8 +352,8 @@ fn rows_are_read(rt: HostRuntime) -> Result<(), Fail> {
             let mut log = Log {
                 bytes: Vec::new(rt.alloc()),
             };
-            let read = read(rt.alloc(), bytes, *size, &mut log);
-            assert_eq!(rt; read, Ok(*end), "{shows} {size}");
+            let ended = read(rt.alloc(), bytes, *size, &mut log);
+            assert_eq!(rt; ended, Ok(*end), "{shows} {size}");
             assert_eq!(rt; log.bytes.as_slice(), *tokens, "{shows} {size}");
         }
     }

@@ -1,0 +1,8 @@
+use Rattle.std.proofs.Common.{◌≡◌}
+use Rattle.xml_tokenizer.proofs.SinkExamples.{none_taken}
+use Rattle.xml_tokenizer.proofs.tests.FullTokenSink.run.Goals as goal
+
+pub returns-clause-refused : goal.returns-clause-refused
+returns-clause-refused c = λ at e.
+    let is : 0 ≡ at = cc in
+    none_taken c.args.arg2.now at c.requires.some c.requires.run is

@@ -1,5 +1,5 @@
 -- From a tokenizer to the next, a step at a time.
-use Rattle.std.proofs.Common.{◌≡◌, ℕ, ◌+◌, ◌-◌, ◌<◌, ◌≤◌, Bool, true, false, List, [], ◌∷◌, ◌++◌, length, take, refl, ap, sym, ◌∙◌, subst, append_assoc, append-nil, length-append, arith}
+use Rattle.std.proofs.Common.{◌≡◌, ℕ, ◌+◌, ◌-◌, ◌≤◌, false, List, [], ◌∷◌, ◌++◌, length, take, refl, ap, sym, ◌∙◌, subst, append_assoc, append-nil, length-append, arith}
 use Rattle.std.specs.Prelude.{Option, Some, None, Result, Err}
 use Rattle.std.specs.Str.{chars}
 use lib.Utf8.{encode, encodes}
@@ -11,7 +11,6 @@ use Rattle.xml_tokenizer.specs.Ends.{Dies}
 use Rattle.xml_tokenizer.specs.Runs.{IsRun, characters}
 use Rattle.xml_tokenizer.specs.Taking.{taken, Takes, RefusesRun}
 use Rattle.xml_tokenizer.specs.Standing.{HasRead, Holds, GoesOn, BreaksAt, Advances, Breaks}
-use Rattle.xml_tokenizer.specs.declared.scan.Scan.{Scan}
 use Rattle.xml_tokenizer.specs.declared.scan.Scan.TheVariants.{Idle}
 use Rattle.xml_tokenizer.specs.declared.scan.Step.TheVariants.{On, Whole}
 use Rattle.xml_tokenizer.specs.declared.tokenizer.Tokenizer.{Tokenizer}

@@ -1,8 +1,7 @@
 -- Where bytes break, and that no tokens follow there.
-use Rattle.std.proofs.Common.{◌≡◌, ℕ, ◌+◌, ◌-◌, ◌≤◌, Bool, false, List, [], ◌∷◌, ◌++◌, length, take, refl, ap, sym, ◌∙◌, subst, ◌⊎◌, inl, inr, append_assoc, append-nil, length-append, arith}
+use Rattle.std.proofs.Common.{◌≡◌, ℕ, ◌-◌, false, List, [], ◌∷◌, ◌++◌, length, take, refl, ap, sym, ◌∙◌, subst, inl, inr, append_assoc, append-nil, length-append, arith}
 use Rattle.std.specs.Prelude.{Option, Some, None, ◌==◌}
 use Rattle.std.proofs.lemmas.Grind.{common_steps}
-use Rattle.xml_tokens.specs.Cutting.{Begins}
 use Rattle.xml_tokens.specs.Tokens.{Token, IsToken, AreTokens}
 use Rattle.xml_tokenizer.specs.LineEnds.{line_ends, line_ends_after, ends_in_return, is_dropped, line_end_of, Become}
 use Rattle.xml_tokenizer.specs.Scanning.{scanned, scan_step}

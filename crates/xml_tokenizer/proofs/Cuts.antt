@@ -1,7 +1,6 @@
 -- Bytes are cut into tokens in one way.
 use Rattle.std.proofs.Common.{◌≡◌, ℕ, List, [], ◌∷◌, ◌++◌, refl, ap, sym, ◌∙◌, subst, append_assoc, append-nil}
 use Rattle.xml_tokens.specs.Tokens.{Token, IsToken, AreTokens}
-use Rattle.xml_tokenizer.specs.Scanning.{scanned}
 use Rattle.xml_tokenizer.specs.declared.scan.Scan.TheVariants.{Idle}
 use Rattle.xml_tokenizer.specs.declared.scan.Step.TheVariants.{On}
 use Rattle.xml_tokens.proofs.TokenLaws.{one_token}

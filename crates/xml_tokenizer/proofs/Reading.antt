@@ -1,5 +1,5 @@
 -- A tokenizer that has read goes on.
-use Rattle.std.proofs.Common.{◌≡◌, ℕ, ◌+◌, ◌<◌, ◌≤◌, Bool, true, false, List, [], ◌∷◌, ◌++◌, length, refl, ap, sym, ◌∙◌, subst, append_assoc, append-nil, length-append, arith}
+use Rattle.std.proofs.Common.{◌≡◌, ℕ, ◌+◌, ◌<◌, true, false, List, [], ◌∷◌, ◌++◌, length, refl, ap, sym, ◌∙◌, subst, append_assoc, append-nil, length-append, arith}
 use Rattle.xml_tokens.specs.Tokens.{Token, AreTokens}
 use Rattle.xml_tokenizer.specs.LineEnds.{line_ends, line_ends_after, ends_in_return, begins_dropped, Become}
 use Rattle.xml_tokenizer.specs.Scanning.{scanned}

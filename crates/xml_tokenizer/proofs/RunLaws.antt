@@ -1,6 +1,6 @@
 -- Runs of plain characters.
-use Rattle.std.proofs.Common.{◌≡◌, ℕ, ◌-◌, ◌<◌, ◌≤◌, Bool, true, false, List, [], ◌∷◌, ◌++◌, length, take, drop, length-drop, get_or, refl, arith, ap, sym, ◌∙◌, subst, append_assoc, append-nil}
-use Rattle.std.specs.Prelude.{Some, ◌==◌, ◌&&◌, map}
+use Rattle.std.proofs.Common.{◌≡◌, ℕ, ◌-◌, ◌<◌, ◌≤◌, Bool, true, false, List, [], ◌∷◌, ◌++◌, length, take, drop, length-drop, refl, arith, ap, sym, ◌∙◌, subst, append_assoc, append-nil}
+use Rattle.std.specs.Prelude.{Some, ◌==◌, ◌&&◌}
 use Rattle.std.specs.List.{list_all}
 use Rattle.std.specs.Str.{is_utf8, chars}
 use lib.Utf8.{encodes, encode}
@@ -9,12 +9,11 @@ use Rattle.std.proofs.lemmas.List.Folds.{list_all-append}
 use Rattle.std.proofs.lemmas.List.{take-append-drop}
 use Rattle.std.proofs.lemmas.Str.{encodes-chars, chars-append, chars-encodes, IsUtf8-append, IsUtf8-encode, IsUtf8-from_is_utf8, is_utf8-from_IsUtf8}
 use Rattle.plain_tree.specs.XmlNames.{is_char, are_chars}
-use Rattle.xml_tokenizer.specs.LineEnds.{line_ends_after, ends_in_return}
-use Rattle.xml_tokens.specs.Cutting.{front, back, is_other, Begins}
+use Rattle.xml_tokens.specs.Cutting.{front, back, Begins}
 use Rattle.xml_tokenizer.specs.Runs.{IsRun, is_run, is_low_run, characters}
 use Rattle.xml_tokens.specs.Tokens.{Character, IsToken, AreTokens}
 use Rattle.xml_tokens.specs.TokenAt.{char_at}
-use Rattle.xml_tokens.proofs.Lists.{and_true, front-back, list_all-front, take-front, cons_of, none_of, tail_of, back-stops, Stops, same_number, take_all}
+use Rattle.xml_tokens.proofs.Lists.{and_true, front-back, list_all-front, same_number, take_all}
 use Rattle.xml_tokens.proofs.Texts.{chars_byte, chars_none, encode_bytes}
 use Rattle.xml_tokens.proofs.TokenLaws.{char_was, char_scalar}
 

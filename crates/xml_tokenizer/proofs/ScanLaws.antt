@@ -1,7 +1,6 @@
 -- The scan cuts bytes in one place only.
-use Rattle.std.proofs.Common.{◌≡◌, ℕ, Bool, true, false, List, [], ◌∷◌, ◌++◌, refl, ap, sym, ◌∙◌, subst}
+use Rattle.std.proofs.Common.{◌≡◌, ℕ, Bool, true, List, [], ◌∷◌, ◌++◌, refl, ap, sym, ◌∙◌, subst}
 use Rattle.std.specs.List.{list_all}
-use Rattle.std.specs.Prelude.{◌&&◌}
 use Rattle.xml_tokenizer.specs.Scanning.{scan_step, scanned}
 use Rattle.xml_tokenizer.specs.declared.scan.Scan.{Scan}
 use Rattle.xml_tokenizer.specs.declared.scan.Step.{Step}

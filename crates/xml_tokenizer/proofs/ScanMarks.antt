@@ -1,30 +1,17 @@
 -- References, sections, comments and instructions are scanned to their ends.
-use Rattle.std.proofs.Common.{◌≡◌, ℕ, ◌+◌, ◌/◌, ◌%◌, ◌<◌, ◌≤◌, Bool, true, false, cond, List, [], ◌∷◌, ◌++◌, refl, ap, sym, ◌∙◌, subst, ◌⊎◌, inl, inr, arith}
-use Rattle.std.specs.Prelude.{◌==◌, ◌&&◌, ◌||◌, not, map}
-use Rattle.std.specs.List.{list_all, flat_map, AllByRecursion}
-use Rattle.std.specs.Str.{bytes_eq}
-use lib.Utf8.{encode}
-use lib.Dec.{ltb}
-use borrow.Author.Tests.{ltb-true, ltb-false}
+use Rattle.std.proofs.Common.{◌≡◌, ℕ, Bool, true, false, List, [], ◌∷◌, ◌++◌, refl, sym, ◌∙◌, subst, arith}
+use Rattle.std.specs.Prelude.{◌==◌, ◌||◌, not}
+use Rattle.std.specs.List.{list_all}
 use Rattle.std.proofs.lemmas.Bool.Decides.{nat_tests}
-use Rattle.std.proofs.lemmas.List.Folds.{list_all-append}
-use Rattle.plain_tree.specs.XmlNames.{is_within, is_char, is_space, are_spaces, is_white, is_name, is_xml, are_chars}
-use Rattle.xml_tokens.specs.NameBytes.{is_name_byte}
-use Rattle.xml_tokens.specs.Cutting.{is_other}
-use Rattle.plain_tree.specs.Parts.{has_part, begins_with}
-use Rattle.xml_tokenizer.specs.Scanning.{scan_step, scanned, next_step}
-use Rattle.xml_tokens.specs.Tokens.{Token, Character, Reference, Section, Start, Empty, End, Comment, Instruction, Declaration, Doctype, IsToken}
-use Rattle.xml_tokens.specs.Markup.{IsCharacter, IsSection, IsComment, IsInstruction, IsStart, IsEnd, is_apart}
-use Rattle.xml_tokens.specs.References.{IsReference, is_digit, are_digits}
-use Rattle.xml_tokens.specs.Declarations.{IsDeclaration, IsDoctype, IsItem, IsLiteral, IsNamed, IsExternal, Maybe, is_version, is_encoding, is_yes_or_no, small, are_public}
-use Rattle.xml_tokens.specs.Attributes.{IsQuoted, IsValue, IsEq, IsAttribute, AreAttributes, Piece, Plain, Referred, IsPiece, piece_text, is_quote}
+use Rattle.plain_tree.specs.XmlNames.{is_space, are_spaces, is_white, is_name, is_xml}
+use Rattle.xml_tokens.specs.Cutting.{has_part, begins_with}
+use Rattle.xml_tokenizer.specs.Scanning.{scan_step, scanned}
+use Rattle.xml_tokens.specs.Markup.{IsSection, IsComment, IsInstruction, is_apart}
+use Rattle.xml_tokens.specs.References.{IsReference}
 use Rattle.xml_tokenizer.specs.declared.scan.Scan.TheVariants as at
-use Rattle.xml_tokenizer.specs.declared.scan.Step.{Step}
 use Rattle.xml_tokenizer.specs.declared.scan.Step.TheVariants.{On, Whole}
-use Rattle.xml_tokens.proofs.Lists.{and_true, same_number, same_bytes}
-use Rattle.xml_tokens.proofs.Texts.{name_bytes, named_first}
-use Rattle.xml_tokens.proofs.Numbers.{char_small}
-use Rattle.xml_tokens.proofs.Parts.{name_is_not, no_name_byte, white_spaces}
+use Rattle.xml_tokens.proofs.Lists.{and_true, same_number}
+use Rattle.xml_tokens.proofs.Parts.{white_spaces}
 use Rattle.xml_tokens.proofs.Pieces.{is_inner, referred_inner, all_of}
 use Rattle.xml_tokenizer.proofs.ScanLaws.{then_scanned, stays}
 use Rattle.xml_tokenizer.proofs.ScanPlain.{is_plain, name_is_plain, spaces_plain}

@@ -1,5 +1,5 @@
 -- What a tokenizer has read, and where bytes break.
-use Rattle.std.specs.Prelude.{◌≡◌, ℕ, ◌+◌, Bool, false, List, [], ◌∷◌, ◌++◌, length, ◌⊎◌, Option, Some, None}
+use Rattle.std.specs.Prelude.{◌≡◌, ℕ, ◌+◌, false, List, [], ◌∷◌, ◌++◌, length, ◌⊎◌, Option, Some, None}
 use Rattle.xml_tokens.specs.Tokens.{Token, IsToken, AreTokens}
 use Rattle.xml_tokenizer.specs.LineEnds.{line_ends, line_ends_after, ends_in_return, is_dropped, begins_dropped, line_end_of, Become}
 use Rattle.xml_tokenizer.specs.Scanning.{scanned, scan_step}

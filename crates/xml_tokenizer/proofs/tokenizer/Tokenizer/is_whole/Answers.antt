@@ -1,4 +1,4 @@
-use Rattle.std.proofs.Common.{sym, ◌∙◌}
+use Rattle.std.proofs.Common.{◌∙◌}
 use Rattle.xml_tokenizer.proofs.Reading.{not_whole}
 use Rattle.xml_tokenizer.proofs.tokenizer.Tokenizer.is_whole.Goals as goal
 

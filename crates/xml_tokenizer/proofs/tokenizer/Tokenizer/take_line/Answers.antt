@@ -1,4 +1,4 @@
-use Rattle.std.proofs.Common.{◌≡◌, ◌∷◌, refl, ap, ◌∙◌, arith}
+use Rattle.std.proofs.Common.{◌∷◌, refl, ap, ◌∙◌, arith}
 use Rattle.xml_tokens.proofs.Lists.{cons_of, tail_of}
 use Rattle.xml_tokenizer.proofs.Advancing.{err_same}
 use Rattle.xml_tokenizer.proofs.Lines.{segment_of, reads_segment, segment_breaks, reads_return, return_breaks, reads_dropped}

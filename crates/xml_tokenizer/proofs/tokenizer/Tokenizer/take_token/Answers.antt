@@ -1,4 +1,4 @@
-use Rattle.std.proofs.Common.{◌-◌, length, take, refl, sym, ap, ◌∙◌}
+use Rattle.std.proofs.Common.{refl, sym, ap, ◌∙◌}
 use Rattle.xml_tokenizer.specs.declared.scan.Step.TheVariants.{On}
 use Rattle.xml_tokenizer.proofs.Advancing.{advances_more, advances_token, dead_breaks, token_breaks, unheld, err_same}
 use Rattle.xml_tokenizer.proofs.tokenizer.Tokenizer.take_token.Goals as goal

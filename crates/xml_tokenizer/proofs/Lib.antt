@@ -14,4 +14,3 @@ pub mod ScanMarks
 pub mod ScanTags
 pub mod ScanDeclarations
 pub mod Givings
-pub mod SinkExamples

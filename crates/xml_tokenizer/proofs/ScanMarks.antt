@@ -4,7 +4,7 @@ use Rattle.std.specs.Prelude.{◌==◌, ◌||◌, not}
 use Rattle.std.specs.List.{list_all}
 use Rattle.std.proofs.lemmas.Bool.Decides.{nat_tests}
 use Rattle.plain_tree.specs.XmlNames.{is_space, are_spaces, is_white, is_name, is_xml}
-use Rattle.xml_tokens.specs.Cutting.{has_part, begins_with}
+use Rattle.plain_tree.specs.Parts.{has_part, begins_with}
 use Rattle.xml_tokenizer.specs.Scanning.{scan_step, scanned}
 use Rattle.xml_tokens.specs.Markup.{IsSection, IsComment, IsInstruction, is_apart}
 use Rattle.xml_tokens.specs.References.{IsReference}

@@ -13,8 +13,6 @@ mod laws;
 mod runs;
 mod scan;
 mod sink;
-#[cfg(test)]
-mod tests;
 mod tokenizer;
 
 pub use laws::{characters_are_tokens, one_cut, one_cutting, scans};

@@ -2,9 +2,9 @@
 ghost use Rattle.std.specs.Prelude.{◌≡◌, ℕ, ◌+◌, ◌≤◌, ◌<◌, ◌^◌, length};
 ghost use Rattle.xml_tokenizer.specs.Standing.{Stands};
 
-use super::*;
 use std::alloc::{AllocError, Global};
 use std::test::Fail;
+use xml_tokenizer::{Refused, RunRefused, TokenError, TokenSink, Tokenizer};
 use xml_tokens::{Attribute, Found};
 
 // How the bytes of a row end: they are whole tokens, or a token begins at this place that breaks, or that breaks off.

@@ -1,6 +1,6 @@
 use Rattle.std.proofs.Common.{◌≡◌}
-use Rattle.xml_tokenizer.proofs.SinkExamples.{none_taken}
-use Rattle.xml_tokenizer.proofs.tests.FullTokenSink.run.Goals as goal
+use Rattle.call_tests.proofs.SinkExamples.{none_taken}
+use Rattle.call_tests.proofs.tokens.FullTokenSink.run.Goals as goal
 
 pub returns-clause-refused : goal.returns-clause-refused
 returns-clause-refused c = λ at e.

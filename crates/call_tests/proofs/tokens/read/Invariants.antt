@@ -1,5 +1,5 @@
 use Rattle.std.proofs.Common.{◌≡◌, ◌+◌, length}
-use Rattle.xml_tokenizer.proofs.tests.read.Given as goal
+use Rattle.call_tests.proofs.tokens.read.Given as goal
 
 abbrev pub invariant-loop-rest : goal.invariant-loop-rest
 invariant-loop-rest l = l.tokenizer.count + length l.rest ≡ length l.bytes

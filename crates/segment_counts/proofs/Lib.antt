@@ -1,0 +1,6 @@
+pub mod Numbers
+pub mod Sums
+pub mod Tallying
+pub mod Sizes
+pub mod Rows
+pub mod Telling

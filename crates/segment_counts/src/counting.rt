@@ -1,0 +1,138 @@
+// Counting along the tours of the bodies.
+ghost use Rattle.std.specs.Prelude.{◌≡◌, ◌<◌, ◌≤◌, ◌^◌, ℕ, [], length, get_or, sum_by, IfOk, IfSome, IfNone, Err, OnErr, OnOk, IsOk, true, false};
+ghost use Rattle.slt_grammar.specs.Grammars.{IsSwept, value};
+ghost use Rattle.slt_grammar.specs.Keyed.{IsKeyed, rules_of};
+ghost use Rattle.slt_grammar.specs.Segments.{listed, preorder};
+ghost use Rattle.segment_counts.specs.Counting.{AreCounts, AreCountsBelow, no_row, numbers};
+ghost use Rattle.segment_counts.specs.Weights.{weigh, count, node_weight};
+ghost use Rattle.segment_counts.specs.declared.counts.Measure.{Measure};
+
+use crate::counts::{Counts, EMPTY_ROW, Row};
+use crate::tally::Tallies;
+use plain_tree::Names;
+use read_steps::Steps;
+use slt_grammar::{Grammar, TourWalk};
+use std::alloc::{AllocError, Global};
+use std::marker::Brand;
+use std::sync::ledger::{Blank, Ledger};
+
+/// Why the counts weren't made.
+#[derive(Clone, Copy, Debug, PartialEq, Eq)]
+pub enum CountError {
+    /// The grammar's value has more than 2^63 - 1 nodes that aren't bottom.
+    TooMany,
+    /// Memory was refused.
+    Memory,
+}
+
+impl Counts {
+    /// The counts of a swept grammar, with room for its rules. A symbol that isn't in `names` has no text.
+    ///
+    /// `TooMany` comes exactly where the grammar's value has more than 2^63 - 1 nodes that aren't bottom, and `Memory` only where memory
+    /// is refused.
+    pub fn new(alloc: Global, grammar: &Grammar, names: &Names) -> Result<Counts, CountError>
+        requires swept { IsSwept (rules_of grammar.now.rules) }
+        ensures counts { IfOk result (AreCounts names.now (rules_of grammar.now.rules)) }
+        ensures few { OnOk result (sum_by node_weight (listed (value (rules_of grammar.now.rules)) []) < 2 ^ 63) }
+        ensures many { result ≡ Err CountError.TooMany → 2 ^ 63 ≤ sum_by node_weight (listed (value (rules_of grammar.now.rules)) []) }
+    {
+        let mut counts = Counts {
+            rows: Vec::new(alloc),
+            rules: 0,
+        };
+        let rules = grammar.rules();
+        if counts.reserve(rules).is_err() {
+            return Err(CountError::Memory);
+        }
+        if count_all::<Brand>(grammar, names, &mut counts, Blank::new(1)) {
+            Ok(counts)
+        } else {
+            Err(CountError::TooMany)
+        }
+    }
+
+    /// Makes the room at least `rules`, and needs no memory where it is so already. What was counted stays.
+    pub fn reserve(&mut self, rules: usize) -> Result<(), AllocError>
+        ensures room { OnOk result (rules ≤ length self.new.rows) }
+        ensures grown { length self.old.rows ≤ length self.new.rows }
+        ensures rules { self.new.rules ≡ self.old.rules }
+        ensures kept { (q : ℕ) → q < length self.old.rows → get_or self.new.rows q no_row ≡ get_or self.old.rows q no_row }
+        ensures refused { OnErr result (self.new ≡ self.old) }
+        ensures succeeds { rules ≤ length self.old.rows → IsOk result }
+    {
+        if rules <= self.rows.len() {
+            return Ok(());
+        }
+        self.rows.resize(rules, EMPTY_ROW)
+    }
+
+    /// Makes the counts those of another grammar, for whose rules there is room and whose value is within the limit of `new`. It takes
+    /// no memory, and the room stays.
+    pub fn update(&mut self, grammar: &Grammar, names: &Names)
+        requires swept { IsSwept (rules_of grammar.now.rules) }
+        requires room { length grammar.now.rules ≤ length self.old.rows }
+        requires few { sum_by node_weight (listed (value (rules_of grammar.now.rules)) []) < 2 ^ 63 }
+        ensures counts { AreCounts names.now (rules_of grammar.now.rules) self.new }
+        ensures room { length self.new.rows ≡ length self.old.rows }
+    {
+        // The call tells that the rules are a grammar.
+        let _rules = grammar.rules();
+        if !count_all::<Brand>(grammar, names, self, Blank::new(1)) {
+            unreachable!()
+        }
+    }
+}
+
+// Counts all rules on a counter of its own, and answers false where a value has too many nodes.
+fn count_all<L: Ledger>(grammar: &Grammar, names: &Names, counts: &mut Counts, blank: Blank) -> bool
+    requires room { length grammar.now.rules ≤ length counts.old.rows }
+    requires name { blank.name ≡ L.name }
+    requires parts { blank.parts ≡ L.parts }
+    requires some { 0 < blank.parts }
+    ensures counts { result ≡ true → AreCounts names.now (rules_of grammar.now.rules) counts.new }
+    ensures few { result ≡ true → (q : ℕ) → q < length grammar.now.rules → sum_by node_weight (preorder (rules_of grammar.now.rules) q) < 2 ^ 63 }
+    ensures many { result ≡ false → (q : ℕ) × (q < length grammar.now.rules) × (2 ^ 63 ≤ sum_by node_weight (preorder (rules_of grammar.now.rules) q)) }
+    ensures room { length counts.new.rows ≡ length counts.old.rows }
+{
+    let mut steps: Steps<L> = Steps::new(blank);
+    // The call tells what is true of every grammar.
+    let _limit = grammar.limit();
+    let rules = grammar.rules();
+    for rule in 0..rules {
+        match count_rule(grammar, names, counts, rule, &mut steps) {
+            Some(row) => counts.rows[rule] = row,
+            None => return false,
+        }
+    }
+    counts.rules = rules;
+    true
+}
+
+// The numbers of a rule's segments, and None where its value has too many nodes.
+fn count_rule<L: Ledger>(
+    grammar: &Grammar,
+    names: &Names,
+    counts: &Counts,
+    rule: usize,
+    steps: &mut Steps<L>,
+) -> Option<Row>
+    requires keyed { IsKeyed grammar.now }
+    requires counts { AreCountsBelow names.now rule (rules_of grammar.now.rules) counts.now.rows }
+    requires rule { rule < length grammar.now.rules }
+    ensures row { IfSome result (λ row. (m : Measure) (i : ℕ) → get_or (numbers m row) i 0 ≡ count (weigh names.now m) (rules_of grammar.now.rules) rule i) }
+    ensures few { IfSome result (λ row. sum_by node_weight (preorder (rules_of grammar.now.rules) rule) < 2 ^ 63) }
+    ensures many { IfNone result (2 ^ 63 ≤ sum_by node_weight (preorder (rules_of grammar.now.rules) rule)) }
+{
+    let mut walk = TourWalk::new(grammar, rule);
+    let mut tallies = Tallies::new();
+    'stops: loop {
+        let item = grammar.item(walk.key, steps);
+        let weights = counts.weights(names, item.label, walk.part);
+        if !tallies.add(item.label, weights) {
+            return None;
+        }
+        if !walk.advance(grammar, &item, steps) {
+            return Some(tallies.row());
+        }
+    }
+}

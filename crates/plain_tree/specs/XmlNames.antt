@@ -47,10 +47,6 @@ abbrev pub are_name_chars : List ℕ → Bool
 are_name_chars [] = false
 are_name_chars (c ∷ cs) = is_name_start c && list_all is_name_char cs
 
--- bytes with which a name may go on
-abbrev pub goes_name : List ℕ → Bool
-goes_name bytes = is_utf8 bytes && list_all is_name_char (chars bytes)
-
 -- and as bytes
 unfoldable pub is_name : List ℕ → Bool
 is_name bytes = is_utf8 bytes && are_name_chars (chars bytes)

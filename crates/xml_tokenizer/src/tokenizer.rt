@@ -63,7 +63,7 @@ impl Tokenizer {
         }
     }
 
-    /// How many bytes came. All of them together have to be fewer than 2^64.
+    /// How many bytes came.
     pub fn count(&self) -> u64
         ensures { result ≡ self.now.count }
     {
@@ -78,7 +78,7 @@ impl Tokenizer {
         self.start
     }
 
-    /// Reads the next piece, which may end anywhere, and gives its tokens to the sink.
+    /// Reads the next piece, which may end anywhere, and gives its tokens to the sink. All bytes together are fewer than 2^64.
     ///
     /// `Bad`: the bytes that came begin no tokens that the sink takes, and `start` tells where the token begins in which they
     /// break. `Memory`: there was none, here or in the sink.

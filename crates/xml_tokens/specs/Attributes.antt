@@ -1,4 +1,4 @@
--- Attributes, and values that are kept or made even (XML 1.0, fifth edition, 2.3, 3.1 and 3.3.3).
+-- Attributes and values (XML 1.0, fifth edition, 2.3, 3.1 and 3.3.3).
 use Rattle.std.specs.Prelude.{◌≡◌, ℕ, ◌==◌, Bool, true, false, not, ◌||◌, ◌&&◌, List, [], ◌∷◌, ◌++◌, codes, if◌then◌else◌}
 use Rattle.std.specs.Str.{bytes_eq}
 use Rattle.std.specs.Char.{encode_utf8}
@@ -27,7 +27,7 @@ abbrev pub piece_text : Piece → List ℕ
 piece_text (Plain c) = c ∷ []
 piece_text (Referred c x) = x
 
--- a byte as it stands, or white space as a space (3.3.3)
+-- what a byte gives: itself, or a space for white space (3.3.3)
 abbrev pub kept : ℕ → ℕ
 kept c = c
 
@@ -44,7 +44,7 @@ abbrev pub IsPiece : Piece → Type 0
 IsPiece (Plain c) = ((c == 60) ≡ false) × ((c == 38) ≡ false)
 IsPiece (Referred c x) = IsReference c x
 
--- characters and references, and the value that they give
+-- characters and references (AttValue, production 10, between its quotes), and the value that they give
 pub record IsValue (give : ℕ → ℕ) (value inner : List ℕ) : Type 0 where
   pub text : are_chars inner ≡ true
   pub pieces : List Piece
@@ -60,7 +60,7 @@ pub record IsEq (x : List ℕ) : Type 0 where
   pub spaced_after : are_spaces after ≡ true
   pub whole : x ≡ space ++ (codes "=" ++ after)
 
--- S and Attribute (production 41), whose quotes hold an AttValue (production 10)
+-- S and Attribute (production 41)
 pub record IsAttribute (name value x : List ℕ) : Type 0 where
   pub space : List ℕ
   pub spaced : is_white space ≡ true

@@ -3,7 +3,7 @@ use plain_tree::Kind::{self, Attribute, Comment, Document, Element, Instruction,
 use std::alloc::Global;
 use std::test::Fail;
 use tree_outside::MemorySink;
-use xml_nodes::{Writer, lawful};
+use xml_nodes::{Writer, lawful, name_length};
 
 enum Call {
     Open(&'static [u8]),
@@ -156,5 +156,25 @@ static PAIRS: [(Kind, &[u8], &[u8], bool); 30] = [
 fn names_and_values_are_told_apart(rt: HostRuntime) {
     for (kind, name, value, expected) in &PAIRS {
         assert_eq!(rt; lawful(*kind, name, value), *expected, "{name:?} {value:?}");
+    }
+}
+
+// Bytes, and how many of them are the longest name at the front.
+static LENGTHS: [(&[u8], usize); 9] = [
+    (b"", 0),
+    (b"a", 1),
+    (b"ab c", 2),
+    (b"1a", 0),
+    (b"-a", 0),
+    (b"a:b-1.c>", 7),
+    (b"\xC3\xA9/x", 2),
+    (b"a\xC3\x97b", 1),
+    (b"a\xC3", 1),
+];
+
+#[test]
+fn longest_names_are_found(rt: HostRuntime) {
+    for (bytes, expected) in &LENGTHS {
+        assert_eq!(rt; name_length(bytes), *expected, "{bytes:?}");
     }
 }

@@ -1,5 +1,5 @@
 -- Bytes that go on behind whole tokens and the front of one token more.
-use Rattle.std.proofs.Common.{◌≡◌, ℕ, List, [], ◌∷◌, ◌++◌, refl, ap, sym, ◌∙◌, subst, inl, inr, append_assoc, append-nil}
+use Rattle.std.proofs.Common.{◌≡◌, ℕ, List, [], ◌∷◌, ◌++◌, refl, ap, sym, ◌∙◌, subst, inl, inr, append_assoc}
 use Rattle.std.specs.Prelude.{Some, None}
 use Rattle.xml_tokenizer.specs.declared.scan.Scan.{Scan}
 use Rattle.xml_tokenizer.specs.declared.scan.Scan.TheVariants.{Idle}
@@ -12,16 +12,7 @@ use Rattle.xml_tokenizer.specs.Scanning.{scanned, scan_step}
 use Rattle.xml_nodes.specs.Stands.{Refuses}
 use Rattle.xml_tokenizer.proofs.ScanLaws.{scanned-append, one_cut, no_token, dead}
 use Rattle.xml_nodes.proofs.Layer.{scans}
-use Rattle.xml_nodes.proofs.Layer.{one_token}
-
-pub tokens_more : (ts : List Token) (bytes after more : List ℕ) → AreTokens ts bytes after → AreTokens ts (bytes ++ more) (after ++ more)
-tokens_more [] bytes after more a = ap (λ z. z ++ more) a
-tokens_more (t ∷ ts) bytes after more a =
-    (a.0, a.1 ++ more, a.2, ap (λ z. z ++ more) a.3 ∙ append_assoc a.0 a.1 more, tokens_more ts a.1 after more a.4)
-
-pub tokens_then : (ts us : List Token) (bytes mid after : List ℕ) → AreTokens ts bytes mid → AreTokens us mid after → AreTokens (ts ++ us) bytes after
-tokens_then [] us bytes mid after a b = subst (λ z. AreTokens us z after) (sym a) b
-tokens_then (t ∷ ts) us bytes mid after a b = (a.0, a.1, a.2, a.3, tokens_then ts us a.1 mid after a.4 b)
+use Rattle.xml_tokenizer.proofs.Cuts.{cut_prefix, tokens_more}
 
 pub scan_more : (held : List ℕ) (scan : Scan) (c : ℕ) (next : Step) → scanned (On Idle) held ≡ On scan → scan_step scan c ≡ next → scanned (On Idle) (held ++ c ∷ []) ≡ next
 scan_more held scan c next w e = scanned-append (On Idle) held (c ∷ []) ∙ ap (λ z. scanned z (c ∷ [])) w ∙ e
@@ -64,26 +55,9 @@ some_bytes t [] a is e = let w = scans t [] is in cc
 some_bytes t (c ∷ x) a is e = cc
 
 -- the tokens of bytes that go on
-pub cut_prefix : (ts us : List Token) (bytes held more : List ℕ) → AreTokens ts bytes held → AreTokens us (bytes ++ more) []
+pub cut_further : (ts us : List Token) (bytes held more : List ℕ) → AreTokens ts bytes held → AreTokens us (bytes ++ more) []
     → (vs : List Token) × (us ≡ ts ++ vs) × AreTokens vs (held ++ more) []
-cut_prefix [] us bytes held more a b = (us, refl, subst (λ z. AreTokens us (z ++ more) []) a b)
-cut_prefix (t ∷ ts) [] bytes held more a b =
-    absurd (some_bytes t a.0 (a.1 ++ more) a.2 (sym b ∙ ap (λ z. z ++ more) a.3 ∙ append_assoc a.0 a.1 more))
-cut_prefix (t ∷ ts) (u ∷ us) bytes held more a b =
-    let same = one_cut (On Idle) a.0 b.0 (a.1 ++ more) b.1 (scans t a.0 a.2) (scans u b.0 b.2)
-    (sym (append_assoc a.0 a.1 more) ∙ ap (λ z. z ++ more) (sym a.3) ∙ b.3) in
-    let below = cut_prefix ts us a.1 held more a.4 (subst (λ z. AreTokens us z []) (sym same.1) b.4) in
-    let heads = one_token t u a.0 a.2 (subst (λ z. IsToken u z) (sym same.0) b.2) in
-    (below.0, ap (λ z. z ∷ us) (sym heads) ∙ ap (λ z. t ∷ z) below.1, below.2)
-
--- bytes are cut into tokens in one way
-pub one_list : (ts us : List Token) (bytes : List ℕ) → AreTokens ts bytes [] → AreTokens us bytes [] → ts ≡ us
-one_list ts us bytes a b =
-    let p = cut_prefix ts us bytes [] [] a (subst (λ z. AreTokens us z []) (sym (append-nil bytes)) b) in
-    go p.0 p.1 p.2 where
-      go : (vs : List Token) → us ≡ ts ++ vs → AreTokens vs [] [] → ts ≡ us
-      go [] e a = sym (e ∙ append-nil ts)
-      go (v ∷ vs) e a = absurd (some_bytes v a.0 a.1 a.2 a.3)
+cut_further ts us bytes held more a b = cut_prefix ts us (bytes ++ more) (held ++ more) (tokens_more ts bytes held more a) b
 
 -- no tokens of a document begin with this
 refused_first : (from : State) (ts us : List Token) (u : Token) (held next : List ℕ) (scan : Scan) (now r : State) (log es : List Event) (c : ℕ) → scanned (On Idle) held ≡ On scan
@@ -100,7 +74,7 @@ pub refused : (from : State) (ts us : List Token) (bytes held next : List ℕ) (
     → scanned (On Idle) held ≡ On scan → steps from ts ≡ Some (now, log) → Refuses held scan now c
     → AreTokens us (bytes ++ c ∷ next) [] → steps from us ≡ Some (r, es) → ⊥
 refused from ts us bytes held next scan now r log es c a h f refuses b g =
-    let p = cut_prefix ts us bytes held (c ∷ next) a b in
+    let p = cut_further ts us bytes held (c ∷ next) a b in
     go p.0 p.1 p.2 where
       nothing : (x : List ℕ) → x ++ c ∷ next ≡ [] → ⊥
       nothing [] e = cc

@@ -12,15 +12,14 @@ use Rattle.xml_nodes.proofs.Steps.{steps-append}
 use Rattle.xml_nodes.proofs.Grammar.{split, some_is}
 use Rattle.xml_nodes.proofs.Trees.{same_name}
 use Rattle.xml_nodes.proofs.Fragments.{fragment-leads, leads-fragment}
-use Rattle.xml_nodes.proofs.LineEnds.{line_end_of, no_returns}
+use Rattle.xml_nodes.proofs.LineEnds.{no_returns}
 use Rattle.xml_nodes.proofs.CharacterLemmas.{name_is}
-use Rattle.xml_nodes.proofs.Fed.{tokens_more, tokens_then}
 use Rattle.xml_nodes.proofs.Bytes.{cut_lawful}
 use Rattle.xml_nodes.proofs.Place.{CanEnd, broken_off_at, refused_from, refused_never_whole, ended_lines}
-use Rattle.xml_tokenizer.specs.LineEnds.{line_ends, ends_in_return}
+use Rattle.xml_tokenizer.specs.LineEnds.{line_ends, ends_in_return, line_end_of}
 use Rattle.plain_tree.specs.XmlNames.{are_name_chars}
 use Rattle.plain_tree.specs.Lawful.{IsName}
-use Rattle.xml_tokens.specs.Tokens.{Token, Character, Reference, Section, Start, Empty, End, Comment, Instruction, Declaration, Doctype, AreTokens, IsToken}
+use Rattle.xml_tokens.specs.Tokens.{Token, Character, Reference, Section, Start, Empty, End, Comment, Instruction, Declaration, Doctype, AreTokens}
 use Rattle.xml_nodes.specs.LawfulTokens.{IsLawfulToken, AreLawfulTokens}
 use Rattle.xml_nodes.specs.Content.{IsContent}
 use Rattle.xml_nodes.specs.Machine.{State, Event, Opened, Closed, Stepped, step, steps, then_on, calls_before, opened_at, left, brackets_after, text_leaf, events_all, fragment_start}
@@ -29,6 +28,7 @@ use Rattle.xml_nodes.specs.Spelling.{SpellsList}
 use Rattle.xml_nodes.specs.Place.{ending_tag, IsEnding, IsOpenList, IsListPlace}
 use Rattle.xml_nodes.specs.Stands.{StandsFrom, Refuses}
 use Rattle.xml_nodes.proofs.TokenFacts.{empty_a_spelled, end_spelled}
+use Rattle.xml_tokenizer.proofs.Cuts.{tokens_more, tokens_then}
 
 -- the element without a name is open, and these inside it, the innermost first
 abbrev within : List (List ℕ) → List ℕ → ℕ → State
@@ -234,12 +234,12 @@ can_end bytes (e, nodes, is, s) = record { end = e; ending = is; tokens = s.toke
 pub list_broken_off : (front raw held : List ℕ) (scan : Scan) (now : State) (log : List Event) → StandsFrom fragment_start front raw held scan now log
     → IsListPlace (front ++ raw) (length front)
 list_broken_off front raw held scan now log s =
-    broken_off_at fragment_start IsSomeFragment leads_of (IsOpenList) can_end front (whole_open front s.tokens now log s.cut s.stepped) raw held scan now log s
+    broken_off_at fragment_start IsSomeFragment leads_of (IsOpenList) can_end front (whole_open front s.tokens now log s.read.cut s.stepped) raw held scan now log s
 
 pub list_refused_at : (front raw held : List ℕ) (scan : Scan) (now : State) (log : List Event) (c : ℕ) (next : List ℕ) → StandsFrom fragment_start front raw held scan now log
     → (ends_in_return false (front ++ raw) && (c == 10)) ≡ false → Refuses held scan now (line_end_of c) → IsListPlace ((front ++ raw) ++ c ∷ next) (length front)
 list_refused_at front raw held scan now log c next s kept r =
-    refused_from fragment_start IsSomeFragment leads_of (IsOpenList) can_end front (whole_open front s.tokens now log s.cut s.stepped) raw held scan now log c
+    refused_from fragment_start IsSomeFragment leads_of (IsOpenList) can_end front (whole_open front s.tokens now log s.read.cut s.stepped) raw held scan now log c
     next s kept r
 
 pub refused_spells_no_list : (front raw held next : List ℕ) (scan : Scan) (now : State) (log : List Event) (c : ℕ) → StandsFrom fragment_start front raw held scan now log

@@ -6,13 +6,13 @@ use Rattle.std.specs.Char.{encode_utf8}
 use Rattle.std.proofs.lemmas.Bool.Decides.{nat_tests}
 use Rattle.std.proofs.lemmas.Slice.Eq.{bytes_eq-Decides}
 use Rattle.plain_tree.specs.declared.kind.Kind.TheVariants as kind
-use Rattle.plain_tree.specs.Tree.{Tree, node, Trees, none, more}
+use Rattle.plain_tree.specs.Tree.{Tree, node, none, more}
 use Rattle.xml_nodes.specs.declared.stage.Stage.TheVariants as at
 use Rattle.xml_nodes.proofs.Runs.{inside}
 use Rattle.xml_nodes.proofs.Stack.{IsFree, count_after, no_section_end, Fills, Ends, Rest}
 use Rattle.plain_tree.specs.XmlNames.{is_space}
 use Rattle.xml_tokens.specs.Tokens.{Token, Character, Reference, Section, Start, Empty, End, Comment, Instruction, Declaration, Doctype}
-use Rattle.xml_nodes.specs.Content.{is_text_piece, given, RunGives, attributes_among, AreAllAttributes, IsMarkup, AreBehindRun, IsContent, Space, Typed, Kid, kids_of, MayBegin}
+use Rattle.xml_nodes.specs.Content.{is_text_piece, given, RunGives, IsMarkup, Space, Typed, Kid, kids_of, MayBegin}
 use Rattle.xml_nodes.specs.Machine.{State, Event, Opened, Leaf, Closed, Stepped, steps, then_on, calls_before, opened_at, events, events_all, attribute_leaves, text_leaf, brackets_after}
 use Rattle.xml_nodes.specs.Laws.{LeadsToDocument}
 use Rattle.xml_nodes.proofs.Made.{with_text_kid, element, text_events, content_made, empty_made, empty_events, start_made, start_events}

@@ -20,7 +20,7 @@ pub mod Joining
 pub mod Endings
 pub mod Live
 pub mod Fed
-pub mod Feeding
+pub mod Holding
 pub mod Bytes
 pub mod Place
 pub mod FragmentPlace
@@ -31,3 +31,4 @@ pub mod Written
 pub mod Escaping
 pub mod Leaves
 pub mod RunLemmas
+pub mod LongestNames

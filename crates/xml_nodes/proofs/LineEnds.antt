@@ -1,29 +1,10 @@
--- Line ends, piece by piece.
+-- Bytes without #xD, and line ends that are done.
 use Rattle.std.proofs.Common.{◌≡◌, ℕ, Bool, true, false, List, [], ◌∷◌, ◌++◌, refl, ap, arith, length, sym, ◌≤◌, ◌∙◌}
-use Rattle.std.specs.Prelude.{◌==◌, ◌&&◌, if◌then◌else◌, not}
-use Rattle.std.proofs.lemmas.Bool.Decides.{nat_tests}
-use Rattle.xml_tokenizer.specs.LineEnds.{line_ends_after, ends_in_return, begins_dropped}
+use Rattle.std.specs.Prelude.{◌==◌, ◌&&◌, not}
+use Rattle.xml_tokenizer.specs.LineEnds.{line_ends_after, begins_dropped}
 use Rattle.plain_tree.specs.Lawful.{has_no_return}
 use Rattle.xml_nodes.proofs.CharacterLemmas.{and_true}
 use Rattle.std.proofs.lemmas.List.Folds.{list_all-append}
-
-module _ (x y : List ℕ) (ih : (b : Bool) → line_ends_after b (x ++ y) ≡ line_ends_after b x ++ line_ends_after (ends_in_return b x) y) (c : ℕ) where
-  kept : (d : Bool) → (if d then line_ends_after false (x ++ y) else c ∷ line_ends_after false (x ++ y))
-      ≡ (if d then line_ends_after false x else c ∷ line_ends_after false x) ++ line_ends_after (ends_in_return false x) y
-  kept true = ih false
-  kept false = ap (λ z. c ∷ z) (ih false)
-
-  more_lines : (b t : Bool) → (c == 13) ≡ t → line_ends_after b (c ∷ (x ++ y)) ≡ line_ends_after b (c ∷ x) ++ line_ends_after (ends_in_return (c == 13) x) y
-  more_lines b true e = rw e (ap (λ z. 10 ∷ z) (ih true))
-  more_lines b false e = rw e (kept (b && (c == 10)))
-
-pub line_ends-append : (x y : List ℕ) (b : Bool) → line_ends_after b (x ++ y) ≡ line_ends_after b x ++ line_ends_after (ends_in_return b x) y
-line_ends-append [] y b = refl
-line_ends-append (c ∷ x) y b = more_lines x y (λ d. line_ends-append x y d) c b (c == 13) refl
-
-pub return-append : (b : Bool) (x y : List ℕ) → ends_in_return b (x ++ y) ≡ ends_in_return (ends_in_return b x) y
-return-append b [] y = refl
-return-append b (c ∷ x) y = return-append (c == 13) x y
 
 -- bytes without #xD stay as they are
 pub no_return_stays : (x : List ℕ) → has_no_return x ≡ true → line_ends_after false x ≡ x
@@ -49,21 +30,6 @@ gives_byte b c x e = by_test (c == 13) refl where
   by_test : (t : Bool) → (c == 13) ≡ t → Gives b c x
   by_test true t = record { first = 10; others = line_ends_after true x; are = rw t refl }
   by_test false t = record { first = c; others = line_ends_after false x; are = rw (t, e) refl }
-
--- the line end of one raw byte that isn't dropped
-abbrev pub line_end_of : ℕ → ℕ
-line_end_of c = if c == 13 then 10 else c
-
-pub kept_byte : (b : Bool) (c : ℕ) (x : List ℕ) → (b && (c == 10)) ≡ false → line_ends_after b (c ∷ x) ≡ line_end_of c ∷ line_ends_after (c == 13) x
-kept_byte b c x e = by_test (c == 13) refl where
-  by_test : (t : Bool) → (c == 13) ≡ t → line_ends_after b (c ∷ x) ≡ line_end_of c ∷ line_ends_after (c == 13) x
-  by_test true t = rw t refl
-  by_test false t = rw (t, e) refl
-
-pub dropped_byte : (c : ℕ) → (c == 10) ≡ true → line_ends_after true (c ∷ []) ≡ []
-dropped_byte c e = rw (not_13, e) refl where
-  not_13 : (c == 13) ≡ false
-  not_13 = grind (arith, nat_tests)
 
 -- no #xD is left
 pub no_returns : (b : Bool) (x : List ℕ) → has_no_return (line_ends_after b x) ≡ true

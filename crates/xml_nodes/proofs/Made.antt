@@ -1,20 +1,10 @@
 -- Trees as their tokens make them: an element from its tags, a text from its run.
-use Rattle.std.proofs.Common.{◌≡◌, ℕ, Bool, true, false, List, [], ◌∷◌, ◌++◌, refl, ap, sym, ◌∙◌, subst, inl, inr, append_assoc, append-nil, arith}
-use Rattle.std.specs.Prelude.{Some, None, ◌==◌, ◌&&◌, nat_le, bytes_eq, if◌then◌else◌}
-use Rattle.std.specs.List.{flat_map}
-use Rattle.std.specs.Char.{encode_utf8}
-use Rattle.std.proofs.lemmas.Bool.Decides.{nat_tests}
-use Rattle.std.proofs.lemmas.Slice.Eq.{bytes_eq-Decides}
+use Rattle.std.proofs.Common.{◌≡◌, ℕ, Bool, true, List, [], ◌∷◌, ◌++◌, refl, ap, sym, ◌∙◌, subst, inl, inr, append_assoc}
 use Rattle.plain_tree.specs.declared.kind.Kind.TheVariants as kind
 use Rattle.plain_tree.specs.Tree.{Tree, node, Trees, none, more}
-use Rattle.xml_nodes.specs.declared.stage.Stage.TheVariants as at
-use Rattle.xml_nodes.proofs.Runs.{inside}
-use Rattle.xml_nodes.proofs.Stack.{IsFree, count_after, no_section_end, Fills, Ends, Rest}
-use Rattle.plain_tree.specs.XmlNames.{is_space}
-use Rattle.xml_tokens.specs.Tokens.{Token, Character, Reference, Section, Start, Empty, End, Comment, Instruction, Declaration, Doctype}
-use Rattle.xml_nodes.specs.Content.{is_text_piece, given, RunGives, attributes_among, AreAllAttributes, IsMarkup, AreBehindRun, IsContent, Space, Typed, Kid, kids_of, MayBegin}
-use Rattle.xml_nodes.specs.Machine.{State, Event, Opened, Leaf, Closed, Stepped, steps, then_on, calls_before, opened_at, events, events_all, attribute_leaves, text_leaf, brackets_after}
-use Rattle.xml_nodes.specs.Laws.{LeadsToDocument}
+use Rattle.xml_tokens.specs.Tokens.{Token, Start, Empty, End}
+use Rattle.xml_nodes.specs.Content.{RunGives, attributes_among, AreAllAttributes, IsMarkup, AreBehindRun, IsContent}
+use Rattle.xml_nodes.specs.Machine.{Event, Opened, Leaf, Closed, events, events_all, attribute_leaves, text_leaf}
 
 -- the kids behind a text, where there is any
 abbrev pub with_text_kid : List ℕ → Trees → Trees

@@ -14,14 +14,14 @@ use Rattle.xml_tokenizer.specs.declared.scan.Step.TheVariants.{On, Whole, Dead}
 use Rattle.xml_nodes.proofs.Steps.{steps-append}
 use Rattle.xml_nodes.proofs.Documents.{document_leads}
 use Rattle.xml_nodes.proofs.Grammar.{leads-document}
-use Rattle.xml_nodes.proofs.LineEnds.{line_ends-append, tag_stays, gives_byte, line_end_of, kept_byte}
-use Rattle.xml_nodes.proofs.Fed.{tokens_more, tokens_then, goes_on, cut_prefix, refused, held_goes_on}
+use Rattle.xml_nodes.proofs.LineEnds.{tag_stays, gives_byte}
+use Rattle.xml_nodes.proofs.Fed.{goes_on, cut_further, refused, held_goes_on}
 use Rattle.xml_nodes.proofs.Endings.{is_safe, never_whole, over_ending}
 use Rattle.xml_nodes.proofs.NameBytes.{names_are_safe}
 use Rattle.xml_nodes.proofs.Live.{IsNamed, start_lives, steps_live, live_leads_out}
 use Rattle.plain_tree.specs.Lawful.{IsName, has_no_return}
-use Rattle.xml_tokenizer.specs.LineEnds.{line_ends, line_ends_after, ends_in_return, begins_dropped}
-use Rattle.xml_nodes.specs.Stands.{StandsAt, StandsFrom, Refuses}
+use Rattle.xml_tokenizer.specs.LineEnds.{line_ends, line_ends_after, ends_in_return, begins_dropped, line_end_of}
+use Rattle.xml_nodes.specs.Stands.{StandsFrom, Refuses}
 use Rattle.xml_tokens.specs.Tokens.{Token, Character, Reference, Section, Start, Empty, End, Comment, Instruction, Declaration, Doctype, AreTokens, IsToken}
 use Rattle.xml_nodes.specs.Content.{AreDocument}
 use Rattle.xml_nodes.specs.Machine.{State, Event, steps, then_on, calls_before, start, end, events}
@@ -29,6 +29,8 @@ use Rattle.xml_tokenizer.specs.Scanning.{scanned, scan_step}
 use Rattle.xml_nodes.specs.Spelling.{Spells}
 use Rattle.xml_nodes.specs.Place.{ending_tag, IsEnding, IsOpen, IsPlace, IsGreatest}
 use Rattle.xml_nodes.proofs.CharacterLemmas.{and_true}
+use Rattle.xml_tokenizer.proofs.LineEndLaws.{line_ends-append, kept_byte}
+use Rattle.xml_tokenizer.proofs.Cuts.{tokens_more, tokens_then}
 
 -- a scan that has begun isn't idle
 abbrev pub is_idle : Step → Bool
@@ -170,7 +172,7 @@ module _ (from : State) (IsWhole : List Token → Type 0) (leads : (ts : List To
       ended_lines (front ++ raw) e may.ending
       ∙ ap (λ z. z ++ e) (line_ends-append front raw false ∙ ap (λ z. line_ends front ++ z) rest)
       ∙ append_assoc (line_ends front) (k ∷ held) e in
-      let p = cut_prefix ts may.tokens (line_ends front) [] ((k ∷ held) ++ e) cut
+      let p = cut_further ts may.tokens (line_ends front) [] ((k ∷ held) ++ e) cut
       (subst (λ z. AreTokens may.tokens z []) lines may.cut) in
       let over = (held_goes_on p.0 k held e scan h p.2).1 in
       never_whole (On scan) e over.over over.after (over_ending names_are_safe scan e (begun k held scan h) may.ending) over.rest over.ends
@@ -180,13 +182,13 @@ module _ (from : State) (IsWhole : List Token → Type 0) (leads : (ts : List To
       → (ends_in_return false (front ++ raw) && (c == 10)) ≡ false → Refuses held scan now (line_end_of c)
       → (ts : List Token) → AreTokens ts (line_ends ((front ++ raw) ++ c ∷ next)) [] → IsWhole ts → ⊥
   refused_never_whole front raw held next scan now log c s kept r ts cut whole =
-      let fed : line_ends (front ++ raw) ≡ line_ends front ++ held = line_ends-append front raw false ∙ ap (λ z. line_ends front ++ z) (sym s.rest) in
+      let fed : line_ends (front ++ raw) ≡ line_ends front ++ held = line_ends-append front raw false ∙ ap (λ z. line_ends front ++ z) (sym s.read.rest) in
       let lines : line_ends ((front ++ raw) ++ c ∷ next) ≡ (line_ends front ++ held) ++ line_end_of c ∷ line_ends_after (c == 13) next =
       line_ends-append (front ++ raw) (c ∷ next) false ∙ ap (λ z. z ++ line_ends_after (ends_in_return false (front ++ raw)) (c ∷ next)) fed
       ∙ ap (λ z. (line_ends front ++ held) ++ z) (kept_byte (ends_in_return false (front ++ raw)) c next kept) in
       let l = leads ts whole in
       refused from s.tokens ts (line_ends front ++ held) held (line_ends_after (c == 13) next) scan now l.0 log l.1 (line_end_of c)
-      (tokens_more s.tokens (line_ends front) [] held s.cut) s.waits s.stepped r
+      (tokens_more s.tokens (line_ends front) [] held s.read.cut) s.read.waits s.stepped r
       (subst (λ z. AreTokens ts z []) lines cut) l.2
 
   -- no front of the bytes held can be ended
@@ -194,12 +196,12 @@ module _ (from : State) (IsWhole : List Token → Type 0) (leads : (ts : List To
       → raw ≡ (c ∷ x) ++ y → CanEnd (front ++ c ∷ x) → ⊥
   front_closed front raw held scan now log c x y s e may =
       let cr = ends_in_return false front in
-      let kept = subst (λ z. begins_dropped cr z ≡ false) e s.kept in
+      let kept = subst (λ z. begins_dropped cr z ≡ false) e s.read.kept in
       let g = gives_byte cr c x kept in
       let whole : (g.first ∷ g.others) ++ line_ends_after (ends_in_return cr (c ∷ x)) y ≡ held =
-      ap (λ z. z ++ line_ends_after (ends_in_return cr (c ∷ x)) y) (sym g.are) ∙ sym (line_ends-append (c ∷ x) y cr) ∙ ap (λ z. line_ends_after cr z) (sym e) ∙ sym s.rest in
-      let on = goes_on (g.first ∷ g.others) (line_ends_after (ends_in_return cr (c ∷ x)) y) (On at.Idle) scan (ap (λ z. scanned (On at.Idle) z) whole ∙ s.waits) in
-      begun_closed front (c ∷ x) s.tokens g.first g.others on.0 s.cut g.are on.1 may
+      ap (λ z. z ++ line_ends_after (ends_in_return cr (c ∷ x)) y) (sym g.are) ∙ sym (line_ends-append (c ∷ x) y cr) ∙ ap (λ z. line_ends_after cr z) (sym e) ∙ sym s.read.rest in
+      let on = goes_on (g.first ∷ g.others) (line_ends_after (ends_in_return cr (c ∷ x)) y) (On at.Idle) scan (ap (λ z. scanned (On at.Idle) z) whole ∙ s.read.waits) in
+      begun_closed front (c ∷ x) s.tokens g.first g.others on.0 s.read.cut g.are on.1 may
 
   module _ (P : List ℕ → Type 0) (ends : (bytes : List ℕ) → P bytes → CanEnd bytes) (front : List ℕ) (can : P front) where
     -- the bytes break off: at is where the token begins that they hold, or their end
@@ -265,18 +267,18 @@ leads_of ts d = (end, events d.0 [], document_leads ts d.0 d.1)
 can_end : (bytes : List ℕ) → IsOpen bytes → CanEnd start (λ ts. (t : Tree) × AreDocument ts t) leads_of bytes
 can_end bytes (e, t, is, s) = record { end = e; ending = is; tokens = s.tokens; cut = s.cut; whole = (t, s.document) }
 
-pub broken_off : (front raw held : List ℕ) (scan : Scan) (now : State) (log : List Event) → StandsAt front raw held scan now log
+pub broken_off : (front raw held : List ℕ) (scan : Scan) (now : State) (log : List Event) → StandsFrom start front raw held scan now log
     → IsPlace (front ++ raw) (length front)
 broken_off front raw held scan now log s =
-    broken_off_at start (λ ts. (t : Tree) × AreDocument ts t) leads_of IsOpen can_end front (whole_open front s.tokens now log s.cut s.stepped) raw held scan now log s
+    broken_off_at start (λ ts. (t : Tree) × AreDocument ts t) leads_of IsOpen can_end front (whole_open front s.tokens now log s.read.cut s.stepped) raw held scan now log s
 
-pub refused_at : (front raw held : List ℕ) (scan : Scan) (now : State) (log : List Event) (c : ℕ) (next : List ℕ) → StandsAt front raw held scan now log
+pub refused_at : (front raw held : List ℕ) (scan : Scan) (now : State) (log : List Event) (c : ℕ) (next : List ℕ) → StandsFrom start front raw held scan now log
     → (ends_in_return false (front ++ raw) && (c == 10)) ≡ false → Refuses held scan now (line_end_of c) → IsPlace ((front ++ raw) ++ c ∷ next) (length front)
 refused_at front raw held scan now log c next s kept r =
-    refused_from start (λ ts. (t : Tree) × AreDocument ts t) leads_of IsOpen can_end front (whole_open front s.tokens now log s.cut s.stepped) raw held scan now log c
+    refused_from start (λ ts. (t : Tree) × AreDocument ts t) leads_of IsOpen can_end front (whole_open front s.tokens now log s.read.cut s.stepped) raw held scan now log c
     next s kept r
 
-pub refused_spells_nothing : (front raw held next : List ℕ) (scan : Scan) (now : State) (log : List Event) (c : ℕ) → StandsAt front raw held scan now log
+pub refused_spells_nothing : (front raw held next : List ℕ) (scan : Scan) (now : State) (log : List Event) (c : ℕ) → StandsFrom start front raw held scan now log
     → (ends_in_return false (front ++ raw) && (c == 10)) ≡ false → Refuses held scan now (line_end_of c) → (t : Tree) → Spells ((front ++ raw) ++ c ∷ next) t → ⊥
 refused_spells_nothing front raw held next scan now log c s kept r t p =
     refused_never_whole start (λ ts. (t : Tree) × AreDocument ts t) leads_of front raw held next scan now log c s kept r p.tokens p.cut (t, p.document)

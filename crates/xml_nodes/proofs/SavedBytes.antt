@@ -1,6 +1,6 @@
 -- The saved bytes of a lawful document spell it, with neighbouring texts joined.
 use Rattle.std.proofs.Common.{◌≡◌, ◌≢◌, ℕ, ◌≤◌, ◌<◌, Bool, true, false, List, [], ◌∷◌, ◌++◌, refl, ap, sym, ◌∙◌, subst, append_assoc, append-nil, arith}
-use Rattle.std.specs.Prelude.{◌==◌, ◌||◌, ◌&&◌, not, nat_le, map, if◌then◌else◌, codes}
+use Rattle.std.specs.Prelude.{◌==◌, ◌||◌, ◌&&◌, not, map, if◌then◌else◌, codes}
 use Rattle.std.specs.Char.{encode_utf8}
 use Rattle.std.specs.List.{list_all, flat_map, AllByRecursion}
 use Rattle.std.specs.Str.{chars}
@@ -19,7 +19,7 @@ use Rattle.xml_nodes.proofs.Place.{safe_no_return}
 use Rattle.xml_nodes.proofs.LineEnds.{no_return_stays}
 use Rattle.xml_nodes.proofs.Saving.{saved-is_document}
 use Rattle.plain_tree.specs.XmlNames.{is_char}
-use Rattle.plain_tree.specs.Lawful.{AreChars, IsName, IsTarget, has_no_return, IsCommentValue, IsInstructionValue, IsNew, AreElementKids, AreDocumentKids, IsLawfulTree, AreLawfulTrees, IsDocument}
+use Rattle.plain_tree.specs.Lawful.{AreChars, IsName, has_no_return, IsNew, AreElementKids, AreDocumentKids, IsLawfulTree, AreLawfulTrees, IsDocument}
 use Rattle.xml_tokens.specs.Tokens.{Token, Character, Reference, Start, Empty, End, Comment, Instruction, AreTokens, IsToken}
 use Rattle.xml_nodes.specs.LawfulTokens.{AreLawfulAttributes}
 use Rattle.xml_nodes.specs.Content.{attributes_among}

@@ -5,8 +5,6 @@ use Rattle.std.specs.Str.{bytes_eq}
 use Rattle.std.specs.Char.{encode_utf8}
 use Rattle.std.specs.List.{AllByRecursion}
 use Rattle.std.proofs.lemmas.Slice.Eq.{bytes_eq-Decides}
-use Rattle.xml_tokenizer.specs.declared.scan.Scan.TheVariants.{Idle}
-use Rattle.xml_tokenizer.specs.declared.scan.Step.TheVariants.{On, Whole}
 use Rattle.std.proofs.lemmas.Str.{encode_ascii, is_utf8-from_IsUtf8, IsUtf8-encode}
 use Rattle.xml_nodes.proofs.CharacterLemmas.{and_true, char_scalar, chars-encode}
 use Rattle.xml_nodes.proofs.ReferenceLemmas.{referred_is}
@@ -18,7 +16,6 @@ use Rattle.xml_tokens.specs.Tokens.{Token, Character, Reference, Section, Start,
 use Rattle.xml_nodes.specs.LawfulTokens.{HaveDistinctNames, AreLawfulAttributes, IsLawfulToken, least}
 use Rattle.xml_tokens.specs.Markup.{IsStart, is_apart}
 use Rattle.xml_tokens.specs.Attributes.{AreAttributes, has_name, are_distinct}
-use Rattle.xml_tokenizer.specs.Scanning.{scanned}
 use Rattle.xml_nodes.specs.Place.{ending_tag}
 
 attributes_each : (attrs : List (List ℕ × List ℕ)) (x : List ℕ) → AreAttributes attrs x → AllByRecursion (λ a. IsName a.0 × AreChars a.1) attrs

@@ -7,10 +7,10 @@ use Rattle.xml_tokenizer.specs.declared.scan.Scan.{Scan}
 use Rattle.xml_tokenizer.specs.declared.scan.Scan.TheVariants as at
 use Rattle.xml_tokenizer.specs.declared.scan.Step.TheVariants.{On, Whole, Dead}
 use Rattle.xml_nodes.proofs.CharacterLemmas.{and_true}
-use Rattle.xml_nodes.proofs.LineEnds.{line_ends-append, gives_byte, line_end_of, kept_byte}
-use Rattle.xml_nodes.proofs.Fed.{tokens_more, scan_more, goes_on, cut_prefix, held_goes_on}
+use Rattle.xml_nodes.proofs.LineEnds.{gives_byte}
+use Rattle.xml_nodes.proofs.Fed.{scan_more, goes_on, cut_further, held_goes_on}
 use Rattle.xml_nodes.proofs.Place.{greatest_at, front_is}
-use Rattle.xml_tokenizer.specs.LineEnds.{line_ends, line_ends_after, ends_in_return, begins_dropped}
+use Rattle.xml_tokenizer.specs.LineEnds.{line_ends, line_ends_after, ends_in_return, begins_dropped, line_end_of}
 use Rattle.xml_tokens.specs.Tokens.{Token, AreTokens, IsToken}
 use Rattle.xml_nodes.specs.Content.{is_value_piece, given}
 use Rattle.xml_tokenizer.specs.Scanning.{scanned, scan_step}
@@ -18,6 +18,8 @@ use Rattle.xml_nodes.specs.Spelling.{SpellsValue}
 use Rattle.xml_nodes.specs.Place.{IsValuePlace}
 use Rattle.xml_tokenizer.proofs.ScanLaws.{one_cut, no_token}
 use Rattle.xml_nodes.proofs.Layer.{scans}
+use Rattle.xml_tokenizer.proofs.LineEndLaws.{line_ends-append, kept_byte}
+use Rattle.xml_tokenizer.proofs.Cuts.{tokens_more}
 
 -- The bytes at the front are characters and references; the raw bytes behind them begin one more and are held.
 pub record StandsValue (front raw held : List ℕ) (scan : Scan) : Type 0 where
@@ -48,7 +50,7 @@ module _ (front raw held : List ℕ) (scan : Scan) (s : StandsValue front raw he
       ap (λ z. z ++ line_ends_after (ends_in_return cr (c ∷ x)) y) (sym g.are) ∙ sym (line_ends-append (c ∷ x) y cr) ∙ ap (λ z. line_ends_after cr z) (sym e) ∙ sym s.rest in
       let on = goes_on (g.first ∷ g.others) (line_ends_after (ends_in_return cr (c ∷ x)) y) (On at.Idle) scan (ap (λ z. scanned (On at.Idle) z) whole ∙ s.waits) in
       let lines : line_ends (front ++ c ∷ x) ≡ line_ends front ++ (g.first ∷ g.others) = line_ends-append front (c ∷ x) false ∙ ap (λ z. line_ends front ++ z) g.are in
-      let v = cut_prefix s.tokens p.tokens (line_ends front) [] (g.first ∷ g.others) s.cut (subst (λ z. AreTokens p.tokens z []) lines p.cut) in
+      let v = cut_further s.tokens p.tokens (line_ends front) [] (g.first ∷ g.others) s.cut (subst (λ z. AreTokens p.tokens z []) lines p.cut) in
       let over = (held_goes_on v.0 g.first g.others [] on.0 on.1 (subst (λ z. AreTokens v.0 z []) (sym (append-nil (g.first ∷ g.others))) v.2)).1 in
       nothing over.over over.after on.0 over.rest over.ends where
         nothing : (o a : List ℕ) (u : Scan) → [] ≡ o ++ a → scanned (On u) o ≡ Whole → ⊥
@@ -75,7 +77,7 @@ module _ (front raw held : List ℕ) (scan : Scan) (s : StandsValue front raw he
         let lines : line_ends ((front ++ raw) ++ c ∷ next) ≡ (line_ends front ++ held) ++ line_end_of c ∷ line_ends_after (c == 13) next =
         line_ends-append (front ++ raw) (c ∷ next) false ∙ ap (λ z. z ++ line_ends_after (ends_in_return false (front ++ raw)) (c ∷ next)) fed
         ∙ ap (λ z. (line_ends front ++ held) ++ z) (kept_byte (ends_in_return false (front ++ raw)) c next kept) in
-        let v = cut_prefix s.tokens p.tokens (line_ends front ++ held) held (line_end_of c ∷ line_ends_after (c == 13) next)
+        let v = cut_further s.tokens p.tokens (line_ends front ++ held) held (line_end_of c ∷ line_ends_after (c == 13) next)
         (tokens_more s.tokens (line_ends front) [] held s.cut) (subst (λ z. AreTokens p.tokens z []) lines p.cut) in
         by_tokens v.0 v.1 v.2 where
           nothing : (x y : List ℕ) → x ++ line_end_of c ∷ y ≡ [] → ⊥

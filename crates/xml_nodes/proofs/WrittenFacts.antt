@@ -1,6 +1,6 @@
 -- The tokens that are written are spelled.
 use Rattle.std.proofs.Common.{◌≡◌, ◌≢◌, ℕ, ◌≤◌, ◌<◌, Bool, true, false, List, [], ◌∷◌, ◌++◌, refl, ap, sym, ◌∙◌, subst, append-nil, arith}
-use Rattle.std.specs.Prelude.{Some, ◌==◌, ◌&&◌, nat_le, nat_lt, map, if◌then◌else◌, codes}
+use Rattle.std.specs.Prelude.{Some, ◌==◌, ◌&&◌, nat_lt, map, if◌then◌else◌, codes}
 use Rattle.std.specs.Str.{bytes_eq, chars}
 use Rattle.std.specs.Char.{encode_utf8}
 use Rattle.std.specs.List.{list_all, flat_map, AllByRecursion}

@@ -12,4 +12,5 @@ pub mod Pen
 pub mod Escapes
 pub mod Sending
 pub mod WriterOf
+pub mod NameLengths
 pub mod Laws

@@ -3,7 +3,6 @@ use Rattle.std.specs.Prelude.{◌≡◌, ℕ, ◌≤◌, ◌<◌, List, [], ◌�
 use Rattle.std.specs.List.{flat_map, AllByRecursion}
 use Rattle.plain_tree.specs.Tree.{Tree, Trees}
 use Rattle.plain_tree.specs.Lawful.{IsName}
-use Rattle.xml_tokens.specs.Tokens.{Token}
 use Rattle.xml_nodes.specs.Spelling.{Spells, SpellsList, SpellsValue}
 
 -- </, the name, one space and >

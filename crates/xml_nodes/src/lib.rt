@@ -10,6 +10,7 @@ mod builder;
 mod lawful_nodes;
 mod laws;
 mod machine;
+mod names;
 mod output;
 mod stage;
 mod writer;
@@ -22,5 +23,7 @@ pub use laws::{
     spells_one_list, spells_one_value,
 };
 pub use machine::{Machine, Refusal};
+pub use names::name_length;
 pub use stage::Stage;
 pub use writer::Writer;
+pub use xml_tokens::is_name;

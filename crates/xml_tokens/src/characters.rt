@@ -35,7 +35,7 @@ pub(crate) fn is_char(c: char) -> bool
 }
 
 #[tactic(auto, unfolding(plain_tree::specs::XmlNames::is_name_start))]
-fn is_name_start(c: char) -> bool
+pub fn is_name_start(c: char) -> bool
     ensures { result ≡ is_name_start c }
 {
     let n = c as u32;
@@ -58,7 +58,7 @@ fn is_name_start(c: char) -> bool
 }
 
 #[tactic(auto, unfolding(plain_tree::specs::XmlNames::is_name_char))]
-fn is_name_char(c: char) -> bool
+pub fn is_name_char(c: char) -> bool
     ensures { result ≡ is_name_char c }
 {
     let n = c as u32;

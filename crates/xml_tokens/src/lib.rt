@@ -18,7 +18,7 @@ mod tokens;
 mod values;
 
 pub use attributes::Attribute;
-pub use characters::{are_chars, is_name, is_xml};
+pub use characters::{are_chars, is_name, is_name_char, is_name_start, is_xml};
 pub use cutting::skip_to;
 pub use laws::{one_token, read_is_token, token_is_read};
 pub use tokens::{Found, read_char, read_token};

@@ -34,6 +34,7 @@ pub(crate) fn is_char(c: char) -> bool
         || within(0x10000, 0x10FFFF, n)
 }
 
+/// Whether a Name may begin with this character: NameStartChar (production 4).
 #[tactic(auto, unfolding(plain_tree::specs::XmlNames::is_name_start))]
 pub fn is_name_start(c: char) -> bool
     ensures { result ≡ is_name_start c }
@@ -57,6 +58,7 @@ pub fn is_name_start(c: char) -> bool
         || within(0x10000, 0xEFFFF, n)
 }
 
+/// Whether a Name may go on with this character: NameChar (production 4a).
 #[tactic(auto, unfolding(plain_tree::specs::XmlNames::is_name_char))]
 pub fn is_name_char(c: char) -> bool
     ensures { result ≡ is_name_char c }

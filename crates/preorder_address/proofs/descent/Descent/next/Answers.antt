@@ -1,0 +1,52 @@
+use Rattle.std.proofs.Common.{arith, ap, sym, subst, ◌∙◌, ◌∷◌, Option}
+use Rattle.slt_grammar.proofs.TourLemmas.{length-node_tour}
+use Rattle.preorder_address.specs.Descents.{IsWithin, steps_at, levels_at}
+use Rattle.preorder_address.specs.declared.descent.Wanted.{Wanted}
+use Rattle.preorder_address.proofs.Descending.{small-next, inside-next, steps-next, levels-next}
+use Rattle.preorder_address.proofs.descent.Descent.next.Goals as goal
+
+pub next_wanted-self-requires : goal.next_wanted-self-requires
+next_wanted-self-requires g c =
+    let a = c.args in
+    let K = c.limit-limit.ensures.keyed in
+    let p = c.find_part-found.result in
+    let e = c.find_part-found.ensures in
+    let r = c.in_ok-wanted.wanted.rule in
+    let h = subst (λ (o : Option Wanted). IsWithin a.self.now.by a.grammar.now.rules o) c.in_ok-wanted.was c.requires.inside in
+    small-next a.grammar.now.rules K.grammar a.counts.now c.requires.counts a.self.now.by r h.0 p.label p.part p.offset e.weight e.calls
+
+pub returns-clause-levels : goal.returns-clause-levels
+returns-clause-levels g c =
+    let a = c.args in
+    let K = c.limit-limit.ensures.keyed in
+    let p = c.find_part-found.result in
+    let e = c.find_part-found.ensures in
+    let r = c.in_ok-wanted.wanted.rule in
+    let h = subst (λ (o : Option Wanted). IsWithin a.self.now.by a.grammar.now.rules o) c.in_ok-wanted.was c.requires.inside in
+    ap (levels_at a.self.now.by a.grammar.now.rules) c.in_ok-wanted.was
+    ∙ levels-next a.grammar.now.rules K.grammar a.counts.now c.requires.counts a.self.now.by r h.0 c.in_ok-wanted.wanted.number p.key e.part.0 p.label p.part p.offset e.calls e.part.1
+    ∙ ap (λ (o : Option Wanted). record { rule = r; key = p.key } ∷ levels_at a.self.now.by a.grammar.now.rules o) (sym c.next_wanted-self.ensures)
+
+pub returns-clause-inside : goal.returns-clause-inside
+returns-clause-inside g c =
+    let a = c.args in
+    let K = c.limit-limit.ensures.keyed in
+    let p = c.find_part-found.result in
+    let e = c.find_part-found.ensures in
+    let r = c.in_ok-wanted.wanted.rule in
+    let h = subst (λ (o : Option Wanted). IsWithin a.self.now.by a.grammar.now.rules o) c.in_ok-wanted.was c.requires.inside in
+    subst (λ (o : Option Wanted). IsWithin a.self.now.by a.grammar.now.rules o) (sym c.next_wanted-self.ensures) (inside-next a.grammar.now.rules K.grammar a.counts.now c.requires.counts a.self.now.by r h.0 p.label p.part p.offset e.weight e.calls)
+
+pub returns-clause-steps : goal.returns-clause-steps
+returns-clause-steps g c =
+    let a = c.args in
+    let K = c.limit-limit.ensures.keyed in
+    let p = c.find_part-found.result in
+    let e = c.find_part-found.ensures in
+    let r = c.in_ok-wanted.wanted.rule in
+    let h = subst (λ (o : Option Wanted). IsWithin a.self.now.by a.grammar.now.rules o) c.in_ok-wanted.was c.requires.inside in
+    let t = length-node_tour a.grammar.now K r h.0 in
+    let s = steps-next a.grammar.now.rules K.grammar a.counts.now c.requires.counts a.self.now.by r h.0 p.label p.part p.offset e.calls in
+    let u = ap (steps_at a.grammar.now.rules) c.next_wanted-self.ensures in
+    let v = ap (steps_at a.grammar.now.rules) c.in_ok-wanted.was in
+    omega (arith, t, s, u, v, e.steps)

@@ -1,0 +1,4 @@
+pub mod Numberings
+pub mod Routes
+pub mod Descents
+pub mod Chains

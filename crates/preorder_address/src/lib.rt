@@ -1,0 +1,14 @@
+//! From the number of a node to the chain of rules and keys that leads to it, without unfolding anything.
+//!
+//! `locate` begins a `Descent`, which gives one `Level` after another: a rule and a node of its body. Each node but the last is a
+//! call of the next rule, and the last one is the node with the number. A level costs a walk along one body, with the counts of the
+//! rules that it calls. `laws` says that the levels lead there.
+#![tactic(auto)]
+
+mod descent;
+mod laws;
+mod numbering;
+
+pub use descent::{Descent, locate, locate_place};
+pub use laws::descents_arrive;
+pub use numbering::Numbering;

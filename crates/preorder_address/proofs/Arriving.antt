@@ -4,6 +4,7 @@ use Rattle.std.specs.Prelude.{slice_get}
 use Rattle.std.proofs.lemmas.Bool.{cases_lt}
 use Rattle.std.proofs.lemmas.List.Sums.{sum_by-cons, sum_by-append}
 use Rattle.rule_arena.specs.Terms.{Node, kids_of}
+use Rattle.rule_arena.specs.declared.key.Key.{Key}
 use Rattle.rule_arena.specs.declared.label.Label.{Label}
 use Rattle.rule_arena.specs.declared.label.Label.TheVariants.{Bottom, Symbol, Call, Param}
 use Rattle.slt_grammar.specs.Bodies.{CallsBelow}
@@ -13,9 +14,9 @@ use Rattle.slt_grammar.specs.Tours.{Stop, stop}
 use Rattle.slt_grammar.specs.declared.rules.Rule.{Rule}
 use Rattle.slt_grammar.proofs.Spreads.{IsPlain}
 use Rattle.slt_grammar.proofs.TourLemmas.{spread_nodes, preorder-nodes}
-use Rattle.segment_counts.specs.Weights.{segments_sum, count_before}
+use Rattle.segment_counts.specs.Weights.{count, segments_sum, count_before}
 use Rattle.segment_counts.proofs.Numbers.{segments_sum-param, segment-now, segment-later, segments_sum-later, segment-within}
-use Rattle.preorder_address.specs.Chains.{IsAt, HasLabel, LeadsTo, Arrives, DescentsArrive}
+use Rattle.preorder_address.specs.Chains.{IsAt, HasLabel, LeadsTo, BeginsAt, EndsAt, Arrives, DescentsArrive}
 use Rattle.preorder_address.specs.Routes.{Found, sought, stop_weight, onward, routed, route}
 use Rattle.preorder_address.specs.Numberings.{weigh_by}
 use Rattle.preorder_address.specs.declared.numbering.Numbering.{Numbering}
@@ -118,6 +119,14 @@ module _ (w : Label → ℕ) (light : (l : Label) → w l ≤ 1) (none : w Param
   chain-more r key q (l ∷ []) f h c = (refl, subst (λ (k : ℕ). HasLabel K.rules (record { rule = r; key = key }) (Call k)) (sym c.0) h, subst (λ (k : ℕ). LeadsTo K.rules k (l ∷ []) f) (sym c.0) c)
   chain-more r key q (l ∷ k ∷ ls) f h c = (refl, subst (λ (j : ℕ). HasLabel K.rules (record { rule = r; key = key }) (Call j)) (sym c.0) h, subst (λ (j : ℕ). LeadsTo K.rules j (l ∷ k ∷ ls) f) (sym c.0) c)
 
+  ends-more : (r n : ℕ) (key : Key) (q part first offset : ℕ) (ls : List Level) (f : Label) → BeginsAt w K.rules r key part first → n ≡ first + offset → offset < count w (rules_of K.rules) q part
+      → LeadsTo K.rules q ls f → EndsAt w K.rules q (count_before w (rules_of K.rules) q part + offset) ls → EndsAt w K.rules r n (record { rule = r; key = key } ∷ ls)
+  ends-more r n key q part first offset [] f b d h c e = absurd c
+  ends-more r n key q part first offset (l ∷ []) f b d h c e =
+      subst (λ (j : ℕ). (part first offset : ℕ) × BeginsAt w K.rules r key part first × (n ≡ first + offset) × (offset < count w (rules_of K.rules) j part) × EndsAt w K.rules j (count_before w (rules_of K.rules) j part + offset) (l ∷ [])) (sym c.0) (part, first, offset, b, d, h, e)
+  ends-more r n key q part first offset (l ∷ k ∷ ls) f b d h c e =
+      subst (λ (j : ℕ). (part first offset : ℕ) × BeginsAt w K.rules r key part first × (n ≡ first + offset) × (offset < count w (rules_of K.rules) j part) × EndsAt w K.rules j (count_before w (rules_of K.rules) j part + offset) (l ∷ k ∷ ls)) (sym c.0) (part, first, offset, b, d, h, e)
+
   at-own : (most r n : ℕ) → r < length K.rules → (passed rest : List (Stop Node)) (x : Node) (o : ℕ) (l : Label) → x.label ≡ l → node_tour K.rules r ≡ passed ++ stop x 0 ∷ rest → n ≡ sum_by (stop_weight w K.rules) passed + o → o < w l
       → (p : ℕ) → slice_get (nodes_at K.rules r) p ≡ Some x → part_of (rules_of K.rules) x.label 0 ≡ l ∷ [] → Arrives w K.rules r n (record { rule = r; key = x.key } ∷ [])
   at-own most r n h passed rest x o l e t d b p y own =
@@ -128,6 +137,7 @@ module _ (w : Label → ℕ) (light : (l : Label) → w l ≤ 1) (none : w Param
       record {
         label = l;
         chain = (refl, record { place = p; node = x; there = y; key = refl; label = e });
+        ends = record { passed = passed; rest = rest; node = x; split = t; key_is = refl; number = omega (arith, d, z) };
         counted = omega arith;
         there = subst (λ (j : ℕ). IsAt w (preorder (rules_of K.rules) r) j l) (sym d) i;
       }
@@ -153,6 +163,7 @@ module _ (w : Label → ℕ) (light : (l : Label) → w l ≤ 1) (none : w Param
       record {
         label = v.label;
         chain = chain-more r x.key q (route w K.rules most q k) v.label (record { place = p; node = x; there = y; key = refl; label = e }) v.chain;
+        ends = ends-more r n x.key q i (sum_by (stop_weight w K.rules) passed) o (route w K.rules most q k) v.label (record { passed = passed; rest = rest; node = x; split = t; key_is = refl; number = refl }) d b v.chain v.ends;
         counted = v.counted;
         there = subst (λ (j : ℕ). IsAt w (preorder H r) j v.label) (sym d) z;
       }

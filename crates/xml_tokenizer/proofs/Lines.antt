@@ -5,7 +5,7 @@ use Rattle.std.specs.List.{list_all}
 use Rattle.xml_tokens.specs.Cutting.{front, back, is_other}
 use Rattle.xml_tokens.specs.Tokens.{Token}
 use Rattle.xml_tokenizer.specs.LineEnds.{ends_in_return, is_dropped, begins_dropped, Become}
-use Rattle.xml_tokenizer.specs.Standing.{HasRead, Holds, Stands, GoesOn, BreaksAt, Advances, Breaks, Reads}
+use Rattle.xml_tokenizer.specs.Standing.{HasRead, Holds, Stands, GoesOn, BreaksAt, Advances, Breaks, ReadsPiece}
 use Rattle.xml_tokenizer.specs.declared.tokenizer.Tokenizer.{Tokenizer}
 use Rattle.xml_tokens.proofs.Lists.{front-back, list_all-front, take-front, same_number}
 use Rattle.xml_tokenizer.proofs.LineEndLaws.{return-append, become_same, ends_in_other}
@@ -64,7 +64,7 @@ segment_of (c ∷ cs) left b e n other first =
 
 module _ {State : Type 0} (step : State → Token → Option State) where
   -- nothing was read
-  pub reads_none : (t : Tokenizer) (now : State) (piece : List ℕ) → Reads step t t now now piece piece
+  pub reads_none : (t : Tokenizer) (now : State) (piece : List ℕ) → ReadsPiece step t t now now piece piece
   reads_none t now piece = record {
     front = [];
     whole = refl;
@@ -76,9 +76,9 @@ module _ {State : Type 0} (step : State → Token → Option State) where
     };
   }
 
-  module _ (old mid : Tokenizer) (now between : State) (piece rest : List ℕ) (a : Reads step old mid now between piece rest) where
+  module _ (old mid : Tokenizer) (now between : State) (piece rest : List ℕ) (a : ReadsPiece step old mid now between piece rest) where
     -- and then more
-    pub reads_on : (new : Tokenizer) (next : State) (after : List ℕ) → Reads step mid new between next rest after → Reads step old new now next piece after
+    pub reads_on : (new : Tokenizer) (next : State) (after : List ℕ) → ReadsPiece step mid new between next rest after → ReadsPiece step old new now next piece after
     reads_on new next after b = record {
       front = a.front ++ b.front;
       whole = a.whole ∙ ap (λ z. a.front ++ z) b.whole ∙ sym (append_assoc a.front b.front after);
@@ -103,10 +103,10 @@ module _ {State : Type 0} (step : State → Token → Option State) where
         (breaks_then step now between tokens first.more ((fed ++ a.front) ++ rest) at first.took (h (tokens ++ first.more) (fed ++ a.front) first.holds))
 
     -- all was read
-    pub reads_all : rest ≡ [] → Reads step old mid now between piece []
-    reads_all e = subst (Reads step old mid now between piece) e a
+    pub reads_all : rest ≡ [] → ReadsPiece step old mid now between piece []
+    reads_all e = subst (ReadsPiece step old mid now between piece) e a
 
-  pub goes_all : (old new : Tokenizer) (now next : State) (piece : List ℕ) → Reads step old new now next piece [] → (tokens : List Token) (fed : List ℕ) → Stands old tokens fed
+  pub goes_all : (old new : Tokenizer) (now next : State) (piece : List ℕ) → ReadsPiece step old new now next piece [] → (tokens : List Token) (fed : List ℕ) → Stands old tokens fed
       → GoesOn step (λ ts. Stands new ts (fed ++ piece)) now next tokens
   goes_all old new now next piece a tokens fed s =
       let on = a.goes tokens fed s in
@@ -119,7 +119,7 @@ module _ {State : Type 0} (step : State → Token → Option State) where
       same_bytes tokens fed s = become_same (ends_in_return false fed) segment plain (subst (λ z. begins_dropped z segment ≡ false) s.returned first)
 
       pub reads_segment : (mid new : Tokenizer) (next : State) → 0 < length segment → Advances step old mid now next segment [] → ((ts : List Token) (z : List ℕ) → Holds mid ts z → Holds new ts z)
-          → new.count ≡ mid.count → new.after_return ≡ false → Reads step old new now next piece left
+          → new.count ≡ mid.count → new.after_return ≡ false → ReadsPiece step old new now next piece left
       reads_segment mid new next some a same c r = record {
         front = segment;
         whole = whole;
@@ -144,7 +144,7 @@ module _ {State : Type 0} (step : State → Token → Option State) where
     -- a #xD
     module _ (whole : piece ≡ 13 ∷ left) where
       pub reads_return : (mid new : Tokenizer) (next : State) → Advances step old mid now next (10 ∷ []) [] → ((ts : List Token) (z : List ℕ) → Holds mid ts z → Holds new ts z)
-          → new.count ≡ mid.count → new.after_return ≡ true → Reads step old new now next piece left
+          → new.count ≡ mid.count → new.after_return ≡ true → ReadsPiece step old new now next piece left
       reads_return mid new next a same c r = record {
         front = 13 ∷ [];
         whole = whole;
@@ -165,7 +165,7 @@ module _ {State : Type 0} (step : State → Token → Option State) where
 
     -- a #xA that belongs to the #xD before it
     pub reads_dropped : (new : Tokenizer) → piece ≡ 10 ∷ left → old.after_return ≡ true → new.held ≡ old.held → new.scan ≡ old.scan → new.after_return ≡ false
-        → new.count ≡ old.count + 1 → (old.held.items ≡ [] → new.start ≡ old.count + 1) → (0 < length old.held.items → new.start ≡ old.start) → Reads step old new now now piece left
+        → new.count ≡ old.count + 1 → (old.held.items ≡ [] → new.start ≡ old.count + 1) → (0 < length old.held.items → new.start ≡ old.start) → ReadsPiece step old new now now piece left
     reads_dropped new whole cr h t r c idle busy = record {
       front = 10 ∷ [];
       whole = whole;
@@ -192,7 +192,7 @@ module _ {State : Type 0} (step : State → Token → Option State) where
           moved tokens (fed ++ 10 ∷ []) old.start (busy some) (dropped_busy old.held.items old.scan old.count old.start tokens fed s.read (sym s.returned ∙ cr) some)
 
   -- where a piece was read, all of it was
-  pub goes_all_ok : (old new : Tokenizer) (now next : State) (piece : List ℕ) {A E : Type 0} (r : Result A E) → OnOk r (Reads step old new now next piece [])
+  pub goes_all_ok : (old new : Tokenizer) (now next : State) (piece : List ℕ) {A E : Type 0} (r : Result A E) → OnOk r (ReadsPiece step old new now next piece [])
       → OnOk r ((tokens : List Token) (fed : List ℕ) → Stands old tokens fed → GoesOn step (λ ts. Stands new ts (fed ++ piece)) now next tokens)
   goes_all_ok old new now next piece (Ok x) a = goes_all old new now next piece a
   goes_all_ok old new now next piece (Err e) a = tt

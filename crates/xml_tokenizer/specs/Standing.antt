@@ -81,7 +81,7 @@ module _ {State : Type 0} (step : State → Token → Option State) where
   Breaks old at now bytes = (tokens : List Token) (fed raw : List ℕ) → Become (ends_in_return false fed) raw bytes → Holds old tokens fed → BreaksAt now tokens (fed ++ raw) at
 
   -- from the one tokenizer and state to the other the front of the raw bytes was taken, and after is left
-  pub record Reads (old new : Tokenizer) (now next : State) (piece after : List ℕ) : Type 0 where
+  pub record ReadsPiece (old new : Tokenizer) (now next : State) (piece after : List ℕ) : Type 0 where
     pub front : List ℕ
     pub whole : piece ≡ front ++ after
     pub counts : new.count + length after ≡ old.count + length piece

@@ -5,7 +5,7 @@ ghost use Rattle.xml_tokens.specs.Cutting.{Begins};
 ghost use Rattle.xml_tokenizer.specs.LineEnds.{line_ends};
 ghost use Rattle.xml_tokenizer.specs.Runs.{IsRun};
 ghost use Rattle.xml_tokenizer.specs.Taking.{Takes};
-ghost use Rattle.xml_tokenizer.specs.Standing.{Stands, GoesOn, BreaksAt, NoneFollow, Advances, Breaks, Reads};
+ghost use Rattle.xml_tokenizer.specs.Standing.{Stands, GoesOn, BreaksAt, NoneFollow, Advances, Breaks, ReadsPiece};
 
 use crate::runs::skip_run;
 use crate::scan::{Ended, Scan, end_in};
@@ -115,7 +115,7 @@ impl Tokenizer {
         sink: &mut S,
     ) -> Result<(), TokenError>
         requires { self.old.count + length piece.now < 2 ^ 64 }
-        ensures ok { OnOk result (Reads S.step self.old self.new (S.state sink.old) (S.state sink.new) piece.now []) }
+        ensures ok { OnOk result (ReadsPiece S.step self.old self.new (S.state sink.old) (S.state sink.new) piece.now []) }
         ensures place { result ≡ Err TokenError.Bad → (tokens : List Token) (fed : List ℕ) → Stands self.old tokens fed →
             BreaksAt S.step (S.state sink.old) tokens (fed ++ piece.now) self.new.start }
     {
@@ -138,7 +138,7 @@ impl Tokenizer {
     ) -> Result<&'a [u8], TokenError>
         requires some { 0 < length piece.now }
         requires count { self.old.count + length piece.now < 2 ^ 64 }
-        ensures ok { IfOk result (λ after. Reads S.step self.old self.new (S.state sink.old) (S.state sink.new) piece.now after.now) }
+        ensures ok { IfOk result (λ after. ReadsPiece S.step self.old self.new (S.state sink.old) (S.state sink.new) piece.now after.now) }
         ensures shorter { IfOk result (λ after. length after.now < length piece.now) }
         ensures place { result ≡ Err TokenError.Bad → (tokens : List Token) (fed : List ℕ) → Stands self.old tokens fed →
             BreaksAt S.step (S.state sink.old) tokens (fed ++ piece.now) self.new.start }

@@ -5,7 +5,7 @@ use Rattle.rule_arena.specs.declared.label.Label.{Label}
 use Rattle.rule_arena.specs.declared.label.Label.TheVariants.{Symbol}
 use Rattle.plain_tree.specs.Tree.{Tree, node, Trees, none, more}
 use Rattle.plain_tree.specs.Numbers.{texts}
-use Rattle.plain_tree.specs.Documents.{IsDocument}
+use Rattle.plain_tree.specs.Lawful.{IsDocument}
 use Rattle.plain_tree.specs.NameTable.{AreDistinct}
 use Rattle.slt_grammar.specs.Bodies.{arity, IsTerm, params, CallsBelow}
 use Rattle.slt_grammar.specs.Algebras.{apply, meanings}

@@ -3,7 +3,7 @@ use Rattle.std.proofs.Common.{◌≡◌, List, [], ◌∷◌, sym, subst}
 use Rattle.rule_arena.specs.declared.label.Label.{Label}
 use Rattle.plain_tree.specs.Tree.{Tree, none, more}
 use Rattle.plain_tree.specs.Numbers.{texts}
-use Rattle.plain_tree.specs.Documents.{IsDocument}
+use Rattle.plain_tree.specs.Lawful.{IsDocument}
 use Rattle.plain_tree.specs.NameTable.{AreDistinct}
 use Rattle.slt_grammar.specs.Terms.{Term}
 use Rattle.slt_grammar.specs.Grammars.{IsGrammar, IsSwept}

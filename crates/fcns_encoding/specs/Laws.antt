@@ -4,19 +4,19 @@ use Rattle.rule_arena.specs.declared.label.Label.{Label}
 use Rattle.plain_tree.specs.declared.kind.Kind.{Kind}
 use Rattle.plain_tree.specs.Tree.{Tree, Trees, none, more}
 use Rattle.plain_tree.specs.Numbers.{texts}
-use Rattle.plain_tree.specs.Documents.{IsDocument}
+use Rattle.plain_tree.specs.Lawful.{IsDocument, IsLawfulName}
 use Rattle.plain_tree.specs.NameTable.{AreDistinct}
 use Rattle.slt_grammar.specs.Terms.{Term, holes_of}
 use Rattle.slt_grammar.specs.Grammars.{IsGrammar, IsSwept, value}
 use Rattle.slt_grammar.specs.Coding.{Codes}
-use Rattle.slt_grammar.specs.Standing.{IsLawfulPair, StandsFor}
+use Rattle.slt_grammar.specs.Standing.{StandsFor}
 use Rattle.slt_grammar.specs.declared.rules.Rule.{Rule}
 use Rattle.fcns_encoding.specs.Labels.{term_labels, one_rule}
 use Rattle.fcns_encoding.specs.Interning.{Pair, Interns, pairs_of_tree}
 
 -- each pair of a table is allowed
 abbrev pub AreLawful : List Pair → Type 0
-AreLawful names = (i : ℕ) (kind : Kind) (name : List ℕ) → slice_get names i ≡ Some (kind, name) → IsLawfulPair kind name
+AreLawful names = (i : ℕ) (kind : Kind) (name : List ℕ) → slice_get names i ≡ Some (kind, name) → IsLawfulName kind name
 
 -- the one rule of a term without holes is a swept grammar, and its value is the term
 abbrev pub OneRuleMeansItsTerm : Type 0

@@ -2,9 +2,7 @@ pub mod Tree
 pub mod NodeTree
 pub mod Falls
 pub mod Numbers
-pub mod BareNames
 pub mod XmlNames
-pub mod Documents
 pub mod Parts
 pub mod Lawful
 pub mod Joined

@@ -28,6 +28,14 @@ kind_of (node kind name value kids) = kind
 abbrev pub value_of : Tree → List ℕ
 value_of (node kind name value kids) = value
 
+-- the values of those nodes that have one
+abbrev pub values_of : List Tree → List (List ℕ)
+values_of ts = map value_of (filter (λ s. has_value (kind_of s)) ts)
+
 -- the values, in document order, of all nodes that have one
 abbrev pub texts : Tree → List (List ℕ)
-texts t = map value_of (filter (λ s. has_value (kind_of s)) (nodes t))
+texts t = values_of (nodes t)
+
+-- and those of a list of trees
+abbrev pub texts_all : Trees → List (List ℕ)
+texts_all ts = values_of (nodes_all ts)

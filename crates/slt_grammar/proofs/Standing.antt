@@ -7,7 +7,7 @@ use Rattle.plain_tree.specs.declared.kind.Kind.TheVariants.{Document, Element, A
 use Rattle.plain_tree.specs.Tree.{Tree, node, Trees, none, more}
 use Rattle.plain_tree.specs.Numbers.{nodes, nodes_all, has_value, kind_of, value_of, texts}
 use Rattle.plain_tree.specs.NameTable.{AreDistinct}
-use Rattle.plain_tree.specs.Documents.{IsDocument, IsElementTree, AreElementTrees}
+use Rattle.plain_tree.specs.Lawful.{IsDocument, IsLawfulTree, AreLawfulTrees, IsLawfulValue}
 use Rattle.slt_grammar.specs.Terms.{Term, Leaf, Node}
 use Rattle.slt_grammar.specs.Coding.{Codes}
 use Rattle.slt_grammar.specs.Standing.{StandsFor}
@@ -91,17 +91,25 @@ module _ (names : List (Kind × List ℕ)) where
       apart : (k : Kind) (n v : List ℕ) (ks ts : Trees) (x : List (List ℕ)) → texts_all (more (node k n v ks) ts) ++ x ≡ own k v ++ (texts_all ks ++ (texts_all ts ++ x))
       apart k n v ks ts x = ap (λ xs. xs ++ x) (texts_all-more k n v ks ts) ∙ append_assoc (own k v) (texts_all ks ++ texts_all ts) x ∙ ap (λ xs. own k v ++ xs) (append_assoc (texts_all ks) (texts_all ts) x)
 
-mutual
-  element-valued : (t : Tree) → IsElementTree t → IsValued t
-  element-valued (node k n v ks) e = (λ h. e.2, elements-valued ks e.3)
+no-value : (k : Kind) (v : List ℕ) → IsLawfulValue k v → has_value k ≡ false → v ≡ []
+no-value Document v l h = l
+no-value Element v l h = l
+no-value Attribute v l h = cc
+no-value Text v l h = cc
+no-value Comment v l h = cc
+no-value Instruction v l h = cc
 
-  elements-valued : (ts : Trees) → AreElementTrees ts → AreValued ts
-  elements-valued none e = tt
-  elements-valued (more t ts) e = (element-valued t e.0, elements-valued ts e.1)
+mutual
+  tree-valued : (t : Tree) → IsLawfulTree t → IsValued t
+  tree-valued (node k n v ks) l = (no-value k v l.0.1, trees-valued ks l.2)
+
+  trees-valued : (ts : Trees) → AreLawfulTrees ts → AreValued ts
+  trees-valued none l = tt
+  trees-valued (more t ts) l = (tree-valued t l.0, trees-valued ts l.1)
 
 -- in a document only nodes whose kind has a value have one
 pub document-valued : (t : Tree) → IsDocument t → IsValued t
-document-valued t d = let whole : IsValued (node Document [] [] (more d.root none)) = (λ h. refl, (element-valued d.root d.element, tt)) in subst IsValued (sym d.is) whole
+document-valued t d = tree-valued t d.lawful
 
 texts-one : (t : Tree) → texts_all (more t none) ≡ texts t
 texts-one t = ap (λ ns. map value_of (filter (λ s. has_value (kind_of s)) ns)) (append-nil (nodes t))

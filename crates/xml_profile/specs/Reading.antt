@@ -1,61 +1,67 @@
--- The token at the front of bytes, as a function.
-use Rattle.std.specs.Prelude.{ℕ, ◌==◌, Bool, List, [], ◌∷◌, Option, Some, None, if◌then◌else◌}
-use Rattle.std.specs.Borrow.{Bor}
-use Rattle.plain_tree.specs.BareNames.{is_name_char, is_name}
-use Rattle.xml_profile.specs.Tokens.{Token, Space, Start, Empty, End, is_space}
-use Rattle.xml_profile.specs.declared.tokens.FoundToken.{FoundToken}
-use Rattle.xml_profile.specs.declared.tokens.FoundToken.TheVariants as found
+-- What a reader has read, and where bytes go wrong.
+use Rattle.std.specs.Prelude.{◌≡◌, ℕ, List, ◌++◌, length, Option, Some, None, Result, Ok, Err}
+use Rattle.plain_tree.specs.Tree.{Tree, Trees}
+use Rattle.xml_tokens.specs.Tokens.{Token}
+use Rattle.xml_tokenizer.specs.Standing.{Stands as HasCut}
+use Rattle.xml_nodes.specs.Machine.{State, Event, steps, start}
+use Rattle.xml_nodes.specs.Place.{IsPlace, IsListPlace, IsValuePlace}
+use Rattle.xml_nodes.specs.Spelling.{Spells, SpellsList, SpellsValue}
+use Rattle.xml_nodes.specs.StateOf.{state_of}
+use Rattle.xml_profile.specs.declared.error.XmlError.{XmlError}
+use Rattle.xml_profile.specs.declared.error.XmlError.TheVariants.{Bad, Memory}
+use Rattle.xml_profile.specs.declared.reader.Reader.{Reader}
 
--- the list up to where the test first fails
-abbrev pub front : (ℕ → Bool) → List ℕ → List ℕ
-front p [] = []
-front p (c ∷ cs) = if p c then c ∷ front p cs else []
+-- the bytes spell no document, and this is the place where they go wrong
+pub record IsBad (bytes : List ℕ) (at : ℕ) : Type 0 where
+  pub none : (tree : Tree) → Spells bytes tree → ⊥
+  pub place : IsPlace bytes at
 
--- the list from there on
-abbrev pub back : (ℕ → Bool) → List ℕ → List ℕ
-back p [] = []
-back p (c ∷ cs) = if p c then back p cs else c ∷ cs
+-- so with fragments
+pub record IsBadList (bytes : List ℕ) (at : ℕ) : Type 0 where
+  pub none : (nodes : Trees) → SpellsList bytes nodes → ⊥
+  pub place : IsListPlace bytes at
 
--- > ends the token
-abbrev pub closed : Token → List ℕ → Option (Token × List ℕ)
-closed token [] = None
-closed token (c ∷ after) = if c == 62 then Some (token, after) else None
+-- and with values
+pub record IsBadValue (bytes : List ℕ) (at : ℕ) : Type 0 where
+  pub none : (value : List ℕ) → SpellsValue bytes value → ⊥
+  pub place : IsValuePlace bytes at
 
--- behind the name and the white space of a tag that is no end tag
-abbrev pub start_closed : List ℕ → List ℕ → Option (Token × List ℕ)
-start_closed name [] = None
-start_closed name (c ∷ after) =
-    if c == 62 then Some (Start name, after) else (if c == 47 then closed (Empty name) after else None)
+-- The reader, which began in the state from, was fed these bytes: up to a token that is not whole they are tokens, and these are the
+-- calls that the tokens make.
+pub record StandsFrom (from : State) (r : Reader) (calls : List Event) (fed : List ℕ) : Type 0 where
+  pub tokens : List Token
+  pub cut : HasCut r.tokenizer tokens fed
+  pub stepped : steps from tokens ≡ Some (state_of r.machine, calls)
 
--- behind <
-abbrev pub start_at : List ℕ → Option (Token × List ℕ)
-start_at bytes =
-    if is_name (front is_name_char bytes)
-    then start_closed (front is_name_char bytes) (back is_space (back is_name_char bytes))
-    else None
+-- the reader of a document was fed these bytes, and made these calls
+abbrev pub Stands : Reader → List Event → List ℕ → Type 0
+Stands = StandsFrom start
 
--- behind </
-abbrev pub end_at : List ℕ → Option (Token × List ℕ)
-end_at bytes =
-    if is_name (front is_name_char bytes)
-    then closed (End (front is_name_char bytes)) (back is_space (back is_name_char bytes))
-    else None
+abbrev pub IsFedSo : Option XmlError → Reader → List Event → List ℕ → Type 0
+IsFedSo None r calls fed = Stands r calls fed
+IsFedSo (Some (Bad at)) r calls fed = (next : List ℕ) → IsBad (fed ++ next) at
+IsFedSo (Some Memory) r calls fed = Unit {0}
 
--- a tag, behind its <
-abbrev pub tag_at : List ℕ → Option (Token × List ℕ)
-tag_at [] = None
-tag_at (c ∷ bytes) = if c == 47 then end_at bytes else start_at (c ∷ bytes)
+-- The reader of a document was fed these bytes, and made these calls of them; behind `Bad` they go wrong at its place, however they go
+-- on, and behind `Memory` nothing is known of them.
+abbrev pub IsFed : Reader → List Event → List ℕ → Type 0
+IsFed r calls fed = IsFedSo r.failed r calls fed
 
-unfoldable pub token_at : List ℕ → Option (Token × List ℕ)
-token_at [] = None
-token_at (c ∷ bytes) = if c == 60 then tag_at bytes else (if is_space c then Some (Space c, bytes) else None)
+-- behind these calls more were made, which a builder's log shows, unless the reader failed; in all they are those of these bytes
+pub record IsFedOn (r : Reader) (before after calls : List Event) (fed : List ℕ) : Type 0 where
+  pub more : List Event
+  pub logged : r.failed ≡ None → after ≡ before ++ more
+  pub fed : IsFed r (calls ++ more) fed
 
-abbrev pub token_of : FoundToken → Token
-token_of (found.Space c) = Space c
-token_of (found.Start name) = Start name.now
-token_of (found.Empty name) = Empty name.now
-token_of (found.End name) = End name.now
+-- how many bytes were fed
+abbrev pub count_of : Reader → ℕ
+count_of r = r.tokenizer.count
 
-abbrev pub seen : Option (FoundToken × Bor (List ℕ)) → Option (Token × List ℕ)
-seen None = None
-seen (Some (token, after)) = Some (token_of token, after.now)
+-- how many elements are open
+abbrev pub depth_of : Reader → ℕ
+depth_of r = length (state_of r.machine).names
+
+-- what a call answers, by how the reader failed
+abbrev pub answer_of : Option XmlError → Result (Unit {0}) XmlError
+answer_of None = Ok tt
+answer_of (Some e) = Err e

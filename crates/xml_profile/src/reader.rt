@@ -1,170 +1,86 @@
-// A document from its bytes, with the open elements on a stack of its own.
-ghost use Rattle.std.specs.Prelude.{◌≡◌, ◌≤◌, [], ◌↔◌, IfOk, IfErr, IsTrue, length};
-ghost use Rattle.plain_tree.specs.NodeTree.{tree_of};
-ghost use Rattle.plain_tree.specs.Tree.{Tree, node, more, none, node_count};
-ghost use Rattle.plain_tree.specs.Documents.{IsDocument};
-ghost use Rattle.plain_tree.specs.declared.kind.Kind.TheVariants.{Document};
-ghost use Rattle.xml_profile.specs.Spelling.{IsRoot, Spells, BeginsElement, BeginsRoot};
-ghost use Rattle.xml_profile.specs.Stack.{element, Closes, Completes, ReadsTokens};
+// A reader that is fed the bytes of a document in pieces.
+ghost use Rattle.std.specs.Prelude.{◌≡◌, ◌+◌, ◌<◌, ◌^◌, ◌++◌, [], List, ℕ, length, OnOk, IfOk, Err, Some, None};
+ghost use Rattle.plain_tree.specs.Tree.{Tree};
+ghost use Rattle.xml_nodes.specs.Machine.{Event, events};
+ghost use Rattle.xml_nodes.specs.Spelling.{Spells};
+ghost use Rattle.xml_nodes.specs.StateOf.{state_of};
+ghost use Rattle.xml_nodes.specs.Taking.{built, IsReady};
+ghost use Rattle.xml_profile.specs.Reading.{IsFed, IsFedOn, IsBad, count_of, depth_of, answer_of};
 
-use crate::tokens::{FoundToken, is_all_space, next_token, skip_space};
-use plain_tree::{Bytes, Kind, Node, Nodes};
-use std::alloc::{AllocError, AllocFailed, Global};
-use std::mem;
+use crate::error::XmlError;
+use std::alloc::{AllocError, Global};
+use xml_nodes::{Builder, Machine};
+use xml_tokenizer::Tokenizer;
 
-/// Why no document was read: the bytes spell none, or there was no memory.
-#[derive(Clone, Copy, Debug, PartialEq, Eq)]
-pub enum XmlError {
-    Bad = 1,
-    Memory = 2,
-}
-
-impl From<AllocError> for XmlError {
-    ghost use Rattle.std.specs.Prelude.{◌≡◌};
-    ghost use Rattle.xml_profile.specs.declared.reader.XmlError.TheVariants.{Memory};
-
-    ghost from_gives = { λ _ e. e ≡ Memory };
-
-    fn from(_: AllocError) -> XmlError {
-        XmlError::Memory
-    }
-}
-
-impl<T: Drop> From<AllocFailed<T>> for XmlError {
-    ghost use Rattle.std.specs.Prelude.{◌≡◌};
-    ghost use Rattle.xml_profile.specs.declared.reader.XmlError.TheVariants.{Memory};
-
-    ghost from_gives = { λ _ e. e ≡ Memory };
-
-    fn from(_: AllocFailed<T>) -> XmlError {
-        XmlError::Memory
-    }
-}
-
-/// The document that the bytes spell, as yet one of bare elements. `Bad` comes only where they spell none, `Memory` only for
-/// want of memory, which isn't asked for before the root's first tag: bytes in which no root begins are always `Bad`.
-pub fn read_document(alloc: Global, bytes: &[u8]) -> Result<Node, XmlError>
-    ensures spelled { IfOk result (λ n. Spells bytes.now (tree_of n)) }
-    ensures bad { result ≡ Err XmlError.Bad → (t : Tree) → Spells bytes.now t → ⊥ }
-    ensures memory { result ≡ Err XmlError.Memory → BeginsRoot bytes.now }
-    ensures lawful { IfOk result (λ n. IsDocument (tree_of n)) }
-    ensures small { IfOk result (λ n. node_count (tree_of n) ≤ length bytes.now) }
-{
-    match read_root(alloc, skip_space(bytes)) {
-        Ok(root) => Ok(document(alloc, root)?),
-        Err(e) => Err(e),
-    }
-}
-
-fn read_root(alloc: Global, bytes: &[u8]) -> Result<Node, XmlError>
-    ensures spelled { IfOk result (λ n. ReadsTokens IsRoot bytes.now (tree_of n)) }
-    ensures bad { result ≡ Err XmlError.Bad → (root : Tree) → ReadsTokens IsRoot bytes.now root → ⊥ }
-    ensures memory { result ≡ Err XmlError.Memory → BeginsElement bytes.now }
-{
-    match next_token(bytes) {
-        Some((FoundToken::Start(name), rest)) => read_open(alloc, name, rest),
-        Some((FoundToken::Empty(name), rest)) => finish(leaf(alloc, name)?, rest),
-        Some((FoundToken::End(_), _)) => Err(XmlError::Bad),
-        Some((FoundToken::Space(_), _)) => Err(XmlError::Bad),
-        None => Err(XmlError::Bad),
-    }
-}
-
-/// An element that is open, with its kids so far.
+/// Reads a document whose bytes come in pieces (XML 1.0, fifth edition, without internal subsets), and makes the calls of its tree
+/// at a `Builder`. No piece is kept, but for a token that it cuts off.
+///
+/// After an error each later call answers that error again.
 #[derive(Drop)]
-pub(crate) struct OpenElement {
-    name: Bytes,
-    kids: Nodes,
+pub struct Reader {
+    tokenizer: Tokenizer,
+    machine: Machine,
+    failed: Option<XmlError>,
 }
 
-// The root from behind its start tag.
-fn read_open(alloc: Global, name: &[u8], bytes: &[u8]) -> Result<Node, XmlError>
-    ensures spelled { IfOk result (λ n. ReadsTokens (Completes [] name.now []) bytes.now (tree_of n)) }
-    ensures bad { result ≡ Err XmlError.Bad → (root : Tree) → ReadsTokens (Completes [] name.now []) bytes.now root → ⊥ }
-{
-    let mut outer = Vec::new(alloc);
-    let mut open = opened(alloc, name)?;
-    let mut rest = bytes;
-    while let Some((token, after)) = next_token(rest) {
-        rest = after;
-        match token {
-            FoundToken::Space(_) => return Err(XmlError::Bad),
-            FoundToken::Start(name) => {
-                let inner = opened(alloc, name)?;
-                outer.push(mem::replace(&mut open, inner))?;
-            }
-            FoundToken::Empty(name) => open.kids.push(leaf(alloc, name)?)?,
-            FoundToken::End(name) => {
-                if !same_bytes(name, open.name.as_slice()) {
-                    return Err(XmlError::Bad);
-                }
-                let node = whole(alloc, open)?;
-                match outer.pop() {
-                    None => return finish(node, rest),
-                    Some(parent) => {
-                        open = parent;
-                        open.kids.push(node)?;
-                    }
-                }
-            }
+impl Reader {
+    /// A reader that was fed nothing.
+    pub fn new(alloc: Global) -> Result<Reader, AllocError>
+        ensures fed { IfOk result (λ r. IsFed r [] []) }
+        ensures unfailed { IfOk result (λ r. r.failed ≡ None) }
+        ensures count { IfOk result (λ r. count_of r ≡ 0) }
+        ensures depth { IfOk result (λ r. depth_of r ≡ 0) }
+    {
+        Ok(Reader {
+            tokenizer: Tokenizer::new(alloc),
+            machine: Machine::new(alloc),
+            failed: None,
+        })
+    }
+
+    /// Reads the next piece, which may end anywhere, also inside a character. The builder gets the calls of the bytes fed so far,
+    /// whatever the pieces in which they came; it met no refusal, and has as many elements open as the reader. All bytes
+    /// together are fewer than 2^64.
+    ///
+    /// `Bad` comes only where no document begins with the bytes fed, and tells the place.
+    pub fn feed<B: Builder>(
+        &mut self,
+        alloc: Global,
+        piece: &[u8],
+        builder: &mut B,
+    ) -> Result<(), XmlError>
+        requires ready { self.old.failed ≡ None → IsReady (state_of self.old.machine) (built B.Builder builder.old) }
+        requires count { self.old.failed ≡ None → count_of self.old + length piece.now < 2 ^ 64 }
+        ensures fed { (calls : List Event) (fed : List ℕ) → IsFed self.old calls fed →
+            IsFedOn self.new (B.log builder.old) (B.log builder.new) calls (fed ++ piece.now) }
+        ensures ready { OnOk result (IsReady (state_of self.new.machine) (built B.Builder builder.new)) }
+        ensures count { OnOk result (count_of self.new ≡ count_of self.old + length piece.now) }
+        ensures answer { result ≡ answer_of self.new.failed }
+        ensures again { (e : XmlError) → self.old.failed ≡ Some e → self.new.failed ≡ Some e }
+    {
+        if let Some(e) = self.failed {
+            return Err(e);
         }
+        Err(self.fail(XmlError::Memory))
     }
-    Err(XmlError::Bad)
-}
 
-// The root, if only white space follows it.
-fn finish(root: Node, bytes: &[u8]) -> Result<Node, XmlError>
-    ensures spelled { IfOk result (λ n. ReadsTokens (Closes [] (tree_of root)) bytes.now (tree_of n)) }
-    ensures bad { IfErr result (λ _. (t : Tree) → ReadsTokens (Closes [] (tree_of root)) bytes.now t → ⊥) }
-{
-    if is_all_space(bytes) {
-        Ok(root)
-    } else {
-        Err(XmlError::Bad)
+    fn fail(&mut self, error: XmlError) -> XmlError
+        ensures result { result ≡ error }
+        ensures failed { self.new.failed ≡ Some error }
+    {
+        self.failed = Some(error);
+        error
     }
-}
 
-fn opened(alloc: Global, name: &[u8]) -> Result<OpenElement, AllocError>
-    ensures { IfOk result (λ o. (o.name ≡ name.now) × (o.kids ≡ [])) }
-{
-    Ok(OpenElement {
-        name: Bytes::from_slice(alloc, name)?,
-        kids: Nodes::new(alloc),
-    })
-}
-
-fn whole(alloc: Global, innermost: OpenElement) -> Result<Node, AllocError>
-    ensures { IfOk result (λ n. tree_of n ≡ element innermost.name innermost.kids) }
-{
-    Ok(Node {
-        kind: Kind::Element,
-        name: innermost.name,
-        value: Bytes::from_slice(alloc, &[])?,
-        kids: innermost.kids,
-    })
-}
-
-fn leaf(alloc: Global, name: &[u8]) -> Result<Node, AllocError>
-    ensures { IfOk result (λ n. tree_of n ≡ element name.now []) }
-{
-    whole(alloc, opened(alloc, name)?)
-}
-
-fn document(alloc: Global, root: Node) -> Result<Node, AllocError>
-    ensures { IfOk result (λ n. tree_of n ≡ node Document [] [] (more (tree_of root) none)) }
-{
-    let mut kids = Nodes::new(alloc);
-    kids.push(root)?;
-    Ok(Node {
-        kind: Kind::Document,
-        name: Bytes::from_slice(alloc, &[])?,
-        value: Bytes::from_slice(alloc, &[])?,
-        kids,
-    })
-}
-
-fn same_bytes(a: &[u8], b: &[u8]) -> bool
-    ensures { IsTrue result ↔ (a.now ≡ b.now) }
-{
-    a == b
+    /// Ends the bytes. An Ok says that they spell a document, and that its calls were made.
+    ///
+    /// `Bad` comes exactly where they spell none, and tells the place.
+    pub fn finish(self) -> Result<(), XmlError>
+        ensures document { OnOk result ((calls : List Event) (fed : List ℕ) → IsFed self calls fed → (t : Tree) × Spells fed t × (calls ≡ events t [])) }
+        ensures bad { (at : ℕ) → result ≡ Err (XmlError.Bad at) → (calls : List Event) (fed : List ℕ) → IsFed self calls fed → IsBad fed at }
+        ensures again { (e : XmlError) → self.failed ≡ Some e → result ≡ Err e }
+        ensures memory { result ≡ Err XmlError.Memory → self.failed ≡ Some XmlError.Memory }
+    {
+        Err(XmlError::Memory)
+    }
 }

@@ -27,7 +27,7 @@ pub enum RunRefused {
 }
 
 /// What takes the tokens of a document, one after another. Its state goes from token to token; what it is after a refusal
-/// isn't said.
+/// isn't said, and it need not take a token any more.
 pub trait TokenSink {
     /// What it may know of the tokens that it took.
     ghost State: { Type 0 };
@@ -38,8 +38,13 @@ pub trait TokenSink {
     /// The state behind one token more; None where it may not stand there.
     ghost step: { State → Token → Option State };
 
+    /// The states in which it takes tokens.
+    ghost IsReady: { State → Type 0 };
+
     /// Takes a token.
     fn token(&mut self, found: Found<'_>) -> Result<(), Refused>
+        requires { IsReady (state self.old) }
+        ensures ready { OnOk result (IsReady (state self.new)) }
         ensures took { OnOk result (step (state self.old) (token_of found.entry) ≡ Some (state self.new)) }
         ensures refused { result ≡ Err Refused.Here → step (state self.old) (token_of found.entry) ≡ None };
 
@@ -47,6 +52,8 @@ pub trait TokenSink {
     fn run(&mut self, bytes: &[u8]) -> Result<(), RunRefused>
         requires some { 0 < length bytes.now }
         requires run { IsRun bytes.now }
+        requires ready { IsReady (state self.old) }
+        ensures ready { OnOk result (IsReady (state self.new)) }
         ensures took { OnOk result (taken step (state self.old) (characters (chars bytes.now)) ≡ Some (state self.new)) }
         ensures refused { (at : ℕ) → result ≡ Err (RunRefused.Here at) → RefusesRun step (state self.old) bytes.now at };
 }

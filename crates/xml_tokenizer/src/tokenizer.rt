@@ -88,7 +88,9 @@ impl Tokenizer {
         piece: &[u8],
         sink: &mut S,
     ) -> Result<(), TokenError>
-        requires { self.old.count + length piece.now < 2 ^ 64 }
+        requires ready { S.IsReady (S.state sink.old) }
+        requires count { self.old.count + length piece.now < 2 ^ 64 }
+        ensures ready { OnOk result (S.IsReady (S.state sink.new)) }
         ensures ok { OnOk result ((tokens : List Token) (fed : List ℕ) → Stands self.old tokens fed →
             GoesOn S.step (λ ts. Stands self.new ts (fed ++ piece.now)) (S.state sink.old) (S.state sink.new) tokens) }
         ensures count { OnOk result (self.new.count ≡ self.old.count + length piece.now) }
@@ -114,7 +116,9 @@ impl Tokenizer {
         piece: &[u8],
         sink: &mut S,
     ) -> Result<(), TokenError>
-        requires { self.old.count + length piece.now < 2 ^ 64 }
+        requires ready { S.IsReady (S.state sink.old) }
+        requires count { self.old.count + length piece.now < 2 ^ 64 }
+        ensures ready { OnOk result (S.IsReady (S.state sink.new)) }
         ensures ok { OnOk result (ReadsPiece S.step self.old self.new (S.state sink.old) (S.state sink.new) piece.now []) }
         ensures place { result ≡ Err TokenError.Bad → (tokens : List Token) (fed : List ℕ) → Stands self.old tokens fed →
             BreaksAt S.step (S.state sink.old) tokens (fed ++ piece.now) self.new.start }
@@ -137,7 +141,9 @@ impl Tokenizer {
         sink: &mut S,
     ) -> Result<&'a [u8], TokenError>
         requires some { 0 < length piece.now }
+        requires ready { S.IsReady (S.state sink.old) }
         requires count { self.old.count + length piece.now < 2 ^ 64 }
+        ensures ready { OnOk result (S.IsReady (S.state sink.new)) }
         ensures ok { IfOk result (λ after. ReadsPiece S.step self.old self.new (S.state sink.old) (S.state sink.new) piece.now after.now) }
         ensures shorter { IfOk result (λ after. length after.now < length piece.now) }
         ensures place { result ≡ Err TokenError.Bad → (tokens : List Token) (fed : List ℕ) → Stands self.old tokens fed →
@@ -189,7 +195,9 @@ impl Tokenizer {
         bytes: &[u8],
         sink: &mut S,
     ) -> Result<(), TokenError>
-        requires { self.old.count + length bytes.now < 2 ^ 64 }
+        requires ready { S.IsReady (S.state sink.old) }
+        requires count { self.old.count + length bytes.now < 2 ^ 64 }
+        ensures ready { OnOk result (S.IsReady (S.state sink.new)) }
         ensures ok { OnOk result (Advances S.step self.old self.new (S.state sink.old) (S.state sink.new) bytes.now []) }
         ensures place { result ≡ Err TokenError.Bad → Breaks S.step self.old self.new.start (S.state sink.old) bytes.now }
     {
@@ -211,7 +219,9 @@ impl Tokenizer {
         sink: &mut S,
     ) -> Result<&'a [u8], TokenError>
         requires some { 0 < length rest.now }
+        requires ready { S.IsReady (S.state sink.old) }
         requires count { self.old.count + length rest.now < 2 ^ 64 }
+        ensures ready { OnOk result (S.IsReady (S.state sink.new)) }
         ensures ok { IfOk result (λ after. Advances S.step self.old self.new (S.state sink.old) (S.state sink.new) rest.now after.now) }
         ensures shorter { IfOk result (λ after. length after.now < length rest.now) }
         ensures place { result ≡ Err TokenError.Bad → Breaks S.step self.old self.new.start (S.state sink.old) rest.now }
@@ -234,10 +244,12 @@ impl Tokenizer {
         left: &'a [u8],
         sink: &mut S,
     ) -> Result<&'a [u8], TokenError>
+        requires ready { S.IsReady (S.state sink.old) }
         requires run { Begins IsRun rest.now left.now }
         requires shorter { length left.now < length rest.now }
         requires none_held { self.old.held.items ≡ [] }
         requires count { self.old.count + length rest.now < 2 ^ 64 }
+        ensures ready { OnOk result (S.IsReady (S.state sink.new)) }
         ensures ok { IfOk result (λ after. Advances S.step self.old self.new (S.state sink.old) (S.state sink.new) rest.now after.now) }
         ensures left { IfOk result (λ after. after.now ≡ left.now) }
         ensures place { result ≡ Err TokenError.Bad → Breaks S.step self.old self.new.start (S.state sink.old) rest.now }
@@ -264,8 +276,10 @@ impl Tokenizer {
         sink: &mut S,
     ) -> Result<&'a [u8], TokenError>
         requires some { 0 < length rest.now }
+        requires ready { S.IsReady (S.state sink.old) }
         requires none_held { self.old.held.items ≡ [] }
         requires count { self.old.count + length rest.now < 2 ^ 64 }
+        ensures ready { OnOk result (S.IsReady (S.state sink.new)) }
         ensures ok { IfOk result (λ after. Advances S.step self.old self.new (S.state sink.old) (S.state sink.new) rest.now after.now) }
         ensures shorter { IfOk result (λ after. length after.now < length rest.now) }
         ensures place { result ≡ Err TokenError.Bad → Breaks S.step self.old self.new.start (S.state sink.old) rest.now }
@@ -297,7 +311,9 @@ impl Tokenizer {
         sink: &mut S,
     ) -> Result<&'a [u8], TokenError>
         requires some { 0 < length rest.now }
+        requires ready { S.IsReady (S.state sink.old) }
         requires count { self.old.count + length rest.now < 2 ^ 64 }
+        ensures ready { OnOk result (S.IsReady (S.state sink.new)) }
         ensures ok { IfOk result (λ after. Advances S.step self.old self.new (S.state sink.old) (S.state sink.new) rest.now after.now) }
         ensures shorter { IfOk result (λ after. length after.now < length rest.now) }
         ensures place { result ≡ Err TokenError.Bad → Breaks S.step self.old self.new.start (S.state sink.old) rest.now }
@@ -354,6 +370,8 @@ impl Tokenizer {
 
 // The token that the text is goes to the sink.
 fn give<S: TokenSink>(alloc: Global, text: &[u8], sink: &mut S) -> Result<(), TokenError>
+    requires { S.IsReady (S.state sink.old) }
+    ensures ready { OnOk result (S.IsReady (S.state sink.new)) }
     ensures ok { OnOk result (Takes S.step (S.state sink.old) (S.state sink.new) text.now) }
     ensures bad { result ≡ Err TokenError.Bad → (t : Token) → IsToken t text.now → S.step (S.state sink.old) t ≡ None }
 {

@@ -2,14 +2,16 @@ use Rattle.xml_tokenizer.proofs.Advancing.{advances_none, advances_on, advances_
 use Rattle.xml_tokenizer.proofs.tokenizer.Tokenizer.take.Goals as goal
 
 pub loop-rest-init : goal.loop-rest-init
-loop-rest-init g c = advances_none g.S.TokenSink.step c.args.self.now (g.S.TokenSink.state c.args.sink.now) c.args.bytes.now
+loop-rest-init g c = record { ready = c.requires.ready; advances = advances_none g.S.TokenSink.step c.args.self.now (g.S.TokenSink.state c.args.sink.now) c.args.bytes.now }
 
 pub loop-rest-preserved : goal.loop-rest-preserved
-loop-rest-preserved g c =
-    advances_on g.S.TokenSink.step c.args.self.now c.loop-rest.self (g.S.TokenSink.state c.args.sink.now) (g.S.TokenSink.state c.loop-rest.sink) c.args.bytes.now c.loop-rest.rest.now c.loop-rest.invariant
-    c.advance.new.self (g.S.TokenSink.state c.advance.new.sink) c.in-Ok.after.now c.in-Ok.ensures.ok
+loop-rest-preserved g c = record {
+  ready = c.in-Ok.ensures.ready;
+  advances = advances_on g.S.TokenSink.step c.args.self.now c.loop-rest.self (g.S.TokenSink.state c.args.sink.now) (g.S.TokenSink.state c.loop-rest.sink) c.args.bytes.now c.loop-rest.rest.now c.loop-rest.invariant.advances
+      c.advance.new.self (g.S.TokenSink.state c.advance.new.sink) c.in-Ok.after.now c.in-Ok.ensures.ok;
+}
 
 pub returns-in-Err-clause-place : goal.returns-in-Err-clause-place
 returns-in-Err-clause-place g c = λ bad.
-    advances_break g.S.TokenSink.step c.args.self.now c.loop-rest.self (g.S.TokenSink.state c.args.sink.now) (g.S.TokenSink.state c.loop-rest.sink) c.args.bytes.now c.loop-rest.rest.now c.loop-rest.invariant
+    advances_break g.S.TokenSink.step c.args.self.now c.loop-rest.self (g.S.TokenSink.state c.args.sink.now) (g.S.TokenSink.state c.loop-rest.sink) c.args.bytes.now c.loop-rest.rest.now c.loop-rest.invariant.advances
     _ (c.advance.ensures.place (err_same c.advance.result _ c.in-Err.e _ c.in-Err.is bad))

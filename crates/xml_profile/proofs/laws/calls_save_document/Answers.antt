@@ -1,5 +1,0 @@
-use Rattle.xml_profile.proofs.Written.{calls-save_document}
-use Rattle.xml_profile.proofs.laws.calls_save_document.Goals as goal
-
-pub returns : goal.returns
-returns c = calls-save_document

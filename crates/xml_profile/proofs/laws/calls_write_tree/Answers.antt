@@ -1,5 +1,0 @@
-use Rattle.xml_profile.proofs.Written.{calls-write_tree}
-use Rattle.xml_profile.proofs.laws.calls_write_tree.Goals as goal
-
-pub returns : goal.returns
-returns c = calls-write_tree

@@ -31,4 +31,6 @@ pub mod Written
 pub mod Escaping
 pub mod Leaves
 pub mod RunLemmas
+pub mod OuterRuns
+pub mod Contents
 pub mod LongestNames

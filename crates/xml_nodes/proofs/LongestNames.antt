@@ -37,7 +37,7 @@ pub record IsNameFront (bytes : List ℕ) (n : ℕ) : Type 0 where
 pub nothing_yet : (bytes : List ℕ) → IsNameFront bytes 0
 nothing_yet bytes = record { cs = []; rest = bytes; whole = refl; long = refl; begins = refl; are = refl }
 
-some_bytes : (c : ℕ) → scalar c ≡ true → 0 < length (encode c)
+pub some_bytes : (c : ℕ) → scalar c ≡ true → 0 < length (encode c)
 some_bytes c is = by_bytes (encode c) refl where
   by_bytes : (x : List ℕ) → encode c ≡ x → 0 < length (encode c)
   by_bytes [] e =

@@ -15,7 +15,8 @@ use Rattle.xml_nodes.proofs.ValueLemmas.{Encoded, encoded}
 use Rattle.xml_nodes.proofs.Steps.{no_calls}
 use Rattle.plain_tree.specs.XmlNames.{is_char}
 use Rattle.xml_tokens.specs.Tokens.{Character}
-use Rattle.xml_nodes.specs.Machine.{State, step, steps, then_on, brackets_after, run_step}
+use Rattle.xml_nodes.specs.Machine.{State, Stepped, step, steps, then_on, brackets_after, run_step}
+use Rattle.xml_nodes.specs.Taking.{RefusesRun}
 use Rattle.xml_tokenizer.specs.Runs.{is_run, IsRun}
 
 abbrev state : List (List ℕ) → List ℕ → ℕ → State
@@ -102,3 +103,39 @@ pub run_is : (s : State) (x : List ℕ) → s.stage ≡ at.Inside → IsRun x �
 run_is s x e r =
     subst (λ z. steps (record s { stage = z }) (map Character (chars x)) ≡ run_step (record s { stage = z }) x) (sym e)
     (run_of s.names s.text s.brackets (chars x) x (chars_lawful x r.text) r.plain (encodes-chars x (chars_text x r.text)))
+
+-- where a run inside the root is refused, its first character is
+pub run_refused : (s : State) (x : List ℕ) → s.stage ≡ at.Inside → IsRun x → run_step s x ≡ None → RefusesRun s x 0
+run_refused s x e r none = by_chars (chars x) refl where
+  own : State
+  own = state s.names s.text s.brackets
+
+  is_own : s ≡ own
+  is_own = ap (λ z. record s { stage = z }) e
+
+  by_chars : (cs : List ℕ) → chars x ≡ cs → RefusesRun s x 0
+  by_chars [] f =
+      let all : steps s (map Character (chars x)) ≡ None = run_is s x e r ∙ none in
+      let bad : ◌≡◌ {A = Stepped} (Some (s, [])) None = ap (λ z. steps s (map Character z)) (sym f) ∙ all in
+      cc
+  by_chars (c ∷ cs) f = record {
+    before = [];
+    character = c;
+    after = cs;
+    whole = f;
+    begins = refl;
+    last = s;
+    took = refl;
+    refused = subst (λ z. step z (Character c) ≡ None) (sym is_own) (by_test ((c == 62) && nat_le 2 s.brackets) refl);
+  } where
+    all : steps own (map Character (c ∷ cs)) ≡ None
+    all = subst (λ z. steps z (map Character (c ∷ cs)) ≡ None) is_own (ap (λ z. steps s (map Character z)) (sym f) ∙ run_is s x e r ∙ none)
+
+    plain : list_all is_other (c ∷ cs) ≡ true
+    plain = no_bracket (c ∷ cs) (subst (λ z. list_all is_run z ≡ true) (sym (ap encodes (sym f) ∙ encodes-chars x (chars_text x r.text))) r.plain)
+
+    by_test : (t : Bool) → ((c == 62) && nat_le 2 s.brackets) ≡ t → step own (Character c) ≡ None
+    by_test true g = rw g refl
+    by_test false g =
+        let some : ◌≡◌ {A = Stepped} None (Some (state s.names (s.text ++ encodes (c ∷ cs)) 0, [])) = sym all ∙ from_any s.names s.text s.brackets c cs plain ∙ rw g refl in
+        cc

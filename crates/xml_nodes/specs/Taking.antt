@@ -1,7 +1,10 @@
 -- What a token does to the machine and to the builder that gets its calls.
-use Rattle.std.specs.Prelude.{◌≡◌, ℕ, Bool, true, List, ◌++◌, length, Some}
-use Rattle.xml_tokens.specs.Tokens.{Token}
-use Rattle.xml_nodes.specs.Machine.{State, Event, Stepped, step}
+use Rattle.std.specs.Prelude.{◌≡◌, ℕ, Bool, true, List, [], ◌∷◌, ◌++◌, length, Some, None}
+use Rattle.std.specs.Str.{chars}
+use lib.Utf8.{encodes}
+use Rattle.xml_tokens.specs.Tokens.{Token, Character}
+use Rattle.xml_tokenizer.specs.Runs.{characters}
+use Rattle.xml_nodes.specs.Machine.{State, Event, Stepped, step, steps}
 use Rattle.xml_nodes.specs.declared.builder.Builder.{Ghosts}
 
 -- what is seen of a builder: the calls that it got, whether none was refused, and how many elements are open
@@ -27,3 +30,14 @@ pub record TakesBy (by : State → Token → Stepped) (old : State) (token : Tok
 
 abbrev pub Takes : State → Token → State → Built → Built → Type 0
 Takes = TakesBy step
+
+-- the characters of the run's first bytes, at of them, may stand there, and the character behind them may not
+pub record RefusesRun (now : State) (run : List ℕ) (at : ℕ) : Type 0 where
+  pub before : List ℕ
+  pub character : ℕ
+  pub after : List ℕ
+  pub whole : chars run ≡ before ++ character ∷ after
+  pub begins : at ≡ length (encodes before)
+  pub last : State
+  pub took : steps now (characters before) ≡ Some (last, [])
+  pub refused : step last (Character character) ≡ None

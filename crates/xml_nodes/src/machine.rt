@@ -1,11 +1,11 @@
 // The machine on tokens, which makes a builder's calls.
-ghost use Rattle.std.specs.Prelude.{◌≡◌, [], ◌++◌, OnOk, Some, None, Err, ◌↔◌, IsTrue, true, map};
+ghost use Rattle.std.specs.Prelude.{◌≡◌, [], ◌∷◌, ◌++◌, ℕ, List, OnOk, IfOk, Some, None, Err, ◌↔◌, IsTrue, true};
 ghost use Rattle.std.specs.Str.{chars};
-ghost use Rattle.xml_tokens.specs.Tokens.{Character};
+ghost use Rattle.xml_tokens.specs.Tokens.{End};
 ghost use Rattle.xml_tokens.specs.SeenTokens.{token_of, attributes_of};
-ghost use Rattle.xml_tokenizer.specs.Runs.{IsRun};
-ghost use Rattle.xml_nodes.specs.Machine.{step, steps, start, attribute_leaves};
-ghost use Rattle.xml_nodes.specs.Taking.{built, IsReady, Takes};
+ghost use Rattle.xml_tokenizer.specs.Runs.{IsRun, characters};
+ghost use Rattle.xml_nodes.specs.Machine.{Event, step, steps, start, end, fragment_start, attribute_leaves, text_leaf};
+ghost use Rattle.xml_nodes.specs.Taking.{built, IsReady, Takes, RefusesRun};
 ghost use Rattle.xml_nodes.specs.StateOf.{state_of};
 
 mod content;
@@ -15,6 +15,7 @@ use crate::builder::Builder;
 use crate::stage::Stage;
 use plain_tree::{Bytes, Kind};
 use std::alloc::{AllocError, AllocFailed, Global};
+use xml_tokenizer::RunRefused;
 use xml_tokens::{Attribute, Found};
 
 /// Why a token was not taken: it may not stand here, or there was no memory.
@@ -69,6 +70,22 @@ impl Machine {
         }
     }
 
+    /// Before the content of an element without a name, as which a fragment is read: no end tag of a document ends it.
+    pub fn of_content(alloc: Global) -> Result<Machine, AllocError>
+        ensures { IfOk result (λ m. state_of m ≡ fragment_start) }
+    {
+        let mut names = Vec::new(alloc);
+        names
+            .push(Bytes::from_slice(alloc, &[])?)
+            .map_err(|_| AllocError)?;
+        Ok(Machine {
+            stage: Stage::Inside,
+            names,
+            text: Vec::new(alloc),
+            brackets: 0,
+        })
+    }
+
     /// Whether a document may end here.
     pub fn may_end(&self) -> bool
         ensures { IsTrue result ↔ ((state_of self.now).stage ≡ Stage.Epilog) }
@@ -101,14 +118,48 @@ impl Machine {
         }
     }
 
-    /// Takes a run of characters inside the root, each of which is a token.
-    pub fn run(&mut self, text: &[u8]) -> Result<(), Refusal>
-        requires inside { (state_of self.old).stage ≡ Stage.Inside }
-        requires run { IsRun text.now }
-        ensures ok { OnOk result (steps (state_of self.old) (map Character (chars text.now)) ≡ Some (state_of self.new, [])) }
-        ensures bad { result ≡ Err Refusal.Misplaced → steps (state_of self.old) (map Character (chars text.now)) ≡ None }
+    /// Takes a run of characters, each of which is a token.
+    pub fn run(&mut self, text: &[u8]) -> Result<(), RunRefused>
+        requires { IsRun text.now }
+        ensures ok { OnOk result (steps (state_of self.old) (characters (chars text.now)) ≡ Some (state_of self.new, [])) }
+        ensures refused { (at : ℕ) → result ≡ Err (RunRefused.Here at) → RefusesRun (state_of self.old) text.now at }
     {
-        self.add_run(text)
+        if self.is_inside() {
+            self.inner_run(text)
+        } else {
+            self.outer_run(text)
+        }
+    }
+
+    /// Ends the content of the element without a name: the text so far is a leaf. `Misplaced` where another element is open.
+    pub fn end_content<B: Builder>(&mut self, builder: &mut B) -> Result<(), Refusal>
+        requires { IsReady (state_of self.old) (built B.Builder builder.old) }
+        ensures ends { OnOk result (step (state_of self.old) (End []) ≡ Some (end, text_leaf self.old.text.items ++ Event.Closed ∷ [])) }
+        ensures log { OnOk result (B.log builder.new ≡ B.log builder.old ++ text_leaf self.old.text.items) }
+        ensures bad { result ≡ Err Refusal.Misplaced → (calls : List Event) → step (state_of self.old) (End []) ≡ Some (end, calls) → ⊥ }
+    {
+        if !self.is_in_content() {
+            return Err(Refusal::Misplaced);
+        }
+        self.flush(builder)?;
+        Ok(())
+    }
+
+    // Whether the element without a name is the only one that is open.
+    fn is_in_content(&self) -> bool
+        ensures { IsTrue result ↔ ((self.now.stage ≡ Stage.Inside) × (self.now.names.items ≡ [] ∷ [])) }
+    {
+        self.stage == Stage::Inside && is_nameless(self.names.as_slice())
+    }
+}
+
+// Whether there is just one name, and it is empty.
+fn is_nameless(names: &[Bytes]) -> bool
+    ensures { IsTrue result ↔ (names.now ≡ [] ∷ []) }
+{
+    match names {
+        [only] => only.as_slice().is_empty(),
+        _ => false,
     }
 }
 

@@ -1,10 +1,12 @@
 // Tokens inside the root.
-ghost use Rattle.std.specs.Prelude.{◌≡◌, [], ◌++◌, OnOk, Some, None, Err, true, if◌then◌else◌};
+ghost use Rattle.std.specs.Prelude.{◌≡◌, [], ◌++◌, ℕ, OnOk, Some, None, Err, true, if◌then◌else◌};
 ghost use Rattle.std.specs.Char.{encode_utf8};
+ghost use Rattle.std.specs.Str.{chars};
 ghost use Rattle.xml_tokens.specs.Tokens.{Character, Start, Empty, End};
 ghost use Rattle.xml_tokens.specs.SeenTokens.{token_of, attributes_of};
-ghost use Rattle.xml_nodes.specs.Machine.{inner_step, brackets_after, run_step, with_text, opened_at, text_leaf};
-ghost use Rattle.xml_nodes.specs.Taking.{built, IsReady, TakesBy};
+ghost use Rattle.xml_tokenizer.specs.Runs.{IsRun, characters};
+ghost use Rattle.xml_nodes.specs.Machine.{steps, inner_step, brackets_after, run_step, with_text, opened_at, text_leaf};
+ghost use Rattle.xml_nodes.specs.Taking.{built, IsReady, TakesBy, RefusesRun};
 ghost use Rattle.xml_nodes.specs.StateOf.{state_of};
 
 use super::{Machine, Refusal, leaves};
@@ -12,6 +14,7 @@ use crate::builder::Builder;
 use crate::stage::Stage;
 use plain_tree::{Bytes, Kind};
 use std::alloc::{AllocError, Global};
+use xml_tokenizer::RunRefused;
 use xml_tokens::{Attribute, Found};
 
 impl Machine {
@@ -60,7 +63,7 @@ impl Machine {
     }
 
     // The text so far is a leaf, where there is any.
-    fn flush<B: Builder>(&mut self, builder: &mut B) -> Result<(), AllocError>
+    pub(super) fn flush<B: Builder>(&mut self, builder: &mut B) -> Result<(), AllocError>
         requires { IsReady (state_of self.old) (built B.Builder builder.old) }
         ensures log { OnOk result (B.log builder.new ≡ B.log builder.old ++ text_leaf self.old.text.items) }
         ensures ready { OnOk result (IsReady (state_of self.old) (built B.Builder builder.new)) }
@@ -150,7 +153,21 @@ impl Machine {
         Ok(())
     }
 
-    pub(super) fn add_run(&mut self, text: &[u8]) -> Result<(), Refusal>
+    // A run inside the root. Only its first character may be one that may not stand there, the > of ]]>.
+    pub(super) fn inner_run(&mut self, text: &[u8]) -> Result<(), RunRefused>
+        requires inside { self.old.stage ≡ Stage.Inside }
+        requires run { IsRun text.now }
+        ensures ok { OnOk result (steps (state_of self.old) (characters (chars text.now)) ≡ Some (state_of self.new, [])) }
+        ensures refused { (at : ℕ) → result ≡ Err (RunRefused.Here at) → RefusesRun (state_of self.old) text.now at }
+    {
+        match self.add_run(text) {
+            Ok(()) => Ok(()),
+            Err(Refusal::Misplaced) => Err(RunRefused::Here { at: 0 }),
+            Err(Refusal::Memory) => Err(RunRefused::Memory),
+        }
+    }
+
+    fn add_run(&mut self, text: &[u8]) -> Result<(), Refusal>
         ensures ok { OnOk result (run_step (state_of self.old) text.now ≡ Some (state_of self.new, [])) }
         ensures bad { result ≡ Err Refusal.Misplaced → run_step (state_of self.old) text.now ≡ None }
     {

@@ -1,17 +1,21 @@
 // Tokens outside the root.
-ghost use Rattle.std.specs.Prelude.{◌≡◌, [], OnOk, Some, None, Err};
+ghost use Rattle.std.specs.Prelude.{◌≡◌, ◌≢◌, ℕ, [], OnOk, OnErr, Some, None, Err};
+ghost use Rattle.std.specs.Str.{chars};
 ghost use Rattle.plain_tree.specs.XmlNames.{is_space};
 ghost use Rattle.xml_tokens.specs.Tokens.{Start, Empty};
 ghost use Rattle.xml_tokens.specs.SeenTokens.{token_of, attributes_of};
-ghost use Rattle.xml_nodes.specs.Machine.{outer_step, outer_character};
-ghost use Rattle.xml_nodes.specs.Taking.{built, IsReady, TakesBy};
+ghost use Rattle.xml_tokenizer.specs.Runs.{IsRun, characters};
+ghost use Rattle.xml_nodes.specs.Machine.{steps, outer_step, outer_character};
+ghost use Rattle.xml_nodes.specs.Taking.{built, IsReady, TakesBy, RefusesRun};
 ghost use Rattle.xml_nodes.specs.StateOf.{state_of};
 
 use super::{Machine, Refusal, leaves};
 use crate::builder::Builder;
 use crate::stage::Stage;
+use bstr::decode_utf8;
 use plain_tree::{Bytes, Kind};
 use std::alloc::Global;
+use xml_tokenizer::RunRefused;
 use xml_tokens::{Attribute, Found};
 
 impl Machine {
@@ -57,11 +61,32 @@ impl Machine {
         }
     }
 
+    // A run outside the root, character by character.
+    pub(super) fn outer_run(&mut self, text: &[u8]) -> Result<(), RunRefused>
+        requires outside { self.old.stage ≢ Stage.Inside }
+        requires run { IsRun text.now }
+        ensures ok { OnOk result (steps (state_of self.old) (characters (chars text.now)) ≡ Some (state_of self.new, [])) }
+        ensures refused { (at : ℕ) → result ≡ Err (RunRefused.Here at) → RefusesRun (state_of self.old) text.now at }
+    {
+        let mut at = 0;
+        while at < text.len() {
+            match decode_utf8(&text[at..]) {
+                (Some(c), size) => match self.outer_character(c) {
+                    Ok(()) => at += size,
+                    Err(_) => return Err(RunRefused::Here { at }),
+                },
+                // A run is UTF-8.
+                (None, _) => unreachable!(),
+            }
+        }
+        Ok(())
+    }
+
     // White space, or at the very front the mark of the order of bytes.
     fn outer_character(&mut self, c: char) -> Result<(), Refusal>
         ensures ok { OnOk result (outer_character (state_of self.old) c ≡ Some (state_of self.new, [])) }
         ensures same_names { self.new.names.items ≡ self.old.names.items }
-        ensures bad { result ≡ Err Refusal.Misplaced → outer_character (state_of self.old) c ≡ None }
+        ensures bad { OnErr result (outer_character (state_of self.old) c ≡ None) }
     {
         if is_space(c) {
             self.stage = self.stage.passed();

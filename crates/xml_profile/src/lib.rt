@@ -8,6 +8,7 @@
 
 mod documents;
 mod error;
+mod feeding;
 mod reader;
 mod tree_builder;
 mod values;

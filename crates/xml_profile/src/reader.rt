@@ -1,16 +1,18 @@
 // A reader that is fed the bytes of a document in pieces.
 ghost use Rattle.std.specs.Prelude.{◌≡◌, ◌+◌, ◌<◌, ◌^◌, ◌++◌, [], List, ℕ, length, OnOk, IfOk, Err, Some, None};
 ghost use Rattle.plain_tree.specs.Tree.{Tree};
-ghost use Rattle.xml_nodes.specs.Machine.{Event, events};
+ghost use Rattle.xml_nodes.specs.Machine.{State, Event, events};
 ghost use Rattle.xml_nodes.specs.Spelling.{Spells};
 ghost use Rattle.xml_nodes.specs.StateOf.{state_of};
 ghost use Rattle.xml_nodes.specs.Taking.{built, IsReady};
-ghost use Rattle.xml_profile.specs.Reading.{IsFed, IsFedOn, IsBad, count_of, depth_of, answer_of};
+ghost use Rattle.xml_profile.specs.Reading.{StandsFrom, IsFed, IsFedOn, IsBad, count_of, depth_of, answer_of};
+ghost use Rattle.xml_profile.specs.Breaks.{ReadsOn, BreaksFrom};
 
 use crate::error::XmlError;
+use crate::feeding::feed_tokens;
 use std::alloc::{AllocError, Global};
 use xml_nodes::{Builder, Machine};
-use xml_tokenizer::Tokenizer;
+use xml_tokenizer::{TokenError, Tokenizer};
 
 /// Reads a document whose bytes come in pieces (XML 1.0, fifth edition, without internal subsets), and makes the calls of its tree
 /// at a `Builder`. No piece is kept, but for a token that it cuts off.
@@ -61,7 +63,42 @@ impl Reader {
         if let Some(e) = self.failed {
             return Err(e);
         }
-        Err(self.fail(XmlError::Memory))
+        match self.read_on(alloc, piece, builder) {
+            Ok(()) => Ok(()),
+            Err(e) => Err(self.fail(e)),
+        }
+    }
+
+    // Reads the next piece of bytes in which no fault was found so far.
+    pub(crate) fn read_on<B: Builder>(
+        &mut self,
+        alloc: Global,
+        piece: &[u8],
+        builder: &mut B,
+    ) -> Result<(), XmlError>
+        requires ready { IsReady (state_of self.old.machine) (built B.Builder builder.old) }
+        requires count { count_of self.old + length piece.now < 2 ^ 64 }
+        ensures ok { OnOk result ((from : State) (calls : List Event) (fed : List ℕ) → StandsFrom from self.old calls fed →
+            ReadsOn from self.new (B.log builder.old) (B.log builder.new) calls (fed ++ piece.now)) }
+        ensures ready { OnOk result (IsReady (state_of self.new.machine) (built B.Builder builder.new)) }
+        ensures count { OnOk result (count_of self.new ≡ count_of self.old + length piece.now) }
+        ensures broken { (at : ℕ) → result ≡ Err (XmlError.Bad at) → (from : State) (calls : List Event) (fed : List ℕ) → StandsFrom from self.old calls fed →
+            BreaksFrom from (fed ++ piece.now) at }
+        ensures failed { self.new.failed ≡ self.old.failed }
+    {
+        match feed_tokens(
+            alloc,
+            piece,
+            &mut self.tokenizer,
+            &mut self.machine,
+            builder,
+        ) {
+            Ok(()) => Ok(()),
+            Err(TokenError::Bad) => Err(XmlError::Bad {
+                at: self.tokenizer.start(),
+            }),
+            Err(TokenError::Memory) => Err(XmlError::Memory),
+        }
     }
 
     fn fail(&mut self, error: XmlError) -> XmlError
@@ -77,10 +114,20 @@ impl Reader {
     /// `Bad` comes exactly where they spell none, and tells the place.
     pub fn finish(self) -> Result<(), XmlError>
         ensures document { OnOk result ((calls : List Event) (fed : List ℕ) → IsFed self calls fed → (t : Tree) × Spells fed t × (calls ≡ events t [])) }
+        ensures depth { OnOk result ((calls : List Event) (fed : List ℕ) → IsFed self calls fed → depth_of self ≡ 0) }
         ensures bad { (at : ℕ) → result ≡ Err (XmlError.Bad at) → (calls : List Event) (fed : List ℕ) → IsFed self calls fed → IsBad fed at }
         ensures again { (e : XmlError) → self.failed ≡ Some e → result ≡ Err e }
         ensures memory { result ≡ Err XmlError.Memory → self.failed ≡ Some XmlError.Memory }
     {
-        Err(XmlError::Memory)
+        if let Some(e) = self.failed {
+            return Err(e);
+        }
+        if self.tokenizer.is_whole() && self.machine.may_end() {
+            Ok(())
+        } else {
+            Err(XmlError::Bad {
+                at: self.tokenizer.start(),
+            })
+        }
     }
 }

@@ -1,5 +1,5 @@
 // What takes tokens.
-ghost use Rattle.std.specs.Prelude.{◌≡◌, ◌<◌, ℕ, length, Option, Some, None, OnOk, Err};
+ghost use Rattle.std.specs.Prelude.{◌≡◌, ◌<◌, ℕ, List, length, Option, Some, None, OnOk, Err};
 ghost use Rattle.std.specs.Str.{chars};
 ghost use Rattle.xml_tokens.specs.Tokens.{Token};
 ghost use Rattle.xml_tokens.specs.SeenTokens.{token_of};
@@ -41,11 +41,15 @@ pub trait TokenSink {
     /// The states in which it takes tokens.
     ghost IsReady: { State → Type 0 };
 
+    /// Which references it holds, by their names; they stay.
+    ghost lenders: { Self → List ℕ };
+
     /// Takes a token.
     fn token(&mut self, found: Found<'_>) -> Result<(), Refused>
         requires { IsReady (state self.old) }
         ensures ready { OnOk result (IsReady (state self.new)) }
         ensures took { OnOk result (step (state self.old) (token_of found.entry) ≡ Some (state self.new)) }
+        ensures lenders { lenders self.new ≡ lenders self.old }
         ensures refused { result ≡ Err Refused.Here → step (state self.old) (token_of found.entry) ≡ None };
 
     /// Takes a run of characters without `<`, `&` and `]`, each of which is a token.
@@ -55,5 +59,6 @@ pub trait TokenSink {
         requires ready { IsReady (state self.old) }
         ensures ready { OnOk result (IsReady (state self.new)) }
         ensures took { OnOk result (taken step (state self.old) (characters (chars bytes.now)) ≡ Some (state self.new)) }
+        ensures lenders { lenders self.new ≡ lenders self.old }
         ensures refused { (at : ℕ) → result ≡ Err (RunRefused.Here at) → RefusesRun step (state self.old) bytes.now at };
 }

@@ -91,6 +91,7 @@ impl Tokenizer {
         requires ready { S.IsReady (S.state sink.old) }
         requires count { self.old.count + length piece.now < 2 ^ 64 }
         ensures ready { OnOk result (S.IsReady (S.state sink.new)) }
+        ensures lenders { S.lenders sink.new ≡ S.lenders sink.old }
         ensures ok { OnOk result ((tokens : List Token) (fed : List ℕ) → Stands self.old tokens fed →
             GoesOn S.step (λ ts. Stands self.new ts (fed ++ piece.now)) (S.state sink.old) (S.state sink.new) tokens) }
         ensures count { OnOk result (self.new.count ≡ self.old.count + length piece.now) }
@@ -119,6 +120,7 @@ impl Tokenizer {
         requires ready { S.IsReady (S.state sink.old) }
         requires count { self.old.count + length piece.now < 2 ^ 64 }
         ensures ready { OnOk result (S.IsReady (S.state sink.new)) }
+        ensures lenders { S.lenders sink.new ≡ S.lenders sink.old }
         ensures ok { OnOk result (ReadsPiece S.step self.old self.new (S.state sink.old) (S.state sink.new) piece.now []) }
         ensures place { result ≡ Err TokenError.Bad → (tokens : List Token) (fed : List ℕ) → Stands self.old tokens fed →
             BreaksAt S.step (S.state sink.old) tokens (fed ++ piece.now) self.new.start }
@@ -144,6 +146,7 @@ impl Tokenizer {
         requires ready { S.IsReady (S.state sink.old) }
         requires count { self.old.count + length piece.now < 2 ^ 64 }
         ensures ready { OnOk result (S.IsReady (S.state sink.new)) }
+        ensures lenders { S.lenders sink.new ≡ S.lenders sink.old }
         ensures ok { IfOk result (λ after. ReadsPiece S.step self.old self.new (S.state sink.old) (S.state sink.new) piece.now after.now) }
         ensures shorter { IfOk result (λ after. length after.now < length piece.now) }
         ensures place { result ≡ Err TokenError.Bad → (tokens : List Token) (fed : List ℕ) → Stands self.old tokens fed →
@@ -198,6 +201,7 @@ impl Tokenizer {
         requires ready { S.IsReady (S.state sink.old) }
         requires count { self.old.count + length bytes.now < 2 ^ 64 }
         ensures ready { OnOk result (S.IsReady (S.state sink.new)) }
+        ensures lenders { S.lenders sink.new ≡ S.lenders sink.old }
         ensures ok { OnOk result (Advances S.step self.old self.new (S.state sink.old) (S.state sink.new) bytes.now []) }
         ensures place { result ≡ Err TokenError.Bad → Breaks S.step self.old self.new.start (S.state sink.old) bytes.now }
     {
@@ -222,6 +226,7 @@ impl Tokenizer {
         requires ready { S.IsReady (S.state sink.old) }
         requires count { self.old.count + length rest.now < 2 ^ 64 }
         ensures ready { OnOk result (S.IsReady (S.state sink.new)) }
+        ensures lenders { S.lenders sink.new ≡ S.lenders sink.old }
         ensures ok { IfOk result (λ after. Advances S.step self.old self.new (S.state sink.old) (S.state sink.new) rest.now after.now) }
         ensures shorter { IfOk result (λ after. length after.now < length rest.now) }
         ensures place { result ≡ Err TokenError.Bad → Breaks S.step self.old self.new.start (S.state sink.old) rest.now }
@@ -250,6 +255,7 @@ impl Tokenizer {
         requires none_held { self.old.held.items ≡ [] }
         requires count { self.old.count + length rest.now < 2 ^ 64 }
         ensures ready { OnOk result (S.IsReady (S.state sink.new)) }
+        ensures lenders { S.lenders sink.new ≡ S.lenders sink.old }
         ensures ok { IfOk result (λ after. Advances S.step self.old self.new (S.state sink.old) (S.state sink.new) rest.now after.now) }
         ensures left { IfOk result (λ after. after.now ≡ left.now) }
         ensures place { result ≡ Err TokenError.Bad → Breaks S.step self.old self.new.start (S.state sink.old) rest.now }
@@ -280,6 +286,7 @@ impl Tokenizer {
         requires none_held { self.old.held.items ≡ [] }
         requires count { self.old.count + length rest.now < 2 ^ 64 }
         ensures ready { OnOk result (S.IsReady (S.state sink.new)) }
+        ensures lenders { S.lenders sink.new ≡ S.lenders sink.old }
         ensures ok { IfOk result (λ after. Advances S.step self.old self.new (S.state sink.old) (S.state sink.new) rest.now after.now) }
         ensures shorter { IfOk result (λ after. length after.now < length rest.now) }
         ensures place { result ≡ Err TokenError.Bad → Breaks S.step self.old self.new.start (S.state sink.old) rest.now }
@@ -314,6 +321,7 @@ impl Tokenizer {
         requires ready { S.IsReady (S.state sink.old) }
         requires count { self.old.count + length rest.now < 2 ^ 64 }
         ensures ready { OnOk result (S.IsReady (S.state sink.new)) }
+        ensures lenders { S.lenders sink.new ≡ S.lenders sink.old }
         ensures ok { IfOk result (λ after. Advances S.step self.old self.new (S.state sink.old) (S.state sink.new) rest.now after.now) }
         ensures shorter { IfOk result (λ after. length after.now < length rest.now) }
         ensures place { result ≡ Err TokenError.Bad → Breaks S.step self.old self.new.start (S.state sink.old) rest.now }
@@ -372,6 +380,7 @@ impl Tokenizer {
 fn give<S: TokenSink>(alloc: Global, text: &[u8], sink: &mut S) -> Result<(), TokenError>
     requires { S.IsReady (S.state sink.old) }
     ensures ready { OnOk result (S.IsReady (S.state sink.new)) }
+    ensures lenders { S.lenders sink.new ≡ S.lenders sink.old }
     ensures ok { OnOk result (Takes S.step (S.state sink.old) (S.state sink.new) text.now) }
     ensures bad { result ≡ Err TokenError.Bad → (t : Token) → IsToken t text.now → S.step (S.state sink.old) t ≡ None }
 {

@@ -1,1 +1,4 @@
 pub mod FeedLemmas
+pub mod RunLemmas
+pub mod Finishing
+pub mod OneFeeding

@@ -1,9 +1,9 @@
 -- What a reader has read, and where bytes go wrong.
-use Rattle.std.specs.Prelude.{◌≡◌, ℕ, List, ◌++◌, length, Option, Some, None, Result, Ok, Err}
+use Rattle.std.specs.Prelude.{◌≡◌, ℕ, List, [], ◌++◌, length, Option, Some, None, Result, Ok, Err}
 use Rattle.plain_tree.specs.Tree.{Tree, Trees}
 use Rattle.xml_tokens.specs.Tokens.{Token}
 use Rattle.xml_tokenizer.specs.Standing.{Stands as HasCut}
-use Rattle.xml_nodes.specs.Machine.{State, Event, steps, start}
+use Rattle.xml_nodes.specs.Machine.{State, Event, events, steps, start}
 use Rattle.xml_nodes.specs.Place.{IsPlace, IsListPlace, IsValuePlace}
 use Rattle.xml_nodes.specs.Spelling.{Spells, SpellsList, SpellsValue}
 use Rattle.xml_nodes.specs.StateOf.{state_of}
@@ -48,10 +48,10 @@ abbrev pub IsFed : Reader → List Event → List ℕ → Type 0
 IsFed r calls fed = IsFedSo r.failed r calls fed
 
 -- behind these calls more were made, which a builder's log shows, unless the reader failed; in all they are those of these bytes
-pub record IsFedOn (r : Reader) (before after calls : List Event) (fed : List ℕ) : Type 0 where
+pub record IsFedOn (r : Reader) (before after calls : List Event) (bytes : List ℕ) : Type 0 where
   pub more : List Event
   pub logged : r.failed ≡ None → after ≡ before ++ more
-  pub fed : IsFed r (calls ++ more) fed
+  pub fed : IsFed r (calls ++ more) bytes
 
 -- how many bytes were fed
 abbrev pub count_of : Reader → ℕ
@@ -60,6 +60,13 @@ count_of r = r.tokenizer.count
 -- how many elements are open
 abbrev pub depth_of : Reader → ℕ
 depth_of r = length (state_of r.machine).names
+
+-- the bytes spell a document with these calls, and nothing is open any more
+pub record EndsDocument (r : Reader) (calls : List Event) (fed : List ℕ) : Type 0 where
+  pub tree : Tree
+  pub spelled : Spells fed tree
+  pub logged : calls ≡ events tree []
+  pub closed : depth_of r ≡ 0
 
 -- what a call answers, by how the reader failed
 abbrev pub answer_of : Option XmlError → Result (Unit {0}) XmlError

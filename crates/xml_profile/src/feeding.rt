@@ -1,10 +1,10 @@
 // Tokens on their way from the tokenizer to the machine, which makes a builder's calls.
 ghost use Rattle.std.specs.Prelude.{◌≡◌, ◌+◌, ◌<◌, ◌^◌, ◌++◌, List, ℕ, length, OnOk, Err};
 ghost use Rattle.xml_tokens.specs.Tokens.{Token};
-ghost use Rattle.xml_tokenizer.specs.Standing.{Stands as HasCut, GoesOn, BreaksAt};
+ghost use Rattle.xml_tokenizer.specs.Standing.{Stands as HasCut, BreaksAt};
 ghost use Rattle.xml_nodes.specs.StateOf.{state_of};
 ghost use Rattle.xml_nodes.specs.Taking.{built, IsReady};
-ghost use Rattle.xml_profile.specs.Feeding.{joint, joint_step};
+ghost use Rattle.xml_profile.specs.Feeding.{joint, joint_step, TakesPiece};
 
 use std::alloc::Global;
 use xml_nodes::{Builder, Machine, Refusal};
@@ -20,6 +20,7 @@ struct Feeding<'a, B: Builder> {
 }
 
 impl<B: Builder> TokenSink for Feeding<'_, B> {
+    ghost use Rattle.std.specs.Prelude.{[], ◌∷◌};
     ghost use Rattle.xml_nodes.specs.StateOf.{state_of};
     ghost use Rattle.xml_nodes.specs.Taking.{built, IsReady};
     ghost use Rattle.xml_profile.specs.Feeding.{Joint, joint, joint_step};
@@ -31,6 +32,8 @@ impl<B: Builder> TokenSink for Feeding<'_, B> {
     ghost step = { joint_step };
 
     ghost IsReady = { λ j. IsReady j.now j.built };
+
+    ghost lenders = { λ f. f.machine.ghost_name ∷ f.builder.ghost_name ∷ [] };
 
     fn token(&mut self, found: Found<'_>) -> Result<(), Refused> {
         match self.machine.take(self.alloc, found, self.builder) {
@@ -56,8 +59,7 @@ pub(crate) fn feed_tokens<B: Builder>(
     requires ready { IsReady (state_of machine.old) (built B.Builder builder.old) }
     requires count { tokenizer.old.count + length piece.now < 2 ^ 64 }
     ensures ready { OnOk result (IsReady (state_of machine.new) (built B.Builder builder.new)) }
-    ensures ok { OnOk result ((tokens : List Token) (fed : List ℕ) → HasCut tokenizer.old tokens fed →
-        GoesOn joint_step (λ ts. HasCut tokenizer.new ts (fed ++ piece.now)) (joint (state_of machine.old) (built B.Builder builder.old)) (joint (state_of machine.new) (built B.Builder builder.new)) tokens) }
+    ensures ok { OnOk result (TakesPiece tokenizer.old tokenizer.new (joint (state_of machine.old) (built B.Builder builder.old)) (joint (state_of machine.new) (built B.Builder builder.new)) piece.now) }
     ensures count { OnOk result (tokenizer.new.count ≡ tokenizer.old.count + length piece.now) }
     ensures place { result ≡ Err TokenError.Bad → (tokens : List Token) (fed : List ℕ) → HasCut tokenizer.old tokens fed →
         BreaksAt joint_step (joint (state_of machine.old) (built B.Builder builder.old)) tokens (fed ++ piece.now) tokenizer.new.start }

@@ -9,12 +9,14 @@
 mod documents;
 mod error;
 mod feeding;
+mod laws;
 mod reader;
 mod tree_builder;
 mod values;
 
 pub use documents::{read_document, read_fragment};
 pub use error::XmlError;
+pub use laws::{calls_are_one, calls_begin};
 pub use reader::Reader;
 pub use tree_builder::TreeBuilder;
 pub use values::read_value;

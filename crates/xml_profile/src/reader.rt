@@ -1,11 +1,11 @@
 // A reader that is fed the bytes of a document in pieces.
-ghost use Rattle.std.specs.Prelude.{◌≡◌, ◌+◌, ◌<◌, ◌^◌, ◌++◌, [], List, ℕ, length, OnOk, IfOk, Err, Some, None};
+ghost use Rattle.std.specs.Prelude.{◌≡◌, ◌+◌, ◌<◌, ◌^◌, ◌++◌, [], List, ℕ, length, OnOk, IfOk, IsTrue, Err, Some, None, false};
 ghost use Rattle.plain_tree.specs.Tree.{Tree};
 ghost use Rattle.xml_nodes.specs.Machine.{State, Event, events};
 ghost use Rattle.xml_nodes.specs.Spelling.{Spells};
 ghost use Rattle.xml_nodes.specs.StateOf.{state_of};
 ghost use Rattle.xml_nodes.specs.Taking.{built, IsReady};
-ghost use Rattle.xml_profile.specs.Reading.{StandsFrom, IsFed, IsFedOn, IsBad, count_of, depth_of, answer_of};
+ghost use Rattle.xml_profile.specs.Reading.{StandsFrom, Stands, EndsDocument, IsFed, IsFedOn, IsBad, count_of, depth_of, answer_of};
 ghost use Rattle.xml_profile.specs.Breaks.{ReadsOn, BreaksFrom};
 
 use crate::error::XmlError;
@@ -122,12 +122,20 @@ impl Reader {
         if let Some(e) = self.failed {
             return Err(e);
         }
-        if self.tokenizer.is_whole() && self.machine.may_end() {
+        if self.is_done() {
             Ok(())
         } else {
             Err(XmlError::Bad {
                 at: self.tokenizer.start(),
             })
         }
+    }
+
+    // Whether the bytes fed spell a document.
+    fn is_done(&self) -> bool
+        ensures done { IsTrue result → (calls : List Event) (fed : List ℕ) → Stands self.now calls fed → EndsDocument self.now calls fed }
+        ensures broken { result ≡ false → (calls : List Event) (fed : List ℕ) → Stands self.now calls fed → (t : Tree) → Spells fed t → ⊥ }
+    {
+        self.tokenizer.is_whole() && self.machine.may_end()
     }
 }

@@ -1,1 +1,3 @@
 pub mod FeedLemmas
+pub mod Built
+pub mod FedDocuments

@@ -3,7 +3,6 @@ use Rattle.std.specs.Prelude.{◌≡◌, ℕ, Bool, List, [], ◌∷◌, length,
 use Rattle.std.specs.Coded.{Coded, code_by, coded×, coded_list, coded_ℕ, coded_bool}
 use Rattle.std.specs.List.{AllByRecursion}
 use base.Stored.{coded_via}
-use Rattle.plain_tree.specs.declared.kind.Kind.{Kind}
 use Rattle.plain_tree.specs.Tree.{Tree, trees, kind_code, kind_code-inj}
 use Rattle.xml_nodes.specs.Machine.{Event, Opened, Leaf, Closed, events_all, AreShaped}
 use Rattle.xml_nodes.specs.Taking.{Built}
@@ -29,8 +28,8 @@ event_code = coded_via (coded_list (coded_list coded_ℕ)) event_parts event_par
 
 abbrev pub built_code : Coded Built
 built_code =
-    code_by (List Event × Bool × ℕ) (coded× (coded_list event_code) (coded× coded_bool coded_ℕ)) (λ b. (b.log, b.sound, b.depth))
-    (λ p. record { log = p.0; sound = p.1; depth = p.2 }) (λ _. refl)
+    code_by (List Event × (Bool × ℕ)) (coded× (coded_list event_code) (coded× coded_bool coded_ℕ)) (λ b. (b.log, (b.sound, b.depth)))
+    (λ p. record { log = p.0; sound = p.1.0; depth = p.1.1 }) (λ _. refl)
 
 -- the calls that made the open elements, the outermost first, and then these; each has the nodes that stand in front of it
 abbrev pub frames_log : List OpenElement → List Event → List Event

@@ -2,3 +2,5 @@ pub mod FeedLemmas
 pub mod RunLemmas
 pub mod Finishing
 pub mod OneFeeding
+pub mod Built
+pub mod FedDocuments

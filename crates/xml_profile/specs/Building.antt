@@ -3,7 +3,6 @@ use Rattle.std.specs.Prelude.{◌≡◌, ℕ, Bool, List, [], ◌∷◌, length,
 use Rattle.std.specs.Coded.{Coded, code_by, coded×, coded_list, coded_ℕ, coded_bool}
 use Rattle.std.specs.List.{AllByRecursion}
 use base.Stored.{coded_via}
-use Rattle.plain_tree.specs.declared.kind.Kind.{Kind}
 use Rattle.plain_tree.specs.Tree.{Tree, trees, kind_code, kind_code-inj}
 use Rattle.xml_nodes.specs.Machine.{Event, Opened, Leaf, Closed, events_all, AreShaped}
 use Rattle.xml_nodes.specs.Taking.{Built}

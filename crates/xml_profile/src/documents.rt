@@ -18,14 +18,8 @@ pub fn read_document(alloc: Global, bytes: &[u8]) -> Result<Node, XmlError>
 {
     let mut builder = TreeBuilder::new(alloc);
     let mut reader = Reader::new(alloc)?;
-    match reader.feed(alloc, bytes, &mut builder) {
-        Ok(()) => {}
-        Err(e) => return Err(e),
-    }
-    match reader.finish() {
-        Ok(()) => {}
-        Err(e) => return Err(e),
-    }
+    reader.feed(alloc, bytes, &mut builder)?;
+    reader.finish()?;
     Ok(builder.document()?)
 }
 

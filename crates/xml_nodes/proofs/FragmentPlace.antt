@@ -137,7 +137,7 @@ has_name (Instruction n v) l = λ e. cc
 has_name Declaration l = λ e. cc
 has_name Doctype l = λ e. cc
 
-have_names : (ts : List Token) → AreLawfulTokens ts → AllByRecursion HasName ts
+pub have_names : (ts : List Token) → AreLawfulTokens ts → AllByRecursion HasName ts
 have_names [] l = tt
 have_names (t ∷ ts) l = (has_name t l.0, have_names ts l.1)
 

@@ -1,6 +1,6 @@
 -- From tokens that the sink took to the machine's steps.
-use Rattle.std.proofs.Common.{◌≡◌, ℕ, false, List, [], ◌∷◌, ◌++◌, length, refl, ap, sym, ◌∙◌, subst, inl, inr, append_assoc, append-nil}
-use Rattle.std.specs.Prelude.{Option, Some, None, Result, Ok, Err, OnOk, true, option_and_then}
+use Rattle.std.proofs.Common.{◌≡◌, ℕ, Bool, false, List, [], ◌∷◌, ◌++◌, length, refl, ap, sym, ◌∙◌, subst, inl, inr, append_assoc, append-nil}
+use Rattle.std.specs.Prelude.{Option, Some, None, Result, Ok, Err, OnOk, IsTrue, true, option_and_then}
 use Rattle.std.specs.Option.{option_map}
 use Rattle.xml_tokens.specs.Tokens.{Token}
 use Rattle.xml_tokenizer.specs.Taking.{taken}
@@ -31,6 +31,9 @@ some_same j k e = cc
 pub on-ok : {E : Type 0} {P Q : Type 0} (result : Result (Unit {0}) E) → (P → Q) → OnOk result P → OnOk result Q
 on-ok (Ok u) f p = f p
 on-ok (Err e) f p = tt
+
+pub never_both : (b : Bool) → IsTrue b → b ≡ false → ⊥
+never_both b holds fails = cc
 
 -- the builder and the machine behind a token
 abbrev after : Joint → State × List Event → Joint

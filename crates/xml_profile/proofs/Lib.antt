@@ -4,3 +4,5 @@ pub mod Finishing
 pub mod OneFeeding
 pub mod Built
 pub mod FedDocuments
+pub mod Fragments
+pub mod FragmentReading

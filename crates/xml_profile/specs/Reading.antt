@@ -1,9 +1,11 @@
 -- What a reader has read, and where bytes go wrong.
-use Rattle.std.specs.Prelude.{◌≡◌, ℕ, List, [], ◌++◌, length, Option, Some, None, Result, Ok, Err}
+use Rattle.std.specs.Prelude.{◌≡◌, ℕ, false, List, [], ◌++◌, length, Option, Some, None, Result, Ok, Err}
 use Rattle.plain_tree.specs.Tree.{Tree, Trees}
-use Rattle.xml_tokens.specs.Tokens.{Token}
+use Rattle.xml_tokens.specs.Tokens.{Token, AreTokens}
+use Rattle.xml_tokenizer.specs.LineEnds.{line_ends}
 use Rattle.xml_tokenizer.specs.Standing.{Stands as HasCut}
-use Rattle.xml_nodes.specs.Machine.{State, Event, events, steps, start}
+use Rattle.xml_nodes.specs.Content.{IsContent}
+use Rattle.xml_nodes.specs.Machine.{State, Event, events, events_all, steps, start}
 use Rattle.xml_nodes.specs.Place.{IsPlace, IsListPlace, IsValuePlace}
 use Rattle.xml_nodes.specs.Spelling.{Spells, SpellsList, SpellsValue}
 use Rattle.xml_nodes.specs.StateOf.{state_of}
@@ -67,6 +69,17 @@ pub record EndsDocument (r : Reader) (calls : List Event) (fed : List ℕ) : Typ
   pub spelled : Spells fed tree
   pub logged : calls ≡ events tree []
   pub closed : depth_of r ≡ 0
+
+-- The bytes are a content, which gives these nodes; the builder got those of their calls that it had not got yet. Where there are
+-- nodes, the bytes spell them.
+pub record EndsContent (before after calls : List Event) (fed : List ℕ) : Type 0 where
+  pub nodes : Trees
+  pub tokens : List Token
+  pub cut : AreTokens tokens (line_ends fed) []
+  pub content : IsContent nodes false tokens []
+  pub more : List Event
+  pub logged : after ≡ before ++ more
+  pub all : calls ++ more ≡ events_all nodes []
 
 -- what a call answers, by how the reader failed
 abbrev pub answer_of : Option XmlError → Result (Unit {0}) XmlError

@@ -8,8 +8,9 @@ ghost use Rattle.xml_profile.specs.Reading.{IsBad, IsBadList};
 use crate::error::XmlError;
 use crate::reader::Reader;
 use crate::tree_builder::TreeBuilder;
-use plain_tree::{Node, Nodes};
+use plain_tree::{Kind, Node, Nodes};
 use std::alloc::Global;
+use xml_nodes::Builder;
 
 /// The document that the bytes spell. `Bad` comes exactly where they spell none, and tells the place.
 pub fn read_document(alloc: Global, bytes: &[u8]) -> Result<Node, XmlError>
@@ -29,5 +30,19 @@ pub fn read_fragment(alloc: Global, bytes: &[u8]) -> Result<Nodes, XmlError>
     ensures spelled { IfOk result (λ nodes. SpellsList bytes.now (trees nodes)) }
     ensures bad { (at : ℕ) → result ≡ Err (XmlError.Bad at) → IsBadList bytes.now at }
 {
-    Err(XmlError::Memory)
+    let mut builder = TreeBuilder::new(alloc);
+    builder.open(Kind::Element, &[])?;
+    let mut reader = Reader::of_content(alloc)?;
+    match reader.read_on(alloc, bytes, &mut builder) {
+        Ok(()) => {}
+        Err(e) => return Err(e),
+    }
+    let start = reader.start();
+    let ended = reader.end_content(&mut builder)?;
+    let nodes = builder.content();
+    if ended && !nodes.is_empty() {
+        Ok(nodes)
+    } else {
+        Err(XmlError::Bad { at: start })
+    }
 }

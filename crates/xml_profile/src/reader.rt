@@ -1,17 +1,18 @@
 // A reader that is fed the bytes of a document in pieces.
-ghost use Rattle.std.specs.Prelude.{◌≡◌, ◌+◌, ◌<◌, ◌^◌, ◌++◌, [], List, ℕ, length, OnOk, IfOk, IsTrue, Err, Some, None, false};
-ghost use Rattle.plain_tree.specs.Tree.{Tree};
-ghost use Rattle.xml_nodes.specs.Machine.{State, Event, events};
-ghost use Rattle.xml_nodes.specs.Spelling.{Spells};
+ghost use Rattle.std.specs.Prelude.{◌≡◌, ◌+◌, ◌<◌, ◌^◌, ◌++◌, [], List, ℕ, length, OnOk, IfOk, IsTrue, Err, Some, None, true, false};
+ghost use Rattle.plain_tree.specs.Tree.{Tree, Trees};
+ghost use Rattle.xml_nodes.specs.Machine.{State, Event, events, fragment_start};
+ghost use Rattle.xml_nodes.specs.Place.{IsListPlace};
+ghost use Rattle.xml_nodes.specs.Spelling.{Spells, SpellsList};
 ghost use Rattle.xml_nodes.specs.StateOf.{state_of};
 ghost use Rattle.xml_nodes.specs.Taking.{built, IsReady};
-ghost use Rattle.xml_profile.specs.Reading.{StandsFrom, Stands, EndsDocument, IsFed, IsFedOn, IsBad, count_of, depth_of, answer_of};
+ghost use Rattle.xml_profile.specs.Reading.{StandsFrom, Stands, EndsDocument, EndsContent, IsFed, IsFedOn, IsBad, count_of, depth_of, answer_of};
 ghost use Rattle.xml_profile.specs.Breaks.{ReadsOn, BreaksFrom};
 
 use crate::error::XmlError;
 use crate::feeding::feed_tokens;
 use std::alloc::{AllocError, Global};
-use xml_nodes::{Builder, Machine};
+use xml_nodes::{Builder, Machine, Refusal};
 use xml_tokenizer::{TokenError, Tokenizer};
 
 /// Reads a document whose bytes come in pieces (XML 1.0, fifth edition, without internal subsets), and makes the calls of its tree
@@ -38,6 +39,44 @@ impl Reader {
             machine: Machine::new(alloc),
             failed: None,
         })
+    }
+
+    // A reader of the content of an element without a name, as which a fragment is read, that was fed nothing.
+    pub(crate) fn of_content(alloc: Global) -> Result<Reader, AllocError>
+        ensures fed { IfOk result (λ r. StandsFrom fragment_start r [] []) }
+        ensures count { IfOk result (λ r. count_of r ≡ 0) }
+        ensures depth { IfOk result (λ r. depth_of r ≡ 1) }
+    {
+        Ok(Reader {
+            tokenizer: Tokenizer::new(alloc),
+            machine: Machine::of_content(alloc)?,
+            failed: None,
+        })
+    }
+
+    // How many bytes stand in front of the token that is not whole.
+    pub(crate) fn start(&self) -> u64
+        ensures { (calls : List Event) (fed : List ℕ) → StandsFrom fragment_start self.now calls fed → IsListPlace fed result }
+    {
+        self.tokenizer.start()
+    }
+
+    // Ends the content: the builder gets its last text. False where it may not end here.
+    pub(crate) fn end_content<B: Builder>(&mut self, builder: &mut B) -> Result<bool, AllocError>
+        requires { IsReady (state_of self.old.machine) (built B.Builder builder.old) }
+        ensures ended { IfOk result (λ done. done ≡ true → (calls : List Event) (fed : List ℕ) → StandsFrom fragment_start self.old calls fed →
+            EndsContent (B.log builder.old) (B.log builder.new) calls fed) }
+        ensures bad { IfOk result (λ done. done ≡ false → (calls : List Event) (fed : List ℕ) → StandsFrom fragment_start self.old calls fed →
+            (nodes : Trees) → SpellsList fed nodes → ⊥) }
+    {
+        if !self.tokenizer.is_whole() {
+            return Ok(false);
+        }
+        match self.machine.end_content(builder) {
+            Ok(()) => Ok(true),
+            Err(Refusal::Misplaced) => Ok(false),
+            Err(Refusal::Memory) => Err(AllocError),
+        }
     }
 
     /// Reads the next piece, which may end anywhere, also inside a character. The builder gets the calls of the bytes fed so far,

@@ -1,10 +1,7 @@
-use Rattle.std.proofs.Common.{◌≡◌, Bool, false, refl}
-use Rattle.std.specs.Prelude.{IsTrue}
+use Rattle.std.proofs.Common.{refl}
+use Rattle.xml_profile.proofs.FeedLemmas.{never_both}
 use Rattle.xml_profile.proofs.Finishing.{ends_document, ends_elsewhere}
 use Rattle.xml_profile.proofs.reader.Reader.is_done.Goals as goal
-
-never_both : (b : Bool) → IsTrue b → b ≡ false → ⊥
-never_both b holds fails = cc
 
 pub returns-then-is_whole-clause-done : goal.returns-then-is_whole-clause-done
 returns-then-is_whole-clause-done c = λ holds calls fed s.

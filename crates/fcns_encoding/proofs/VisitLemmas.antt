@@ -1,18 +1,18 @@
 -- A code that grows with the visits of a walk.
-use Rattle.std.proofs.Common.{◌≡◌, ℕ, zero, suc, List, [], ◌∷◌, ◌++◌, map, filter, take, refl, ap, sym, ◌∙◌, subst, append_assoc, append-nil}
+use Rattle.std.proofs.Common.{◌≡◌, ℕ, zero, suc, List, [], ◌∷◌, ◌++◌, map, take, refl, ap, sym, ◌∙◌, subst, append_assoc, append-nil}
 use Rattle.std.proofs.lemmas.List.{map-append}
-use Rattle.std.proofs.lemmas.List.Elements.{filter-append}
 use Rattle.rule_arena.specs.declared.label.Label.{Label}
 use Rattle.rule_arena.specs.declared.label.Label.TheVariants.{Bottom, Symbol}
 use Rattle.plain_tree.specs.Tree.{Tree, node, Trees, none, more}
-use Rattle.plain_tree.specs.Numbers.{nodes, texts, has_value, kind_of, value_of}
+use Rattle.plain_tree.specs.Numbers.{nodes, values_of, texts}
 use Rattle.plain_tree.specs.Visits.{TreeVisit, Opened, Closed, visits, all_visits_then, opened}
 use Rattle.plain_tree.proofs.WalkLemmas.{opened-visits}
 use Rattle.slt_grammar.specs.Terms.{Term, Leaf, Node}
 use Rattle.slt_grammar.specs.Coding.{Codes}
+use Rattle.slt_grammar.proofs.Standing.{values_of-append}
 use Rattle.fcns_encoding.specs.Labels.{term_labels}
 use Rattle.fcns_encoding.specs.Interning.{Pair, Interns, tree_pair, pairs_of_tree}
-use Rattle.fcns_encoding.specs.Visiting.{IsLabelOf, values_of, texts_at, pairs_at}
+use Rattle.fcns_encoding.specs.Visiting.{IsLabelOf, texts_at, pairs_at}
 use Rattle.fcns_encoding.proofs.InternLemmas.{KeepsPlaces, Interns-keeps, Interns-append}
 
 -- a label for each visit
@@ -63,9 +63,6 @@ opened-append : (vs ws : List TreeVisit) → opened (vs ++ ws) ≡ opened vs ++ 
 opened-append [] ws = refl
 opened-append (Opened t ∷ vs) ws = ap (λ ts. t ∷ ts) (opened-append vs ws)
 opened-append (Closed t ∷ vs) ws = opened-append vs ws
-
-values_of-append : (xs ys : List Tree) → values_of (xs ++ ys) ≡ values_of xs ++ values_of ys
-values_of-append xs ys = ap (map value_of) (filter-append (λ s. has_value (kind_of s)) xs ys) ∙ map-append value_of (filter (λ s. has_value (kind_of s)) xs) (filter (λ s. has_value (kind_of s)) ys)
 
 -- The visits up to here made these names, labels and texts.
 pub record IsEncoding (t : Tree) (left : List TreeVisit) (old now : List Pair) (body : List Label) (values : List (List ℕ)) : Type 0 where

@@ -1,9 +1,9 @@
 -- What each visit of a walk adds to a code.
-use Rattle.std.specs.Prelude.{◌≡◌, ℕ, List, [], ◌∷◌, map, filter, Some, slice_get}
+use Rattle.std.specs.Prelude.{◌≡◌, ℕ, List, [], ◌∷◌, map, Some, slice_get}
 use Rattle.rule_arena.specs.declared.label.Label.{Label}
 use Rattle.rule_arena.specs.declared.label.Label.TheVariants.{Bottom, Symbol}
 use Rattle.plain_tree.specs.Tree.{Tree}
-use Rattle.plain_tree.specs.Numbers.{has_value, kind_of, value_of}
+use Rattle.plain_tree.specs.Numbers.{values_of}
 use Rattle.plain_tree.specs.Visits.{TreeVisit, Opened, Closed, opened}
 use Rattle.fcns_encoding.specs.Interning.{Pair, tree_pair}
 
@@ -11,10 +11,6 @@ use Rattle.fcns_encoding.specs.Interning.{Pair, tree_pair}
 abbrev pub IsLabelOf : List Pair → TreeVisit → Label → Type 0
 IsLabelOf names (Opened t) label = (symbol : ℕ) × (slice_get names symbol ≡ Some (tree_pair t)) × (label ≡ Symbol symbol)
 IsLabelOf names (Closed t) label = label ≡ Bottom
-
--- the values of those nodes that have one
-abbrev pub values_of : List Tree → List (List ℕ)
-values_of ts = map value_of (filter (λ s. has_value (kind_of s)) ts)
 
 abbrev pub own_texts : Tree → List (List ℕ)
 own_texts t = values_of (t ∷ [])

@@ -107,7 +107,7 @@ mutual
 pub document-valued : (t : Tree) → IsDocument t → IsValued t
 document-valued t d = tree-valued t d.lawful
 
-texts-one : (t : Tree) → texts_all (more t none) ≡ texts t
+pub texts-one : (t : Tree) → texts_all (more t none) ≡ texts t
 texts-one t = ap values_of (append-nil (nodes t))
 
 first-of : (s t : Tree) → more s none ≡ more t none → s ≡ t

@@ -1,7 +1,7 @@
 // The code of nodes.
 ghost use Rattle.std.specs.Prelude.{◌≡◌, ◌++◌, [], ◌∷◌, ℕ, IfOk, OnOk, OnErr, take, slice_get, Some};
 ghost use Rattle.rule_arena.specs.declared.label.Label.{Label as NodeLabel};
-ghost use Rattle.rule_arena.specs.declared.label.Label.TheVariants.{Symbol, Bottom};
+ghost use Rattle.rule_arena.specs.declared.label.Label.TheVariants.{Symbol};
 ghost use Rattle.plain_tree.specs.Tree.{none, more, trees};
 ghost use Rattle.plain_tree.specs.NodeTree.{tree_of, trees_of};
 ghost use Rattle.plain_tree.specs.Numbers.{texts, texts_all};

@@ -17,14 +17,17 @@ use slt_grammar::{Grammar, Label};
 use std::marker::Brand;
 use std::sync::ledger::{Blank, Ledger};
 use text_list::TextList;
+use thiserror::Error;
 use tree_outside::{Failed, Sink};
 
 /// Why a grammar file was not written to its end.
-#[derive(Clone, Copy, Debug, PartialEq, Eq)]
+#[derive(Clone, Copy, Debug, PartialEq, Eq, Error)]
 pub enum WriteError {
     /// The sink failed.
+    #[error("the grammar file could not be written")]
     Failed,
     /// There was no memory.
+    #[error("there is no memory for the grammar file")]
     Memory,
 }
 

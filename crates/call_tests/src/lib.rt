@@ -19,6 +19,8 @@ mod outside;
 #[cfg(test)]
 mod scripts;
 #[cfg(test)]
+mod texts;
+#[cfg(test)]
 mod tokens;
 #[cfg(test)]
 mod tree;

@@ -4,7 +4,7 @@ use Rattle.std.proofs.lemmas.List.{map-append}
 use Rattle.plain_tree.specs.Tree.{Tree, node, Trees, none, more}
 use Rattle.plain_tree.specs.Numbers.{nodes, nodes_all}
 use Rattle.plain_tree.specs.Lawful.{IsDocument, IsLawfulName, IsLawfulTree, AreLawfulTrees}
-use Rattle.fcns_encoding.specs.Interning.{Pair, Interns, tree_pair, pairs_of_tree}
+use Rattle.fcns_encoding.specs.Interning.{Pair, Interns, tree_pair, pairs_of_tree, pairs_of_trees}
 use Rattle.fcns_encoding.specs.Laws.{AreLawful}
 
 lawful-at : (p q : Pair) → p ≡ q → IsLawfulName p.0 p.1 → IsLawfulName q.0 q.1
@@ -43,3 +43,6 @@ document-lawful t d = tree-lawful t d.lawful
 
 pub names-lawful : (t : Tree) (old new : List Pair) → IsDocument t → Interns old (pairs_of_tree t) new → AreLawful old → AreLawful new
 names-lawful t old new is h a = Interns-lawful old (pairs_of_tree t) new h a (document-lawful t is)
+
+pub list-names-lawful : (ts : Trees) (old new : List Pair) → AreLawfulTrees ts → Interns old (pairs_of_trees ts) new → AreLawful old → AreLawful new
+list-names-lawful ts old new are h a = Interns-lawful old (pairs_of_trees ts) new h a (trees-lawful ts are)

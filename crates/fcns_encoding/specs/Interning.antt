@@ -1,8 +1,8 @@
 -- Tables of names that grow.
 use Rattle.std.specs.Prelude.{◌≡◌, ℕ, List, [], ◌∷◌, ◌++◌, map, Some, slice_get, ◌⊎◌}
 use Rattle.plain_tree.specs.declared.kind.Kind.{Kind}
-use Rattle.plain_tree.specs.Tree.{Tree, node}
-use Rattle.plain_tree.specs.Numbers.{nodes}
+use Rattle.plain_tree.specs.Tree.{Tree, node, Trees}
+use Rattle.plain_tree.specs.Numbers.{nodes, nodes_all}
 
 -- a kind and a name
 abbrev pub Pair : Type 0
@@ -23,3 +23,7 @@ tree_pair (node kind name value kids) = (kind, name)
 -- the kinds and names of a tree's nodes, in document order
 abbrev pub pairs_of_tree : Tree → List Pair
 pairs_of_tree t = map tree_pair (nodes t)
+
+-- and those of a list of trees
+abbrev pub pairs_of_trees : Trees → List Pair
+pairs_of_trees ts = map tree_pair (nodes_all ts)

@@ -1,18 +1,18 @@
 -- What holds of codes and of the names that they use.
-use Rattle.std.specs.Prelude.{◌≡◌, ℕ, List, [], ◌∷◌, Some, slice_get}
+use Rattle.std.specs.Prelude.{◌≡◌, ℕ, List, [], ◌∷◌, ◌++◌, Some, slice_get}
 use Rattle.rule_arena.specs.declared.label.Label.{Label}
 use Rattle.plain_tree.specs.declared.kind.Kind.{Kind}
-use Rattle.plain_tree.specs.Tree.{Tree, Trees, none, more}
+use Rattle.plain_tree.specs.Tree.{Tree, Trees, none, more, trees}
 use Rattle.plain_tree.specs.Numbers.{texts}
-use Rattle.plain_tree.specs.Lawful.{IsDocument, IsLawfulName}
+use Rattle.plain_tree.specs.Lawful.{IsDocument, IsLawfulName, AreLawfulTrees}
 use Rattle.plain_tree.specs.NameTable.{AreDistinct}
-use Rattle.slt_grammar.specs.Terms.{Term, holes_of}
+use Rattle.slt_grammar.specs.Terms.{Term, Hole, holes_of, substitute}
 use Rattle.slt_grammar.specs.Grammars.{IsGrammar, IsSwept, value}
-use Rattle.slt_grammar.specs.Coding.{Codes}
+use Rattle.slt_grammar.specs.Coding.{Codes, CodesTo}
 use Rattle.slt_grammar.specs.Standing.{StandsFor}
 use Rattle.slt_grammar.specs.declared.rules.Rule.{Rule}
 use Rattle.fcns_encoding.specs.Labels.{term_labels, one_rule}
-use Rattle.fcns_encoding.specs.Interning.{Pair, Interns, pairs_of_tree}
+use Rattle.fcns_encoding.specs.Interning.{Pair, Interns, pairs_of_tree, pairs_of_trees}
 
 -- each pair of a table is allowed
 abbrev pub AreLawful : List Pair → Type 0
@@ -47,3 +47,13 @@ NamesStayDistinct = (old pairs new : List Pair) → Interns old pairs new → Ar
 -- lawful names that have grown by a document's pairs are lawful
 abbrev pub NamesAreLawful : Type 0
 NamesAreLawful = (t : Tree) (old new : List Pair) → IsDocument t → Interns old (pairs_of_tree t) new → AreLawful old → AreLawful new
+
+-- and so are those that have grown by the pairs of a list of lawful trees
+abbrev pub ListNamesAreLawful : Type 0
+ListNamesAreLawful = (ts : Trees) (old new : List Pair) → AreLawfulTrees ts → Interns old (pairs_of_trees ts) new → AreLawful old → AreLawful new
+
+-- a code that ends in a parameter, with the code of other nodes in its place, codes its nodes and then the others
+abbrev pub CodeGoesBefore : Type 0
+CodeGoesBefore =
+    (names : List Pair) (last : Term) (ss ts : List Tree) (front back : Term) → CodesTo names (Hole 0) (trees ss) front → CodesTo names last (trees ts) back
+    → CodesTo names last (trees (ss ++ ts)) (substitute front (back ∷ []))

@@ -1,5 +1,5 @@
 // What holds of codes, for the crates above. The bodies are empty: their contracts are the laws.
-ghost use Rattle.fcns_encoding.specs.Laws.{OneRuleMeansItsTerm, OneRuleStandsForItsDocument, EncodedStandsForItsDocument, CodesAreKept, NamesStayDistinct, NamesAreLawful};
+ghost use Rattle.fcns_encoding.specs.Laws.{OneRuleMeansItsTerm, OneRuleStandsForItsDocument, EncodedStandsForItsDocument, CodesAreKept, NamesStayDistinct, NamesAreLawful, ListNamesAreLawful, CodeGoesBefore};
 
 /// The one rule of a term without parameters is a swept grammar, and its value is the term.
 pub fn one_rule_means_its_term()
@@ -29,4 +29,15 @@ pub fn names_stay_distinct()
 /// Lawful names that grow by a document's pairs are lawful.
 pub fn names_are_lawful()
     ensures { NamesAreLawful }
+{}
+
+/// Lawful names that grow by the pairs of a list of lawful trees are lawful.
+pub fn list_names_are_lawful()
+    ensures { ListNamesAreLawful }
+{}
+
+/// A code that ends in a parameter, as `encode_list` answers it, with the code of other nodes in the place of the parameter codes
+/// its nodes and then the others.
+pub fn code_goes_before()
+    ensures { CodeGoesBefore }
 {}

@@ -3,14 +3,16 @@
 //! A list of nodes is coded by its first child and its next sibling: bottom for the empty list, else the symbol of the first
 //! node over the code of its kids and the code of the nodes behind it. A symbol is the place of a pair of kind and name in
 //! the table of names; what the nodes have as values are the texts, in document order. `encode` makes a `Coded` of a node,
-//! and `laws` says that a grammar whose one rule has the code as its body stands for the document.
+//! and `encode_list` one of a list of nodes, with a parameter where the code of others is to follow. `laws` says that a grammar
+//! whose one rule has the code as its body stands for the document.
 #![tactic(auto)]
 
 mod coding;
 mod laws;
 
-pub use coding::{Coded, encode};
+pub use coding::{Coded, encode, encode_list};
 pub use laws::{
-    codes_are_kept, encoded_stands_for_its_document, names_are_lawful, names_stay_distinct,
-    one_rule_means_its_term, one_rule_stands_for_its_document,
+    code_goes_before, codes_are_kept, encoded_stands_for_its_document, list_names_are_lawful,
+    names_are_lawful, names_stay_distinct, one_rule_means_its_term,
+    one_rule_stands_for_its_document,
 };

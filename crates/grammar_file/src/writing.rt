@@ -17,14 +17,17 @@ use slt_grammar::{Grammar, Label};
 use std::marker::Brand;
 use std::sync::ledger::{Blank, Ledger};
 use text_list::TextList;
+use thiserror::Error;
 use tree_outside::{Failed, Sink};
 
 /// Why a grammar file was not written to its end.
-#[derive(Clone, Copy, Debug, PartialEq, Eq)]
+#[derive(Clone, Copy, Debug, PartialEq, Eq, Error)]
 pub enum WriteError {
     /// The sink failed.
+    #[error("the grammar file could not be written")]
     Failed,
     /// There was no memory.
+    #[error("there is no memory for the grammar file")]
     Memory,
 }
 
@@ -39,9 +42,9 @@ pub fn write<K: Sink>(
     texts: &TextList,
     sink: &mut K,
 ) -> Result<u128, WriteError>
-    ensures written { OnOk result (Gets (K.got sink.old) (K.got sink.new) (file_bytes names.now (rules_of grammar.now.rules) texts.now)) }
-    ensures count { IfOk result (λ count. count ≡ length (file_bytes names.now (rules_of grammar.now.rules) texts.now)) }
-    ensures front { OnErr result (GetsFront (K.got sink.old) (K.got sink.new) (file_bytes names.now (rules_of grammar.now.rules) texts.now)) }
+    ensures written { OnOk result (Gets (K.got sink.old) (K.got sink.new) (file_bytes names.now (rules_of grammar.now.rules) texts.now.texts)) }
+    ensures count { IfOk result (λ count. count ≡ length (file_bytes names.now (rules_of grammar.now.rules) texts.now.texts)) }
+    ensures front { OnErr result (GetsFront (K.got sink.old) (K.got sink.new) (file_bytes names.now (rules_of grammar.now.rules) texts.now.texts)) }
     ensures kept { Keeps (K.kept sink.old) (K.kept sink.new) }
     ensures cause { HasCause (K.faults sink.old) (K.faults sink.new) result }
     ensures no_memory { result ≢ Err WriteError.Memory }
@@ -64,9 +67,9 @@ fn write_file<K: Sink, L: Ledger>(
     requires name { blank.name ≡ L.name }
     requires parts { blank.parts ≡ L.parts }
     requires some { 0 < blank.parts }
-    ensures puts { Puts (seen K.Sink out.old) (seen K.Sink out.new) result (file_bytes names.now (rules_of grammar.now.rules) texts.now) }
+    ensures puts { Puts (seen K.Sink out.old) (seen K.Sink out.new) result (file_bytes names.now (rules_of grammar.now.rules) texts.now.texts) }
     ensures empty { OnOk result (held_of out.new ≡ []) }
-    ensures small { OnOk result (length (file_bytes names.now (rules_of grammar.now.rules) texts.now) < 2 ^ 128) }
+    ensures small { OnOk result (length (file_bytes names.now (rules_of grammar.now.rules) texts.now.texts) < 2 ^ 128) }
 {
     let mut steps: Steps<L> = Steps::new(blank);
     out.bytes(b"TGF1")?;
@@ -170,8 +173,8 @@ fn write_place<K: Sink>(tag: u8, place: usize, out: &mut Buffer<'_, K>) -> Resul
 }
 
 fn write_texts<K: Sink>(texts: &TextList, out: &mut Buffer<'_, K>) -> Result<(), Failed>
-    ensures puts { Puts (seen K.Sink out.old) (seen K.Sink out.new) result (list_bytes text_bytes texts.now) }
-    ensures small { OnOk result (length (list_bytes text_bytes texts.now) < 2 ^ 127 + 2 ^ 68) }
+    ensures puts { Puts (seen K.Sink out.old) (seen K.Sink out.new) result (list_bytes text_bytes texts.now.texts) }
+    ensures small { OnOk result (length (list_bytes text_bytes texts.now.texts) < 2 ^ 127 + 2 ^ 68) }
 {
     out.number(texts.len())?;
     let mut place = 0;

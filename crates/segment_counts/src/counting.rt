@@ -15,13 +15,16 @@ use slt_grammar::{Grammar, TourWalk};
 use std::alloc::{AllocError, Global};
 use std::marker::Brand;
 use std::sync::ledger::{Blank, Ledger};
+use thiserror::Error;
 
 /// Why the counts weren't made.
-#[derive(Clone, Copy, Debug, PartialEq, Eq)]
+#[derive(Clone, Copy, Debug, PartialEq, Eq, Error)]
 pub enum CountError {
     /// The grammar's value has more than 2^63 - 1 nodes that aren't bottom.
+    #[error("the value of the grammar has more than 2^63 - 1 nodes")]
     TooMany,
     /// Memory was refused.
+    #[error("there is no memory for the counts")]
     Memory,
 }
 

@@ -5,7 +5,7 @@ use Rattle.std.proofs.lemmas.List.Elements.{filter-append}
 use Rattle.plain_tree.specs.declared.kind.Kind.{Kind}
 use Rattle.plain_tree.specs.declared.kind.Kind.TheVariants.{Document, Element, Attribute, Text, Comment, Instruction}
 use Rattle.plain_tree.specs.Tree.{Tree, node, Trees, none, more}
-use Rattle.plain_tree.specs.Numbers.{nodes, nodes_all, has_value, kind_of, value_of, texts}
+use Rattle.plain_tree.specs.Numbers.{nodes, nodes_all, has_value, kind_of, value_of, values_of, texts, texts_all}
 use Rattle.plain_tree.specs.NameTable.{AreDistinct}
 use Rattle.plain_tree.specs.Lawful.{IsDocument, IsLawfulTree, AreLawfulTrees, IsLawfulValue}
 use Rattle.slt_grammar.specs.Terms.{Term, Leaf, Node}
@@ -23,10 +23,6 @@ abbrev mutual
   AreValued none = Unit {0}
   AreValued (more t ts) = IsValued t × AreValued ts
 
--- the values below these trees in document order
-abbrev pub texts_all : Trees → List (List ℕ)
-texts_all ts = map value_of (filter (λ s. has_value (kind_of s)) (nodes_all ts))
-
 -- a node's own value, if its kind has one
 abbrev pub own : Kind → List ℕ → List (List ℕ)
 own Document v = []
@@ -36,7 +32,7 @@ own Text v = v ∷ []
 own Comment v = v ∷ []
 own Instruction v = v ∷ []
 
-values_of-append : (xs ys : List Tree) → map value_of (filter (λ s. has_value (kind_of s)) (xs ++ ys)) ≡ map value_of (filter (λ s. has_value (kind_of s)) xs) ++ map value_of (filter (λ s. has_value (kind_of s)) ys)
+pub values_of-append : (xs ys : List Tree) → values_of (xs ++ ys) ≡ values_of xs ++ values_of ys
 values_of-append xs ys = ap (map value_of) (filter-append (λ s. has_value (kind_of s)) xs ys) ∙ map-append value_of (filter (λ s. has_value (kind_of s)) xs) (filter (λ s. has_value (kind_of s)) ys)
 
 -- the texts of trees begin with the first node's own value, and go on with those below it and behind it
@@ -111,8 +107,8 @@ mutual
 pub document-valued : (t : Tree) → IsDocument t → IsValued t
 document-valued t d = tree-valued t d.lawful
 
-texts-one : (t : Tree) → texts_all (more t none) ≡ texts t
-texts-one t = ap (λ ns. map value_of (filter (λ s. has_value (kind_of s)) ns)) (append-nil (nodes t))
+pub texts-one : (t : Tree) → texts_all (more t none) ≡ texts t
+texts-one t = ap values_of (append-nil (nodes t))
 
 first-of : (s t : Tree) → more s none ≡ more t none → s ≡ t
 first-of s t e = cc

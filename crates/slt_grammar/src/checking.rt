@@ -11,19 +11,25 @@ use crate::counting::{count_calls, first_unused};
 use crate::grammar::Grammar;
 use crate::rules::{Rule, RuleList};
 use std::alloc::Global;
+use thiserror::Error;
 
 /// Why a list of rules is no swept grammar, with the first rule that shows it, from 0.
-#[derive(Clone, Copy, Debug, PartialEq, Eq)]
+#[derive(Clone, Copy, Debug, PartialEq, Eq, Error)]
 pub enum GrammarError {
     /// The labels aren't exactly one term, the rank passes 8, or the last rule's rank isn't 0; rule 0 where there is none.
+    #[error("rule {rule} is not one term, or its rank is not allowed")]
     Rank { rule: usize },
     /// The parameters don't number the rank.
+    #[error("rule {rule} has another number of parameters than its rank")]
     Linear { rule: usize },
     /// A call names a rule that isn't earlier.
+    #[error("rule {rule} calls a rule that is not earlier")]
     Order { rule: usize },
     /// A rule but the last that isn't called.
+    #[error("rule {rule} is never called")]
     Unused { rule: usize },
     /// Memory was refused, or there are more than 2^32 nodes.
+    #[error("there is no memory for the grammar")]
     Memory,
 }
 

@@ -7,7 +7,7 @@ use Rattle.store_core.specs.Worlds.{Parts}
 use Rattle.store_core.specs.declared.store.Store.{Store}
 
 abbrev pub parts_of : Store → Parts
-parts_of s = record { names = s.names; rules = rules_of s.grammar.rules; texts = s.texts }
+parts_of s = record { names = s.names; rules = rules_of s.grammar.rules; texts = s.texts.texts }
 
 -- what is written of the start's body
 abbrev pub start_text : Store → List ℕ

@@ -85,8 +85,8 @@ pub(crate) fn save_grammar<F: Shelf>(
 
 // Adds the grammar file to the pending file, and answers how many bytes it has.
 fn write_grammar<F: Shelf>(store: &Store, shelf: &mut F) -> Result<u128, Refusal>
-    ensures written { OnOk result (Gets (pending_bytes (F.told shelf.old)) (pending_bytes (F.told shelf.new)) (file_bytes store.now.names (rules_of store.now.grammar.rules) store.now.texts)) }
-    ensures count { IfOk result (λ count. count ≡ length (file_bytes store.now.names (rules_of store.now.grammar.rules) store.now.texts)) }
+    ensures written { OnOk result (Gets (pending_bytes (F.told shelf.old)) (pending_bytes (F.told shelf.new)) (file_bytes store.now.names (rules_of store.now.grammar.rules) store.now.texts.texts)) }
+    ensures count { IfOk result (λ count. count ≡ length (file_bytes store.now.names (rules_of store.now.grammar.rules) store.now.texts.texts)) }
     ensures beside { Stays (beside_of (F.told shelf.old)) (beside_of (F.told shelf.new)) }
     ensures later { F.faults shelf.old ≤ F.faults shelf.new }
     ensures refused { IfErr result (λ refusal. StopsWriting refusal (F.faults shelf.old) (F.faults shelf.new)) }

@@ -1,30 +1,19 @@
-use Rattle.std.proofs.Common.{◌≡◌, ◌∷◌}
-use Rattle.plain_tree.specs.Seen.{visit_of}
+use Rattle.std.proofs.Common.{subst}
+use Rattle.plain_tree.specs.Tree.{none, more}
+use Rattle.plain_tree.specs.NodeTree.{tree_of}
+use Rattle.slt_grammar.specs.Terms.{Leaf}
+use Rattle.fcns_encoding.specs.Interning.{Interns}
 use Rattle.fcns_encoding.proofs.InternLemmas.{on-err}
-use Rattle.fcns_encoding.proofs.VisitLemmas.{encoding-goes, encoding-ends, encoding-fails, encoding-stops}
+use Rattle.fcns_encoding.proofs.ListLemmas.{pairs-one}
+use Rattle.fcns_encoding.proofs.VisitLemmas.{spelled-codes, interned-all}
 use Rattle.fcns_encoding.proofs.coding.encode.Goals as goal
 
-pub returns-in_err-visit-clause-refused : goal.returns-in_err-visit-clause-refused
-returns-in_err-visit-clause-refused c = on-err c.from_residual.result (encoding-stops _ _ _ _ _ _ c.loop-walk.invariant)
-
-pub loop-walk-preserved : goal.loop-walk-preserved
-loop-walk-preserved c =
-    let e : c.loop-walk.walk ≡ visit_of c.in-Some.visit ∷ c.next.new.self = rw c.in-Some.is at c.in_ok-visit.ensures.ok in
-    encoding-goes _ _ _ _ _ _ c.loop-walk.invariant (visit_of c.in-Some.visit) _ _ _ _ e c.in_ok-add.ensures.label c.in_ok-add.ensures.texts c.in_ok-add.ensures.names
-
-pub returns-in_err-add-clause-refused : goal.returns-in_err-add-clause-refused
-returns-in_err-add-clause-refused c =
-    let e : c.loop-walk.walk ≡ visit_of c.in-Some.visit ∷ c.next.new.self = rw c.in-Some.is at c.in_ok-visit.ensures.ok in
-    on-err c.from_residual-in_err-add.result (encoding-fails _ _ _ _ _ _ c.loop-walk.invariant (visit_of c.in-Some.visit) _ _ e c.in_err-add.ensures.refused)
-
 pub returns-in_err-push-clause-refused : goal.returns-in_err-push-clause-refused
-returns-in_err-push-clause-refused c = on-err c.from_residual-in_err-push.result (encoding-stops _ _ _ _ _ _ c.loop-walk.invariant)
+returns-in_err-push-clause-refused c =
+    let pairs = rw c.from_ref.ensures.value at c.in_ok-coded.ensures.names in
+    on-err c.from_residual-in_err-push.result (interned-all _ _ _ (subst (λ ps. Interns c.args.names.now ps c.encode_nodes.new.names) (pairs-one (tree_of c.args.node.now)) pairs))
 
 pub returns-clause-code : goal.returns-clause-code
-returns-clause-code c = (encoding-ends _ _ _ _ _ _ c.loop-walk.invariant _ (rw c.in_default.is at c.in_ok-visit.ensures.ok).0 c.in_ok-push.ensures.ok).0
-
-pub returns-clause-texts : goal.returns-clause-texts
-returns-clause-texts c = (encoding-ends _ _ _ _ _ _ c.loop-walk.invariant _ (rw c.in_default.is at c.in_ok-visit.ensures.ok).0 c.in_ok-push.ensures.ok).1
-
-pub returns-clause-names : goal.returns-clause-names
-returns-clause-names c = (encoding-ends _ _ _ _ _ _ c.loop-walk.invariant _ (rw c.in_default.is at c.in_ok-visit.ensures.ok).0 c.in_ok-push.ensures.ok).2
+returns-clause-code c =
+    let labels = rw c.from_ref.ensures.value at c.in_ok-coded.ensures.labels in
+    spelled-codes c.encode_nodes.new.names Leaf (more (tree_of c.args.node.now) none) _ _ labels c.in_ok-push.ensures.ok

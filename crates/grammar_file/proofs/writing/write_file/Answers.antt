@@ -24,17 +24,17 @@ pub returns-in_err-write_texts-clause-puts : goal.returns-in_err-write_texts-cla
 returns-in_err-write_texts-clause-puts g c =
     puts_then _ _ _ _ mark _ c.in_ok-bytes.ensures
     (puts_then _ _ _ _ (list_bytes name_bytes c.args.names.now) _ c.in_ok-write_names.ensures.puts
-    (puts_then _ _ _ _ (list_bytes rule_bytes (rules_of c.args.grammar.now.rules)) (list_bytes text_bytes c.args.texts.now) c.in_ok-write_rules.ensures.puts
-    (puts_same _ _ _ _ (list_bytes text_bytes c.args.texts.now) c.in_err-write_texts.ensures.puts (err_from_is_err_and _ c.from_residual-in_err-write_texts.ensures.1).1)))
+    (puts_then _ _ _ _ (list_bytes rule_bytes (rules_of c.args.grammar.now.rules)) (list_bytes text_bytes c.args.texts.now.texts) c.in_ok-write_rules.ensures.puts
+    (puts_same _ _ _ _ (list_bytes text_bytes c.args.texts.now.texts) c.in_err-write_texts.ensures.puts (err_from_is_err_and _ c.from_residual-in_err-write_texts.ensures.1).1)))
 
 pub returns-clause-puts : goal.returns-clause-puts
 returns-clause-puts g c =
     puts_then _ _ _ _ mark _ c.in_ok-bytes.ensures
     (puts_then _ _ _ _ (list_bytes name_bytes c.args.names.now) _ c.in_ok-write_names.ensures.puts
-    (puts_then _ _ _ _ (list_bytes rule_bytes (rules_of c.args.grammar.now.rules)) (list_bytes text_bytes c.args.texts.now) c.in_ok-write_rules.ensures.puts
-    (puts_last _ _ _ _ (list_bytes text_bytes c.args.texts.now) c.in_ok-write_texts.ensures.puts c.flush.ensures.puts)))
+    (puts_then _ _ _ _ (list_bytes rule_bytes (rules_of c.args.grammar.now.rules)) (list_bytes text_bytes c.args.texts.now.texts) c.in_ok-write_rules.ensures.puts
+    (puts_last _ _ _ _ (list_bytes text_bytes c.args.texts.now.texts) c.in_ok-write_texts.ensures.puts c.flush.ensures.puts)))
 
 pub returns-clause-small : goal.returns-clause-small
 returns-clause-small g c =
     on_ok c.flush.result
-    (length-file c.args.names.now (rules_of c.args.grammar.now.rules) c.args.texts.now c.in_ok-write_names.ensures.small c.in_ok-write_rules.ensures.small c.in_ok-write_texts.ensures.small)
+    (length-file c.args.names.now (rules_of c.args.grammar.now.rules) c.args.texts.now.texts c.in_ok-write_names.ensures.small c.in_ok-write_rules.ensures.small c.in_ok-write_texts.ensures.small)

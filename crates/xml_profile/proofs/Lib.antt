@@ -6,3 +6,4 @@ pub mod Built
 pub mod FedDocuments
 pub mod Fragments
 pub mod FragmentReading
+pub mod Valued

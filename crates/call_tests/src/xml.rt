@@ -9,6 +9,7 @@ mod calls;
 mod characters;
 mod doctype;
 mod fragments;
+mod lawful;
 mod markup;
 mod names;
 mod pieces;

@@ -55,18 +55,23 @@ static NO_FRAGMENTS: [(&[u8], u64); 14] = [
     (b"<b/>\xC3", 4),
 ];
 
-fn seen(node: &Node) -> (Kind, &[u8], &[u8]) {
-    (node.kind, node.name.as_slice(), node.value.as_slice())
+fn is_seen(node: &Node, (kind, name, value): &Seen) -> bool {
+    node.kind == *kind && node.name.as_slice() == *name && node.value.as_slice() == *value
+}
+
+fn are_seen(nodes: &[Node], expected: &[Seen]) -> bool {
+    nodes.len() == expected.len()
+        && nodes
+            .iter()
+            .zip(expected.iter())
+            .all(|(node, seen)| is_seen(node, seen))
 }
 
 #[test]
 fn fragments_are_lists_of_nodes(rt: HostRuntime) -> Result<(), Fail> {
     for (bytes, expected) in &FRAGMENTS {
         let nodes = read_fragment(rt.alloc(), bytes)?;
-        assert_eq!(rt; nodes.len(), expected.len(), "{bytes:?}");
-        for (node, wanted) in nodes.as_slice().iter().zip(expected.iter()) {
-            assert!(rt; seen(node) == *wanted, "{bytes:?}");
-        }
+        assert!(rt; are_seen(nodes.as_slice(), expected), "{bytes:?}");
     }
     Ok(())
 }

@@ -33,10 +33,10 @@ pub(super) struct Log<B: Builder + Drop> {
 }
 
 // A call that there is no room for is missing in the log, which the test then sees.
-fn note(calls: &mut Vec<u8>, parts: &[&[u8]]) {
-    for part in parts {
-        let _ = calls.extend_from_slice(part);
-    }
+fn note(calls: &mut Vec<u8>, front: &[u8], text: &[u8], back: &[u8]) {
+    let _ = calls.extend_from_slice(front);
+    let _ = calls.extend_from_slice(text);
+    let _ = calls.extend_from_slice(back);
 }
 
 fn word_of(kind: Kind) -> &'static [u8] {
@@ -59,19 +59,20 @@ impl<B: Builder + Drop> Builder for Log<B> {
 
     fn open(&mut self, kind: Kind, name: &[u8]) -> Result<(), AllocError> {
         self.inner.open(kind, name)?;
-        note(&mut self.calls, &[b"<", name, b">"]);
+        note(&mut self.calls, b"<", name, b">");
         Ok(())
     }
 
     fn leaf(&mut self, kind: Kind, name: &[u8], value: &[u8]) -> Result<(), AllocError> {
         self.inner.leaf(kind, name, value)?;
-        note(&mut self.calls, &[word_of(kind), name, b"=", value, b"}"]);
+        note(&mut self.calls, word_of(kind), name, b"=");
+        note(&mut self.calls, b"", value, b"}");
         Ok(())
     }
 
     fn close(&mut self) -> Result<(), AllocError> {
         self.inner.close()?;
-        note(&mut self.calls, &[b"</>"]);
+        note(&mut self.calls, b"</", b"", b">");
         Ok(())
     }
 }

@@ -1,6 +1,4 @@
 // Where documents are bad that break off, and those with a byte that may stand nowhere.
-ghost use Rattle.std.specs.Prelude.{◌≤◌};
-
 use super::pieces::read;
 use super::vectors::SIZES;
 use std::alloc::{AllocError, Global};
@@ -49,23 +47,35 @@ static PARTS: [&[u8]; 36] = [
     b"</f\t>",
 ];
 
-fn answer_of(alloc: Global, bytes: &[u8], size: usize) -> Result<(), XmlError> {
-    let mut builder = TreeBuilder::new(alloc);
-    read(alloc, bytes, size, &mut builder)
+// Read in pieces of each size, the bytes get this answer.
+fn assert_answers(rt: &impl Abort, alloc: Global, bytes: &[u8], expected: Result<(), XmlError>) {
+    for &size in &SIZES {
+        let mut builder = TreeBuilder::new(alloc);
+        let answer = read(alloc, bytes, size, &mut builder);
+        assert_eq!(*rt; answer, expected, "{bytes:?} in pieces of {size}");
+    }
 }
 
 // The bytes are bad at this place, alone and before a byte that may stand nowhere.
-fn assert_bad(rt: &impl Abort, alloc: Global, front: &[u8], at: u64) -> Result<(), AllocError> {
-    let mut broken = front.to_vec(alloc)?;
+fn assert_bad(rt: &impl Abort, alloc: Global, bytes: &[u8], at: u64) -> Result<(), AllocError> {
+    let mut broken = bytes.to_vec(alloc)?;
     broken.push(1)?;
-    for &size in &SIZES {
-        for bytes in [front, broken.as_slice()] {
-            assert_eq!(*rt;
-                answer_of(alloc, bytes, size),
-                Err(XmlError::Bad { at }),
-                "{bytes:?} in pieces of {size}"
-            );
-        }
+    assert_answers(rt, alloc, bytes, Err(XmlError::Bad { at }));
+    assert_answers(rt, alloc, broken.as_slice(), Err(XmlError::Bad { at }));
+    Ok(())
+}
+
+// Puts a part behind the parts before it, byte by byte.
+fn assert_part(
+    rt: &impl Abort,
+    alloc: Global,
+    front: &mut Vec<u8>,
+    part: &[u8],
+) -> Result<(), AllocError> {
+    let at = front.len() as u64;
+    for &byte in part {
+        assert_bad(rt, alloc, front.as_slice(), at)?;
+        front.push(byte)?;
     }
     Ok(())
 }
@@ -75,14 +85,8 @@ fn a_document_is_bad_where_a_part_begins(rt: HostRuntime) -> Result<(), Fail> {
     let alloc = rt.alloc();
     let mut front = Vec::new(alloc);
     for part in &PARTS {
-        let at = front.len() as u64;
-        for &byte in *part {
-            assert_bad(&rt, alloc, front.as_slice(), at)?;
-            front.push(byte)?;
-        }
+        assert_part(&rt, alloc, &mut front, part)?;
     }
-    for &size in &SIZES {
-        assert_eq!(rt; answer_of(alloc, front.as_slice(), size), Ok(()), "{size}");
-    }
+    assert_answers(&rt, alloc, front.as_slice(), Ok(()));
     Ok(())
 }

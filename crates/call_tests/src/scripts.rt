@@ -10,12 +10,11 @@ use store_core::Session;
 use store_shell::{Status, serve};
 use tree_outside::{MemorySink, MemorySource, Shelf, Source};
 
-mod documents;
 mod faults;
 mod large;
 mod limits;
 mod long_files;
-mod memory;
+pub(crate) mod memory;
 mod real;
 mod rows;
 mod statuses;
@@ -41,7 +40,7 @@ fn serve_in<S: Source, F: Shelf, L: Ledger>(
 }
 
 // Serves a script without words, from an empty session.
-fn served<S: Source, F: Shelf>(
+pub(crate) fn served<S: Source, F: Shelf>(
     alloc: Global,
     source: &mut S,
     sink: &mut MemorySink,
@@ -51,7 +50,7 @@ fn served<S: Source, F: Shelf>(
 }
 
 // A source of all of a script, which never fails.
-fn whole(alloc: Global, script: Vec<u8>) -> MemorySource {
+pub(crate) fn whole(alloc: Global, script: Vec<u8>) -> MemorySource {
     MemorySource::new(script, 4096, Vec::new(alloc))
 }
 

@@ -1,7 +1,23 @@
-// The writer without line feeds. Documents are read, and written with line feeds, in `scripts`.
+// XML: what scripts make of files (the vectors), the calls that a reader makes, the places where bytes are bad, and what is
+// written without line feeds.
 use std::test::Fail;
 use tree_outside::MemorySink;
 use xml_profile::Writer;
+
+mod attributes;
+mod calls;
+mod characters;
+mod doctype;
+mod fragments;
+mod lawful;
+mod markup;
+mod names;
+mod pieces;
+mod places;
+mod prolog;
+mod references;
+mod vectors;
+mod worked;
 
 #[test]
 fn elements_are_written_without_line_feeds(rt: HostRuntime) -> Result<(), Fail> {

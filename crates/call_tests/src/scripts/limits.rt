@@ -21,7 +21,7 @@ fn a_line_has_at_most_1048576_bytes(rt: HostRuntime) -> Result<(), Fail> {
 fn a_file_has_fewer_than_1073741824_bytes(rt: HostRuntime) -> Result<(), Fail> {
     let alloc = rt.alloc();
     for (left, printed) in [
-        (1_073_741_823, "! bad-xml\n! no-document\n"),
+        (1_073_741_823, "! bad-xml 0\n! no-document\n"),
         (1_073_741_824, "! long-file\n! no-document\n"),
     ] {
         let mut source = whole(alloc, b"load a\nsave c\n".to_vec(alloc)?);

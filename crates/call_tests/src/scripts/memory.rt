@@ -97,7 +97,7 @@ fn objects_of(alloc: Global, row: &Row, piece: usize, fault: Fault) -> Result<Ob
 }
 
 // A shelf with this document as the file `a`, and `old` as `c`.
-pub(super) fn shelf_of(
+pub(crate) fn shelf_of(
     alloc: Global,
     document: &[u8],
     piece: usize,

@@ -25,7 +25,7 @@ static ROWS: [Row; 11] = [
     Row {
         document: "<a></b>",
         script: "load a\nsave c\n",
-        printed: "! bad-xml\n! no-document\n",
+        printed: "! bad-xml 3\n! no-document\n",
         ..DONE
     },
     Row {

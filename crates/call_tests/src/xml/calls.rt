@@ -1,0 +1,76 @@
+// The calls of documents, which are the same in pieces of any size.
+use super::pieces::{Log, read};
+use super::vectors::SIZES;
+use std::alloc::Global;
+use std::process::Abort;
+use std::test::Fail;
+use xml_profile::{Reader, TreeBuilder, XmlError};
+
+// A document, and its calls.
+static ROWS: [(&[u8], &[u8]); 3] = [
+    (
+        b"<a x=\"1\" y=\" &#xA;\">t<![CDATA[]]><![CDATA[<]]></a>",
+        b"<a>{attribute x=1}{attribute y= \n}{text =t<}</>",
+    ),
+    (
+        b"<?xml version=\"1.0\" encoding=\"utf-8\"?>\n<?xml-stylesheet type=\"text/css\" href=\"s.css\"?>\n<feed xmlns=\"http://www.w3.org/2005/Atom\">\n  <title>News &amp; more</title>\n  <entry><link href=\"/1\"/></entry>\n</feed>\n",
+        b"{instruction xml-stylesheet=type=\"text/css\" href=\"s.css\"}<feed>{attribute xmlns=http://www.w3.org/2005/Atom}{text =\n  }<title>{text =News & more}</>{text =\n  }<entry><link>{attribute href=/1}</></>{text =\n}</>",
+    ),
+    (
+        b"\xEF\xBB\xBF\r\n<!--b\r\n--><!DOCTYPE a><a>\r<![CDATA[\r\n]]>&#13;\n<b/><?c \xC3\xA9\r?></a>\r<!---->",
+        b"{comment =b\n}<a>{text =\n\n\r\n}<b></>{instruction c=\xC3\xA9\n}</>{comment =}",
+    ),
+];
+
+fn assert_calls(rt: &impl Abort, alloc: Global, document: &[u8], calls: &[u8]) {
+    for &size in &SIZES {
+        let mut log = Log {
+            inner: TreeBuilder::new(alloc),
+            calls: Vec::new(alloc),
+        };
+        let answer = read(alloc, document, size, &mut log);
+        assert_eq!(*rt;
+            (answer, log.calls.as_slice()),
+            (Ok(()), calls),
+            "in pieces of {size}"
+        );
+    }
+}
+
+#[test]
+fn calls_are_the_same_in_pieces(rt: HostRuntime) {
+    for (document, calls) in &ROWS {
+        assert_calls(&rt, rt.alloc(), document, calls);
+    }
+}
+
+#[test]
+fn nothing_fed_is_bad_at_its_front(rt: HostRuntime) -> Result<(), Fail> {
+    let reader = Reader::new(rt.alloc())?;
+    assert_eq!(rt; reader.finish(), Err(XmlError::Bad { at: 0 }));
+    Ok(())
+}
+
+// What is fed one piece after another, and what each piece is answered: behind one that is refused, the same.
+static REFUSED: [(&[u8], Result<(), XmlError>); 4] = [
+    (b"<a>x</b", Ok(())),
+    (b">", Err(XmlError::Bad { at: 4 })),
+    (b"</a>", Err(XmlError::Bad { at: 4 })),
+    (b"", Err(XmlError::Bad { at: 4 })),
+];
+
+#[test]
+fn behind_bad_every_answer_is_the_same(rt: HostRuntime) -> Result<(), Fail> {
+    let alloc = rt.alloc();
+    let mut reader = Reader::new(alloc)?;
+    let mut builder = TreeBuilder::new(alloc);
+    for (piece, answer) in &REFUSED {
+        assert_eq!(rt;
+            reader.feed(alloc, piece, &mut builder),
+            *answer,
+            "{piece:?}"
+        );
+    }
+    assert_eq!(rt; reader.finish(), Err(XmlError::Bad { at: 4 }));
+    Ok(())
+}

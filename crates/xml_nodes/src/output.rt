@@ -25,6 +25,15 @@ impl<'a, K: Sink> Output<'a, K> {
         }
     }
 
+    /// Gives the sink back.
+    pub(crate) fn into_sink(self) -> &'a mut K
+        ensures same_reference { result.ghost_name ≡ self.entry.sink.ghost_name }
+        ensures same_sink { result.now ≡ self.entry.sink.now }
+    {
+        let Output { sink, .. } = self;
+        sink
+    }
+
     pub(crate) fn count(&self) -> u128
         ensures { result ≡ self.now.count }
     {

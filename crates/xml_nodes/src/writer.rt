@@ -39,6 +39,15 @@ impl<'a, K: Sink> Writer<'a, K> {
         }
     }
 
+    /// Gives the sink back. Only so do contracts know what a writer that ends has written to it.
+    pub fn into_sink(self) -> &'a mut K
+        ensures same_reference { result.ghost_name ≡ sink_name self.entry }
+        ensures same_sink { result.now ≡ sink_of self.entry }
+    {
+        let Writer { output, .. } = self;
+        output.into_sink()
+    }
+
     /// How many bytes the calls so far wrote. The count ends at 2^128 - 1.
     pub fn count(&self) -> u128
         ensures { result ≡ count_of self.now }

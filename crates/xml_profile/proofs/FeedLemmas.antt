@@ -1,5 +1,5 @@
 -- From tokens that the sink took to the machine's steps.
-use Rattle.std.proofs.Common.{◌≡◌, ℕ, Bool, false, List, [], ◌∷◌, ◌++◌, length, refl, ap, sym, ◌∙◌, subst, inl, inr, append_assoc, append-nil}
+use Rattle.std.proofs.Common.{◌≡◌, ℕ, Bool, false, List, [], ◌∷◌, ◌++◌, length, refl, ap, sym, ◌∙◌, inl, inr, append_assoc, append-nil}
 use Rattle.std.specs.Prelude.{Option, Some, None, Result, Ok, Err, OnOk, IsTrue, true, option_and_then}
 use Rattle.std.specs.Option.{option_map}
 use Rattle.xml_tokens.specs.Tokens.{Token}
@@ -14,6 +14,8 @@ use Rattle.xml_nodes.proofs.Steps.{steps-append}
 use Rattle.xml_profile.specs.Feeding.{Joint, joint, joint_step, TakesPiece}
 use Rattle.xml_profile.specs.Reading.{StandsFrom}
 use Rattle.xml_profile.specs.Breaks.{BreaksFrom, ReadsOn}
+use Rattle.xml_profile.specs.declared.error.XmlError.{XmlError}
+use Rattle.xml_profile.specs.declared.error.XmlError.TheVariants.{Bad}
 use Rattle.xml_profile.specs.declared.reader.Reader.{Reader}
 
 -- the machine's steps over tokens that were taken, and their calls
@@ -34,6 +36,12 @@ on-ok (Err e) f p = tt
 
 pub never_both : (b : Bool) → IsTrue b → b ≡ false → ⊥
 never_both b holds fails = cc
+
+pub err_inj : {T : Type 0} (x y : XmlError) → ◌≡◌ {A = Result T XmlError} (Err x) (Err y) → x ≡ y
+err_inj x y e = cc
+
+pub bad_inj : {m n : ℕ} → Bad m ≡ Bad n → m ≡ n
+bad_inj e = cc
 
 -- the builder and the machine behind a token
 abbrev after : Joint → State × List Event → Joint

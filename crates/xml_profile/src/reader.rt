@@ -133,9 +133,7 @@ impl Reader {
             builder,
         ) {
             Ok(()) => Ok(()),
-            Err(TokenError::Bad) => Err(XmlError::Bad {
-                at: self.tokenizer.start(),
-            }),
+            Err(TokenError::Bad) => Err(self.bad()),
             Err(TokenError::Memory) => Err(XmlError::Memory),
         }
     }
@@ -164,9 +162,16 @@ impl Reader {
         if self.is_done() {
             Ok(())
         } else {
-            Err(XmlError::Bad {
-                at: self.tokenizer.start(),
-            })
+            Err(self.bad())
+        }
+    }
+
+    // The bytes are bad where the token begins that is not whole.
+    fn bad(&self) -> XmlError
+        ensures { result ≡ XmlError.Bad self.now.tokenizer.start }
+    {
+        XmlError::Bad {
+            at: self.tokenizer.start(),
         }
     }
 

@@ -1,5 +1,5 @@
 -- From tokens that the sink took to the machine's steps.
-use Rattle.std.proofs.Common.{◌≡◌, ℕ, Bool, false, List, [], ◌∷◌, ◌++◌, length, refl, ap, sym, ◌∙◌, subst, inl, inr, append_assoc, append-nil}
+use Rattle.std.proofs.Common.{◌≡◌, ℕ, Bool, false, List, [], ◌∷◌, ◌++◌, length, refl, ap, sym, ◌∙◌, inl, inr, append_assoc, append-nil}
 use Rattle.std.specs.Prelude.{Option, Some, None, Result, Ok, Err, OnOk, IsTrue, true, option_and_then}
 use Rattle.std.specs.Option.{option_map}
 use Rattle.xml_tokens.specs.Tokens.{Token}

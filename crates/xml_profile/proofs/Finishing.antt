@@ -2,20 +2,18 @@
 use Rattle.std.proofs.Common.{◌≡◌, ℕ, List, [], ◌∷◌, ◌++◌, length, refl, ap, sym, ◌∙◌, subst, append_assoc, append-nil}
 use Rattle.std.specs.Prelude.{Option, Some, None}
 use Rattle.plain_tree.specs.Tree.{Tree}
-use Rattle.xml_tokens.specs.Tokens.{Token, AreTokens}
+use Rattle.xml_tokens.specs.Tokens.{AreTokens}
 use Rattle.xml_tokenizer.specs.LineEnds.{line_ends}
-use Rattle.xml_nodes.specs.Content.{AreDocument}
-use Rattle.xml_nodes.specs.Machine.{State, Event, Stepped, steps, start, end, events}
+use Rattle.xml_nodes.specs.Machine.{Event, Stepped, steps, start, end, events}
 use Rattle.xml_nodes.specs.Place.{IsPlace}
 use Rattle.xml_nodes.specs.Spelling.{Spells}
 use Rattle.xml_nodes.specs.StateOf.{state_of}
-use Rattle.xml_nodes.specs.Stands.{StandsFrom as HasRead}
 use Rattle.xml_nodes.specs.declared.stage.Stage.TheVariants.{Epilog}
 use Rattle.xml_nodes.proofs.Documents.{document_leads}
 use Rattle.xml_nodes.proofs.Grammar.{leads-document, some_is}
 use Rattle.xml_nodes.proofs.Place.{broken_off, refused_at, refused_spells_nothing}
 use Rattle.xml_tokenizer.proofs.Cuts.{one_cutting}
-use Rattle.xml_profile.specs.Reading.{StandsFrom, Stands, EndsDocument, IsFed, IsFedSo, IsFedOn, IsBad, depth_of}
+use Rattle.xml_profile.specs.Reading.{Stands, EndsDocument, IsFed, IsFedSo, IsFedOn, IsBad}
 use Rattle.xml_profile.specs.Breaks.{BreaksFrom}
 use Rattle.xml_profile.specs.declared.error.XmlError.{XmlError}
 use Rattle.xml_profile.specs.declared.error.XmlError.TheVariants.{Bad, Memory}

@@ -1,6 +1,6 @@
 -- From the nodes of a builder to the fragment that the bytes spell.
 use Rattle.std.proofs.Common.{◌≡◌, ℕ, false, List, [], ◌∷◌, ◌++◌, refl, ap, sym, ◌∙◌, subst}
-use Rattle.plain_tree.specs.Tree.{Tree, Trees, none, more, trees}
+use Rattle.plain_tree.specs.Tree.{Tree, Trees, none, trees}
 use Rattle.xml_nodes.specs.Machine.{Event, Opened, events_all, AreShaped}
 use Rattle.xml_nodes.specs.Spelling.{SpellsList}
 use Rattle.xml_nodes.proofs.One.{content_shaped}

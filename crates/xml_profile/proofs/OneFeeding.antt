@@ -1,12 +1,11 @@
 -- Bytes lead each reader through the same calls.
 use Rattle.std.proofs.Common.{◌≡◌, ℕ, false, List, [], ◌∷◌, ◌++◌, refl, ap, sym, ◌∙◌, subst}
 use Rattle.std.specs.Prelude.{Some}
-use Rattle.plain_tree.specs.Tree.{Tree}
 use Rattle.xml_tokens.specs.Tokens.{Token, AreTokens, IsToken}
 use Rattle.xml_tokens.proofs.TokenLaws.{one_token}
-use Rattle.xml_tokenizer.specs.LineEnds.{line_ends, line_ends_after, ends_in_return}
+use Rattle.xml_tokenizer.specs.LineEnds.{line_ends}
 use Rattle.xml_tokenizer.specs.Scanning.{scanned}
-use Rattle.xml_tokenizer.specs.Standing.{StandsAt, HasRead}
+use Rattle.xml_tokenizer.specs.Standing.{HasRead}
 use Rattle.xml_tokenizer.specs.declared.scan.Scan.{Scan}
 use Rattle.xml_tokenizer.specs.declared.scan.Scan.TheVariants.{Idle}
 use Rattle.xml_tokenizer.specs.declared.scan.Step.TheVariants.{On, Whole}
@@ -14,15 +13,13 @@ use Rattle.xml_tokenizer.proofs.Cuts.{tokens_more}
 use Rattle.xml_tokenizer.proofs.LineEndLaws.{line_ends-append}
 use Rattle.xml_tokenizer.proofs.ScanLaws.{one_cut}
 use Rattle.xml_tokenizer.proofs.WholeScans.{scans}
-use Rattle.xml_nodes.specs.Machine.{State, Event, Stepped, steps, start, events}
+use Rattle.xml_nodes.specs.Machine.{Stepped, steps, start}
 use Rattle.xml_nodes.specs.Spelling.{Spells}
 use Rattle.xml_nodes.specs.StateOf.{state_of}
 use Rattle.xml_nodes.proofs.Bytes.{calls_begin}
 use Rattle.xml_nodes.proofs.Fed.{goes_on}
 use Rattle.xml_nodes.proofs.Grammar.{some_is}
 use Rattle.xml_profile.specs.Laws.{CallsAreOne, CallsBegin}
-use Rattle.xml_profile.specs.Reading.{Stands}
-use Rattle.xml_profile.specs.declared.reader.Reader.{Reader}
 
 -- no token stands whole where one has only begun
 not_begun : (u : Token) (us : List Token) (bytes rest : List ℕ) (scan : Scan) → scanned (On Idle) bytes ≡ On scan → AreTokens (u ∷ us) bytes rest → ⊥

@@ -1,11 +1,11 @@
 -- A run of characters makes no calls, and opens and closes nothing.
 use Rattle.std.proofs.Common.{◌≡◌, ℕ, Bool, true, false, List, [], ◌∷◌, ◌++◌, length, refl, ap, sym, ◌∙◌, subst, append-nil}
-use Rattle.std.specs.Prelude.{Option, Some, None, Result, Ok, Err, OnOk, ◌==◌, ◌&&◌, nat_le, option_and_then, if◌then◌else◌}
+use Rattle.std.specs.Prelude.{Some, None, Result, Ok, Err, OnOk, ◌==◌, ◌&&◌, nat_le, option_and_then, if◌then◌else◌}
 use Rattle.std.specs.Option.{option_map}
 use Rattle.std.specs.Char.{encode_utf8}
 use Rattle.std.specs.Str.{chars}
 use Rattle.plain_tree.specs.XmlNames.{is_space}
-use Rattle.xml_tokens.specs.Tokens.{Token, Character}
+use Rattle.xml_tokens.specs.Tokens.{Character}
 use Rattle.xml_tokenizer.specs.Runs.{characters}
 use Rattle.xml_tokenizer.specs.Taking.{taken, RefusesRun}
 use Rattle.xml_nodes.specs.declared.stage.Stage.{Stage}
@@ -13,7 +13,7 @@ use Rattle.xml_nodes.specs.declared.stage.Stage.TheVariants as at
 use Rattle.xml_nodes.specs.Machine.{State, Event, Stepped, step, step_at, steps, then_on, calls_before, outer_character, is_front, at_stage, passed, with_text, brackets_after}
 use Rattle.xml_nodes.specs.Taking.{Built, IsReady, RefusesRun as Refuses}
 use Rattle.xml_nodes.proofs.Grammar.{some_is}
-use Rattle.xml_profile.specs.Feeding.{Joint, joint, joint_step}
+use Rattle.xml_profile.specs.Feeding.{joint, joint_step}
 
 -- no calls, and the same elements are open
 record IsQuiet (s r : State) (calls : List Event) : Type 0 where

@@ -1,4 +1,4 @@
-use Rattle.std.proofs.Common.{◌≡◌, ◌∙◌, refl, ap}
+use Rattle.std.proofs.Common.{◌∙◌, refl, ap}
 use Rattle.std.specs.Prelude.{Err}
 use Rattle.xml_profile.proofs.Fragments.{ends_content, goes_further}
 use Rattle.xml_profile.proofs.reader.Reader.end_content.Goals as goal

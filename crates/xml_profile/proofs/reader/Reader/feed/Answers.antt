@@ -1,5 +1,5 @@
-use Rattle.std.proofs.Common.{◌≡◌, ◌∙◌, ◌++◌, refl, ap, sym, subst}
-use Rattle.std.specs.Prelude.{Some, Err}
+use Rattle.std.proofs.Common.{◌∙◌, ◌++◌, ap}
+use Rattle.std.specs.Prelude.{Err}
 use Rattle.xml_nodes.specs.Machine.{start}
 use Rattle.xml_profile.proofs.Finishing.{fails, unfailed}
 use Rattle.xml_profile.proofs.reader.Reader.feed.Goals as goal

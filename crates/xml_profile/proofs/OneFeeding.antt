@@ -41,7 +41,7 @@ one_front (u ∷ us) (k ∷ ks) bytes x y s t a b v w =
 
 -- the tokens so far of the bytes fed, and what is held
 cut_of : (held : List ℕ) (scan : Scan) (count start : ℕ) (tokens : List Token) (fed : List ℕ) → HasRead held scan count start tokens fed → AreTokens tokens (line_ends fed) held
-cut_of held scan count start tokens fed h =
+cut_of held scan count _ tokens fed h =
     let lines : line_ends fed ≡ line_ends h.front ++ held =
     ap line_ends h.whole ∙ line_ends-append h.front h.raw false ∙ ap (λ z. line_ends h.front ++ z) (sym h.behind.rest) in
     subst (λ z. AreTokens tokens z held) (sym lines) (tokens_more tokens (line_ends h.front) [] held h.behind.cut)

@@ -33,10 +33,7 @@ pub fn read_fragment(alloc: Global, bytes: &[u8]) -> Result<Nodes, XmlError>
     let mut builder = TreeBuilder::new(alloc);
     builder.open(Kind::Element, &[])?;
     let mut reader = Reader::of_content(alloc)?;
-    match reader.read_on(alloc, bytes, &mut builder) {
-        Ok(()) => {}
-        Err(e) => return Err(e),
-    }
+    reader.read_on(alloc, bytes, &mut builder)?;
     let start = reader.start();
     let ended = reader.end_content(&mut builder)?;
     let nodes = builder.content();

@@ -3,7 +3,7 @@ use plain_tree::Kind::{self, Attribute, Comment, Document, Element, Instruction,
 use std::alloc::Global;
 use std::test::Fail;
 use tree_outside::MemorySink;
-use xml_nodes::{Writer, lawful, name_length};
+use xml_profile::{Writer, is_name, lawful, name_length};
 
 enum Call {
     Open(&'static [u8]),
@@ -119,9 +119,10 @@ fn calls_write_their_bytes(rt: HostRuntime) -> Result<(), Fail> {
 }
 
 // A kind, a name and a value, and whether they are lawful.
-static PAIRS: [(Kind, &[u8], &[u8], bool); 30] = [
+static PAIRS: [(Kind, &[u8], &[u8], bool); 45] = [
     (Document, b"", b"", true),
     (Document, b"a", b"", false),
+    (Document, b"", b"x", false),
     (Element, b"a", b"", true),
     (Element, b"a:b-1.c", b"", true),
     (Element, b"\xC3\xA9", b"", true),
@@ -131,18 +132,28 @@ static PAIRS: [(Kind, &[u8], &[u8], bool); 30] = [
     (Element, b"-a", b"", false),
     (Element, b"a\xC3\x97", b"", false),
     (Element, b"a\xC3", b"", false),
+    (Element, b"a:b", b"", true),
+    (Element, b"a b", b"", false),
     (Attribute, b"a", b"", true),
     (Attribute, b"a", b"<\r\n", true),
     (Attribute, b"a", b"\x0c", false),
     (Attribute, b"a", b"\xEF\xBF\xBE", false),
+    (Attribute, b"xmlns", b"", true),
+    (Attribute, b"a", b"\t\r\n<&\"]]>", true),
+    (Attribute, b"a", b"\x01", false),
     (Text, b"", b"]]>", true),
     (Text, b"", b"", false),
     (Text, b"a", b"x", false),
+    (Text, b"", b"]]>\r", true),
+    (Text, b"", b"\xED\xA0\x80", false),
     (Comment, b"", b"", true),
     (Comment, b"", b"a - b", true),
     (Comment, b"", b"a--b", false),
     (Comment, b"", b"a-", false),
     (Comment, b"", b"a\rb", false),
+    (Comment, b"", b"- -", false),
+    (Comment, b"", b"- - ", true),
+    (Comment, b"", b"\r", false),
     (Instruction, b"a", b"", true),
     (Instruction, b"a", b"b ?", true),
     (Instruction, b"a", b"?>", false),
@@ -150,6 +161,10 @@ static PAIRS: [(Kind, &[u8], &[u8], bool); 30] = [
     (Instruction, b"a", b"b\r", false),
     (Instruction, b"xMl", b"", false),
     (Instruction, b"xml-a", b"", true),
+    (Instruction, b"a:b", b"? >?", true),
+    (Instruction, b"XML", b"", false),
+    (Instruction, b"a", b"\tb", false),
+    (Instruction, b"a", b"b?>", false),
 ];
 
 #[test]
@@ -159,22 +174,31 @@ fn names_and_values_are_told_apart(rt: HostRuntime) {
     }
 }
 
-// Bytes, and how many of them are the longest name at the front.
-static LENGTHS: [(&[u8], usize); 9] = [
-    (b"", 0),
-    (b"a", 1),
-    (b"ab c", 2),
-    (b"1a", 0),
-    (b"-a", 0),
-    (b"a:b-1.c>", 7),
-    (b"\xC3\xA9/x", 2),
-    (b"a\xC3\x97b", 1),
-    (b"a\xC3", 1),
+// Bytes, how many of them are the longest Name at the front, and whether they are one.
+static NAMES: [(&[u8], usize, bool); 14] = [
+    (b"", 0, false),
+    (b"a", 1, true),
+    (b":", 1, true),
+    (b"xml", 3, true),
+    (b"a:b.c-1\xC2\xB7", 9, true),
+    (b"\xC3\xA9\xE2\x80\x8C\xF0\x90\x80\x80", 9, true),
+    (b"a b", 1, false),
+    (b"a>", 1, false),
+    (b"1a", 0, false),
+    (b"-a", 0, false),
+    (b"\xC3\xA9/x", 2, false),
+    (b"a\xC3\x97b", 1, false),
+    (b"a\xC3", 1, false),
+    (b"\xF3\xB0\x80\x80", 0, false),
 ];
 
 #[test]
-fn longest_names_are_found(rt: HostRuntime) {
-    for (bytes, expected) in &LENGTHS {
-        assert_eq!(rt; name_length(bytes), *expected, "{bytes:?}");
+fn names_are_told_from_other_bytes(rt: HostRuntime) {
+    for &(bytes, length, expected) in &NAMES {
+        assert_eq!(rt;
+            (name_length(bytes), is_name(bytes)),
+            (length, expected),
+            "{bytes:?}"
+        );
     }
 }

@@ -281,13 +281,17 @@ impl Log {
 }
 
 impl TokenSink for Log {
-    ghost use Rattle.std.specs.Prelude.{Some};
+    ghost use Rattle.std.specs.Prelude.{Some, []};
 
     ghost State = { Unit {0} };
 
     ghost state = { λ _. tt };
 
     ghost step = { λ _ _. Some tt };
+
+    ghost IsReady = { λ _. Unit {0} };
+
+    ghost lenders = { λ _. [] };
 
     fn token(&mut self, found: Found<'_>) -> Result<(), Refused> {
         match self.write_token(&found) {
@@ -309,13 +313,17 @@ impl TokenSink for Log {
 struct Full;
 
 impl TokenSink for Full {
-    ghost use Rattle.std.specs.Prelude.{None};
+    ghost use Rattle.std.specs.Prelude.{None, []};
 
     ghost State = { Unit {0} };
 
     ghost state = { λ _. tt };
 
     ghost step = { λ _ _. None };
+
+    ghost IsReady = { λ _. Unit {0} };
+
+    ghost lenders = { λ _. [] };
 
     fn token(&mut self, _: Found<'_>) -> Result<(), Refused> {
         Err(Refused::Here)

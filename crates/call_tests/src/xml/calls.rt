@@ -1,6 +1,5 @@
 // The calls of documents, which are the same in pieces of any size.
-use super::pieces::{Log, read};
-use super::vectors::SIZES;
+use super::pieces::{Log, SIZES, read};
 use std::alloc::Global;
 use std::process::Abort;
 use std::test::Fail;
@@ -51,26 +50,15 @@ fn nothing_fed_is_bad_at_its_front(rt: HostRuntime) -> Result<(), Fail> {
     Ok(())
 }
 
-// What is fed one piece after another, and what each piece is answered: behind one that is refused, the same.
-static REFUSED: [(&[u8], Result<(), XmlError>); 4] = [
-    (b"<a>x</b", Ok(())),
-    (b">", Err(XmlError::Bad { at: 4 })),
-    (b"</a>", Err(XmlError::Bad { at: 4 })),
-    (b"", Err(XmlError::Bad { at: 4 })),
-];
-
 #[test]
 fn behind_bad_every_answer_is_the_same(rt: HostRuntime) -> Result<(), Fail> {
     let alloc = rt.alloc();
+    let bad = Err(XmlError::Bad { at: 4 });
     let mut reader = Reader::new(alloc)?;
     let mut builder = TreeBuilder::new(alloc);
-    for (piece, answer) in &REFUSED {
-        assert_eq!(rt;
-            reader.feed(alloc, piece, &mut builder),
-            *answer,
-            "{piece:?}"
-        );
-    }
-    assert_eq!(rt; reader.finish(), Err(XmlError::Bad { at: 4 }));
+    assert_eq!(rt; reader.feed(alloc, b"<a>x</b", &mut builder), Ok(()));
+    assert_eq!(rt; reader.feed(alloc, b">", &mut builder), bad);
+    assert_eq!(rt; reader.feed(alloc, b"</a>", &mut builder), bad);
+    assert_eq!(rt; reader.finish(), bad);
     Ok(())
 }

@@ -1,9 +1,12 @@
 // Bytes that are read in pieces, and the calls that come of them.
-ghost use Rattle.std.specs.Prelude.{◌≡◌, ◌+◌, ◌<◌, ◌^◌, length, true};
+ghost use Rattle.std.specs.Prelude.{◌≡◌, true};
 
 use plain_tree::Kind;
 use std::alloc::{AllocError, Global};
 use xml_profile::{Builder, Reader, XmlError};
+
+// The sizes of pieces that bytes are read in, in a run for each.
+pub(super) static SIZES: [usize; 5] = [1, 2, 3, 7, 1000];
 
 // Reads bytes in pieces of a size, at least one byte each.
 pub(super) fn read<B: Builder>(

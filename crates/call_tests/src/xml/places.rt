@@ -1,6 +1,5 @@
 // Where documents are bad that break off, and those with a byte that may stand nowhere.
-use super::pieces::read;
-use super::vectors::SIZES;
+use super::pieces::{SIZES, read};
 use std::alloc::{AllocError, Global};
 use std::process::Abort;
 use std::test::Fail;

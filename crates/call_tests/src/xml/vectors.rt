@@ -1,6 +1,7 @@
 // Files, and what comes of each where a script loads and saves it.
 ghost use Rattle.std.specs.Prelude.{◌≤◌};
 
+use super::pieces::SIZES;
 use crate::scripts::memory::shelf_of;
 use crate::scripts::{served, whole};
 use std::alloc::Global;
@@ -21,8 +22,6 @@ pub(super) enum Outcome {
 // What is shown, by a constraint's name, a production with its number or a section of XML 1.0 (fifth edition); the file; what
 // comes of it.
 pub(super) type Vector = (&'static str, &'static [u8], Outcome);
-
-pub(super) static SIZES: [usize; 5] = [1, 2, 3, 7, 1000];
 
 pub(super) fn assert_vectors(
     rt: &impl Abort,

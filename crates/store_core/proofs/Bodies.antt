@@ -1,10 +1,12 @@
 -- The body of a grammar's one rule, and the calls that its labels ask for.
-use Rattle.std.proofs.Common.{◌≡◌, ℕ, zero, suc, ◌+◌, ◌-◌, List, [], ◌∷◌, ◌++◌, length, take, drop, get_or, refl, ap, sym, ◌∙◌, append_assoc, append-nil, arith}
-use Rattle.std.proofs.lemmas.List.{length-map}
+use Rattle.std.proofs.Common.{◌≡◌, ℕ, zero, suc, true, false, ◌+◌, ◌-◌, List, [], ◌∷◌, ◌++◌, map, filter, length, take, drop, get_or, Some, None, slice_get, refl, ap, sym, ◌∙◌, append_assoc, append-nil, arith}
+use Rattle.std.proofs.lemmas.List.{length-map, map-append}
+use Rattle.std.proofs.lemmas.List.Elements.{filter-append}
 use Rattle.plain_tree.specs.declared.kind.Kind.{Kind}
-use Rattle.plain_tree.specs.declared.kind.Kind.TheVariants.{Document, Element}
+use Rattle.plain_tree.specs.declared.kind.Kind.TheVariants.{Document, Element, Attribute, Text, Comment, Instruction}
 use Rattle.plain_tree.specs.Tree.{Tree, node, Trees, none, more}
-use Rattle.plain_tree.specs.Documents.{AreElementTrees, IsDocument}
+use Rattle.plain_tree.specs.Numbers.{nodes_all, has_value, kind_of, value_of, values_of, texts, texts_all}
+use Rattle.plain_tree.specs.Lawful.{IsDocument}
 use Rattle.rule_arena.specs.declared.label.Label.{Label}
 use Rattle.rule_arena.specs.declared.label.Label.TheVariants.{Bottom, Symbol, Call, Param}
 use Rattle.rule_arena.specs.Preorder.{AreTerms}
@@ -16,13 +18,15 @@ use Rattle.slt_grammar.specs.Keyed.{rules_of}
 use Rattle.slt_grammar.specs.Coding.{Codes}
 use Rattle.slt_grammar.specs.declared.rules.Rule.{Rule}
 use Rattle.fcns_encoding.specs.Labels.{term_labels}
-use Rattle.xml_profile.specs.Pen.{calls_all, document_calls}
-use Rattle.xml_profile.specs.Saved.{saved_bytes}
-use Rattle.xml_profile.proofs.Written.{calls-save_document}
+use Rattle.xml_nodes.specs.Machine.{AreShaped}
+use Rattle.xml_nodes.specs.Pen.{Leaf as LeafCall, calls_all, document_calls}
+use Rattle.xml_nodes.specs.Saved.{saved_bytes}
+use Rattle.xml_nodes.proofs.Written.{calls-save_document}
 use Rattle.store_core.specs.Worlds.{Parts, PartsStandFor, AreLawfulParts}
 use Rattle.store_core.specs.StoreOf.{parts_of, start_text}
 use Rattle.store_core.specs.declared.store.Store.{Store}
-use Rattle.store_core.specs.Saving.{body_calls, body_text}
+use Rattle.store_core.specs.Saving.{Place, start_place, begin_call, end_call, texts_past, body_calls, body_text}
+use Rattle.store_core.proofs.Shapes.{document_kids_shaped}
 
 -- the labels of terms, one after another
 abbrev pub labels_all : List Term → List Label
@@ -69,34 +73,81 @@ body-labels (R ∷ []) one is =
     only_labels (meanings term_algebra (R.rank ∷ []) [] (holes 0 R.rank) R.body []) R.body m.0 m.1
 body-labels (R ∷ S ∷ G) one is = absurd (omega arith)
 
+values_of-append : (xs ys : List Tree) → values_of (xs ++ ys) ≡ values_of xs ++ values_of ys
+values_of-append xs ys = ap (map value_of) (filter-append (λ s. has_value (kind_of s)) xs ys) ∙ map-append value_of (filter (λ s. has_value (kind_of s)) xs) (filter (λ s. has_value (kind_of s)) ys)
+
+-- the texts of an element, of those behind it, and the others
+texts-element : (n v : List ℕ) (ks ts : Trees) (texts : List (List ℕ)) → texts_all (more (node Element n v ks) ts) ++ texts ≡ texts_all ks ++ (texts_all ts ++ texts)
+texts-element n v ks ts texts = ap (λ xs. xs ++ texts) (values_of-append (nodes_all ks) (nodes_all ts)) ∙ append_assoc (texts_all ks) (texts_all ts) texts
+
+-- and of a node that is written whole
+texts-leaf : (k : Kind) (n v : List ℕ) (ks ts : Trees) (texts : List (List ℕ)) → has_value k ≡ true → ks ≡ none → texts_all (more (node k n v ks) ts) ++ texts ≡ v ∷ (texts_all ts ++ texts)
+texts-leaf k n v ks ts texts valued no_kids = rw (no_kids, valued) refl
+
+abbrev place : List ℕ → List (List ℕ) → Place
+place outer texts = record { outer = outer; texts = texts }
+
 module _ (names : List (Kind × List ℕ)) where
-  -- the labels of a coded list of elements ask for their calls, and the bottom behind them for what it asked for before
-  coded_calls : (ts : Trees) (term : Term) (outer : List ℕ) (rest : List Label) → Codes names ts term → AreElementTrees ts
-      → body_calls names outer (term_labels term ++ rest) ≡ calls_all ts (body_calls names outer (Bottom ∷ rest))
-  coded_calls none term outer rest code are = rw code refl
-  coded_calls (more (node Element n v ks) ts) term outer rest code are =
+  -- what the labels of a coded list of trees ask for: the trees' calls, and then what the bottom behind them asked for before
+  abbrev AskFor : Trees → Term → List ℕ → List (List ℕ) → List Label → Type 0
+  AskFor ts term outer texts rest = body_calls names (place outer (texts_all ts ++ texts)) (term_labels term ++ rest) ≡ calls_all ts (body_calls names (place outer texts) (Bottom ∷ rest))
+
+  -- a node that is written whole
+  leaf_calls :
+      (k : Kind) (n v : List ℕ) (ts : Trees) (f : ℕ) (behind : Term) (outer : List ℕ) (texts : List (List ℕ)) (rest : List Label) → slice_get names f ≡ Some (k, n)
+      → begin_call (Some (k, n)) (v ∷ (texts_all ts ++ texts)) ≡ Some (LeafCall k n v) → texts_past (Some (k, n)) (v ∷ (texts_all ts ++ texts)) ≡ texts_all ts ++ texts → end_call (Some (k, n)) ≡ None
+      → AskFor ts behind outer texts rest
+      → body_calls names (place outer (v ∷ (texts_all ts ++ texts))) (Symbol f ∷ Bottom ∷ (term_labels behind ++ rest))
+      ≡ LeafCall k n v ∷ calls_all ts (body_calls names (place outer texts) (Bottom ∷ rest))
+  leaf_calls k n v ts f behind outer texts rest named begins past ends others =
+      rw (named, begins, past, ends, others) refl
+
+  -- its code has a bottom for its kids
+  whole_labels : (k : Kind) (n v : List ℕ) (ks ts : Trees) (term : Term) → (code : Codes names (more (node k n v ks) ts) term) → ks ≡ none
+      → term_labels term ≡ Symbol code.0 ∷ Bottom ∷ term_labels code.2
+  whole_labels k n v ks ts term code no_kids =
+      let below : Codes names none code.1 = rw no_kids at code.4 in
+      rw (code.6, below) refl
+
+  -- the labels of a coded list of trees ask for their calls, and the bottom behind them for what it asked for before
+  coded_calls : (ts : Trees) (term : Term) (outer : List ℕ) (texts : List (List ℕ)) (rest : List Label) → Codes names ts term → AreShaped ts → AskFor ts term outer texts rest
+  coded_calls none term outer texts rest code are = rw code refl
+  coded_calls (more (node Element n v ks) ts) term outer texts rest code are =
       let f = code.0 in
       let below = code.1 in
       let behind = code.2 in
-      let kids = coded_calls ks below (f ∷ outer) (term_labels behind ++ rest) code.4 are.0.3 in
-      let others = coded_calls ts behind outer rest code.5 are.1 in
-      rw (code.6, code.3, append_assoc (term_labels below) (term_labels behind) rest, kids, code.3, others) refl
-  coded_calls (more (node _ n v ks) ts) term outer rest code are = cc
+      let kids = coded_calls ks below (f ∷ outer) (texts_all ts ++ texts) (term_labels behind ++ rest) code.4 are.0.1 in
+      let others = coded_calls ts behind outer texts rest code.5 are.1 in
+      rw (code.6, texts-element n v ks ts texts, code.3, append_assoc (term_labels below) (term_labels behind) rest, kids, code.3, others) refl
+  coded_calls (more (node Document n v ks) ts) term outer texts rest code are = absurd are.0
+  coded_calls (more (node Attribute n v ks) ts) term outer texts rest code are =
+      let others = coded_calls ts code.2 outer texts rest code.5 are.1 in
+      rw (whole_labels Attribute n v ks ts term code are.0, texts-leaf Attribute n v ks ts texts refl are.0) (leaf_calls Attribute n v ts code.0 code.2 outer texts rest code.3 refl refl refl others)
+  coded_calls (more (node Text n v ks) ts) term outer texts rest code are =
+      let others = coded_calls ts code.2 outer texts rest code.5 are.1 in
+      rw (whole_labels Text n v ks ts term code are.0, texts-leaf Text n v ks ts texts refl are.0) (leaf_calls Text n v ts code.0 code.2 outer texts rest code.3 refl refl refl others)
+  coded_calls (more (node Comment n v ks) ts) term outer texts rest code are =
+      let others = coded_calls ts code.2 outer texts rest code.5 are.1 in
+      rw (whole_labels Comment n v ks ts term code are.0, texts-leaf Comment n v ks ts texts refl are.0) (leaf_calls Comment n v ts code.0 code.2 outer texts rest code.3 refl refl refl others)
+  coded_calls (more (node Instruction n v ks) ts) term outer texts rest code are =
+      let others = coded_calls ts code.2 outer texts rest code.5 are.1 in
+      rw (whole_labels Instruction n v ks ts term code are.0, texts-leaf Instruction n v ks ts texts refl are.0) (leaf_calls Instruction n v ts code.0 code.2 outer texts rest code.3 refl refl refl others)
 
   -- the labels of a document's code ask for the document's calls
-  document_code : (t : Tree) (term : Term) → IsDocument t → Codes names (more t none) term → body_calls names [] (term_labels term) ≡ document_calls t
-  document_code t term is code =
-      let whole : Codes names (more (node Document [] [] (more is.root none)) none) term = rw is.is at code in
-      let f = whole.0 in
-      let below = whole.1 in
-      let kids = coded_calls (more is.root none) below (f ∷ []) (Bottom ∷ []) whole.4 (is.element, tt) in
-      rw (is.is, whole.6, whole.3, whole.5, kids, whole.3) refl
+  document_code : (t : Tree) (term : Term) → IsDocument t → Codes names (more t none) term → body_calls names (start_place (texts t)) (term_labels term) ≡ document_calls t
+  document_code (node Document n v ks) term is code =
+      let f = code.0 in
+      let below = code.1 in
+      let kids = coded_calls ks below (f ∷ []) [] (Bottom ∷ []) code.4 (document_kids_shaped ks false is.lawful.1 is.lawful.2) in
+      let all : texts (node Document n v ks) ≡ texts_all ks ++ [] = sym (append-nil (texts_all ks)) in
+      rw (all, code.6, code.3, code.5, kids, code.3) refl
+  document_code (node _ n v ks) term is code = cc
 
 -- what is written of the one rule's body is the document's saved bytes
 pub body_saves : (parts : Parts) (t : Tree) → length parts.rules ≡ 1 → IsGrammar parts.rules → PartsStandFor parts t
-    → body_text parts.names (body_at parts.rules (length parts.rules - 1)) ≡ saved_bytes t
+    → body_text parts.names parts.texts (body_at parts.rules (length parts.rules - 1)) ≡ saved_bytes t
 body_saves parts t one is stand =
-    rw (body-labels parts.rules one is, document_code parts.names t (value parts.rules) stand.document stand.code) (calls-save_document t)
+    rw (body-labels parts.rules one is, stand.texts, document_code parts.names t (value parts.rules) stand.document stand.code) (calls-save_document t)
 
 -- and so is what is written of a store's start
 pub start_saves : (s : Store) → (held : AreLawfulParts (parts_of s)) → (t : Tree) → PartsStandFor (parts_of s) t → start_text s ≡ saved_bytes t

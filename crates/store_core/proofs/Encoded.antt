@@ -2,7 +2,7 @@
 use Rattle.std.proofs.Common.{◌≡◌, List, [], refl, inl, inr, arith}
 use Rattle.plain_tree.specs.Tree.{Tree, none, more}
 use Rattle.plain_tree.specs.Numbers.{texts}
-use Rattle.plain_tree.specs.Documents.{IsDocument}
+use Rattle.plain_tree.specs.Lawful.{IsDocument}
 use Rattle.slt_grammar.specs.Terms.{Term}
 use Rattle.slt_grammar.specs.Coding.{Codes}
 use Rattle.slt_grammar.specs.Grammars.{IsGrammar, IsSwept}

@@ -8,11 +8,12 @@ use Rattle.tree_outside.specs.Shelf.{Becomes, file_opened}
 use Rattle.store_core.specs.Acts.{Load}
 use Rattle.store_core.specs.Worlds.{State, World, HasFile, HasNoFile, world}
 use Rattle.store_core.specs.Refusals.{IsReady, IsInput, Cause}
-use Rattle.store_core.specs.Stopping.{StopsReading, refusal_of}
-use Rattle.plain_tree.specs.Tree.{Tree}
-use Rattle.xml_profile.specs.Spelling.{Spells}
-use Rattle.xml_profile.specs.declared.reader.XmlError.{XmlError}
-use Rattle.xml_profile.specs.declared.reader.XmlError.TheVariants as xml
+use Rattle.store_core.specs.Feeding.{HasLeft, ReadsDocument}
+use Rattle.store_core.specs.Machine.{HoldsDocument}
+use Rattle.store_core.specs.Stopping.{StopsReading}
+use Rattle.plain_tree.specs.Tree.{Tree, node_count}
+use Rattle.plain_tree.specs.Lawful.{IsDocument}
+use Rattle.xml_nodes.proofs.Bytes.{spells-document}
 use Rattle.store_core.specs.declared.answer.Refusal.{Refusal}
 use Rattle.store_core.specs.declared.answer.Refusal.TheVariants as no
 
@@ -65,7 +66,31 @@ long_file (Some t) opening name state count finds opens left =
     let bytes = unwrap_or (get t.files name) [] in
     (bytes, record { name = name; reads = refl; file = is_value (get t.files name) bytes finds refl }, subst P opens left)
 
--- a file that was found and is not read to its end is a cause to refuse the loading
+-- what was left of the file that was opened are its bytes
+pub found_file : (old opening : Option Told) (name : List ℕ) (state : State) (count : ℕ) (bytes : List ℕ) → Finds old name true → Becomes old opening (file_opened name)
+    → HasLeft opening bytes → HasFile (world state old count) name bytes
+found_file None opening name state count bytes finds opens left = tt
+found_file (Some t) opening name state count bytes finds opens left =
+    let P : Option Told → Type 0 = λ o. IfSome o (λ t. t.left ≡ bytes) in
+    is_value (get t.files name) bytes finds (subst P opens left.whole)
+
+-- the document that was read of an opened file is the one that it holds
+pub holds_document : (old opening : Option Told) (name : List ℕ) (state : State) (count : ℕ) (document : Tree) → Finds old name true → Becomes old opening (file_opened name)
+    → ReadsDocument opening document → HoldsDocument name (world state old count) document
+holds_document old opening name state count document finds opens reads = record {
+  bytes = reads.bytes;
+  file = found_file old opening name state count reads.bytes finds opens reads.left;
+  short = reads.left.short;
+  spelled = reads.spelled;
+}
+
+-- it is lawful, and has few nodes
+pub read_lawful : (told : Option Told) (document : Tree) → ReadsDocument told document → IsDocument document × (node_count document < 2 ^ 30)
+read_lawful told document reads =
+    let lawful = spells-document reads.bytes document reads.spelled in
+    (lawful.0, omega (arith, lawful.1, reads.left.short))
+
+-- what stops the reading of a file that was found is a cause to refuse the loading
 pub stops_loading :
     (refusal : Refusal) (old opening : Option Told) (name : List ℕ) (state : State) (count before now : ℕ) (new : World) → Finds old name true → Becomes old opening (file_opened name)
     → count ≤ before → now ≤ new.count → StopsReading refusal opening before now → Cause refusal (Load name) (world state old count) new
@@ -74,12 +99,6 @@ stops_loading no.ReadFault old opening name state count before now new finds ope
 stops_loading no.NoFile old opening name state count before now new finds opens b n stops = absurd stops
 stops_loading no.WriteFault old opening name state count before now new finds opens b n stops = absurd stops
 stops_loading no.LongFile old opening name state count before now new finds opens b n stops = long_file old opening name state count finds opens stops
-stops_loading no.BadXml old opening name state count before now new finds opens b n stops = absurd stops
+stops_loading (no.BadXml at) old opening name state count before now new finds opens b n (bytes, left, bad) =
+    (bytes, record { name = name; reads = refl; file = found_file old opening name state count bytes finds opens left }, left.short, bad)
 stops_loading no.Memory old opening name state count before now new finds opens b n stops = found_to_load old name state count finds
-
--- bytes that were read, of which no document was made, are a cause to refuse the loading
-pub unread_document :
-    (error : XmlError) (old new : World) (name bytes : List ℕ) → HasFile old name bytes → length bytes < 2 ^ 30
-    → (error ≡ xml.Bad → (tree : Tree) → Spells bytes tree → ⊥) → Cause (refusal_of error) (Load name) old new
-unread_document xml.Bad old new name bytes has short bad = (bytes, record { name = name; reads = refl; file = has }, short, bad refl)
-unread_document xml.Memory old new name bytes has short bad = ready_to_load old name bytes has

@@ -1,6 +1,8 @@
 pub mod Acts
 pub mod CommandOf
+pub mod Feeding
 pub mod Machine
+pub mod Making
 pub mod Refusals
 pub mod Saving
 pub mod Stopping

@@ -3,8 +3,8 @@ use Rattle.std.specs.Prelude.{◌≡◌, ◌≤◌, ◌<◌, ◌⊎◌, ◌^◌,
 use Rattle.std.specs.FinMap.{insert}
 use Rattle.tree_outside.specs.Outside.{Stays}
 use Rattle.plain_tree.specs.Tree.{Tree, node_count}
-use Rattle.xml_profile.specs.Spelling.{Spells}
-use Rattle.xml_profile.specs.Saved.{saved_bytes}
+use Rattle.xml_nodes.specs.Spelling.{Spells}
+use Rattle.xml_nodes.specs.Saved.{saved_bytes}
 use Rattle.slt_grammar.specs.Grammars.{size}
 use Rattle.fcns_encoding.specs.Interning.{Interns, pairs_of_tree}
 use Rattle.grammar_file.specs.FileBytes.{file_bytes}
@@ -22,14 +22,18 @@ pub record Encodes (tree : Tree) (parts : Parts) : Type 0 where
   pub names : Interns [] (pairs_of_tree tree) parts.names
   pub one : length parts.rules ≡ 1
 
--- the document is the one that the file's bytes spell
-pub record Loads (name : List ℕ) (old : World) (out : List ℕ) (new : World) : Type 0 where
+-- the document is the one that the file's bytes, fewer than 2^30, spell
+pub record HoldsDocument (name : List ℕ) (w : World) (tree : Tree) : Type 0 where
   pub bytes : List ℕ
-  pub tree : Tree
-  pub parts : Parts
-  pub file : HasFile old name bytes
+  pub file : HasFile w name bytes
   pub short : length bytes < 2 ^ 30
   pub spelled : Spells bytes tree
+
+-- the document becomes that of the file
+pub record Loads (name : List ℕ) (old : World) (out : List ℕ) (new : World) : Type 0 where
+  pub tree : Tree
+  pub parts : Parts
+  pub held : HoldsDocument name old tree
   pub encoded : Encodes tree parts
   pub state : new.state ≡ Some parts
   pub files : Stays old.files new.files

@@ -1,8 +1,7 @@
 -- Refusals and their causes, in the order in which they are tried: each yields to those above it.
 use Rattle.std.specs.Prelude.{◌≡◌, ◌≤◌, ◌<◌, ◌^◌, ℕ, List, length, IsTrue, Some, IsSome, IsNone}
 use Rattle.tree_outside.specs.Outside.{Rose}
-use Rattle.plain_tree.specs.Tree.{Tree}
-use Rattle.xml_profile.specs.Spelling.{Spells}
+use Rattle.xml_profile.specs.Reading.{IsBad}
 use Rattle.store_core.specs.Acts.{Act, needs_document, file_read, writes_file}
 use Rattle.store_core.specs.Worlds.{World, HasFile, HasNoFile}
 use Rattle.store_core.specs.declared.answer.Refusal.{Refusal}
@@ -25,5 +24,5 @@ Cause no.ReadFault act old new = IsSome (file_read act) × Rose old.count new.co
 Cause no.NoFile act old new = (name : List ℕ) × (file_read act ≡ Some name) × HasNoFile old name
 Cause no.WriteFault act old new = IsTrue (writes_file act) × IsReady act old × Rose old.count new.count
 Cause no.LongFile act old new = (bytes : List ℕ) × IsInput act old bytes × (2 ^ 30 ≤ length bytes)
-Cause no.BadXml act old new = (bytes : List ℕ) × IsInput act old bytes × (length bytes < 2 ^ 30) × ((tree : Tree) → Spells bytes tree → ⊥)
+Cause (no.BadXml at) act old new = (bytes : List ℕ) × IsInput act old bytes × (length bytes < 2 ^ 30) × IsBad bytes at
 Cause no.Memory act old new = IsReady act old

@@ -1,45 +1,61 @@
 -- The calls of a writer that the labels of a body ask for.
-use Rattle.std.specs.Prelude.{ℕ, ◌+◌, true, List, [], ◌∷◌, drop, length, Option, Some, None, slice_get}
-use Rattle.std.specs.Option.{option_map, option_map_or}
+use Rattle.std.specs.Prelude.{ℕ, ◌+◌, ◌^◌, true, List, [], ◌∷◌, drop, length, Option, Some, None, slice_get, if◌then◌else◌}
+use Rattle.std.specs.Option.{option_map, option_and_then}
 use Rattle.tree_outside.specs.ByteCounts.{counted}
 use Rattle.plain_tree.specs.declared.kind.Kind.{Kind}
 use Rattle.plain_tree.specs.declared.kind.Kind.TheVariants.{Document, Element, Attribute, Text, Comment, Instruction}
+use Rattle.plain_tree.specs.Numbers.{has_value}
 use Rattle.rule_arena.specs.declared.label.Label.{Label}
 use Rattle.rule_arena.specs.declared.label.Label.TheVariants.{Bottom, Symbol, Call as CallOf, Param}
-use Rattle.xml_profile.specs.Pen.{Call, Open, Close, Pen, call_text, pen_after, new_pen, calls_text}
+use Rattle.xml_nodes.specs.Pen.{Call, Open, Leaf, Close, Pen, call_text, pen_after, new_pen, calls_text}
 
--- the name of an element; no other kind of node is written, as yet
-abbrev pub element_name : Option (Kind × List ℕ) → Option (List ℕ)
-element_name None = None
-element_name (Some (Document, name)) = None
-element_name (Some (Element, name)) = Some name
-element_name (Some (Attribute, name)) = None
-element_name (Some (Text, name)) = None
-element_name (Some (Comment, name)) = None
-element_name (Some (Instruction, name)) = None
+-- a kind and a name, where a symbol has one
+abbrev pub Named : Type 0
+Named = Option (Kind × List ℕ)
 
--- the name of the element that a symbol stands for
-abbrev pub name_of : List (Kind × List ℕ) → ℕ → Option (List ℕ)
-name_of names symbol = element_name (slice_get names symbol)
+-- where a walk along a body stands: the symbols of the nodes whose kids are not at their end, the innermost first, and the texts
+-- that are left
+pub record Place : Type 0 where
+  pub outer : List ℕ
+  pub texts : List (List ℕ)
 
--- the symbols of the nodes whose kids are not at their end, the innermost first, behind one label more
-abbrev pub open_after : List ℕ → Label → List ℕ
-open_after outer Bottom = drop 1 outer
-open_after outer (Symbol f) = f ∷ outer
-open_after outer (CallOf q) = outer
-open_after outer Param = outer
+-- before the first label
+abbrev pub start_place : List (List ℕ) → Place
+start_place texts = record { outer = []; texts = texts }
 
--- the end of the innermost node
-abbrev pub end_call : List (Kind × List ℕ) → List ℕ → Option Call
-end_call names [] = None
-end_call names (f ∷ outer) = option_map Close (name_of names f)
+-- the call that begins a node: an element is opened, any other is written whole, with the next text
+abbrev pub begin_call : Named → List (List ℕ) → Option Call
+begin_call None texts = None
+begin_call (Some (Document, name)) texts = None
+begin_call (Some (Element, name)) texts = Some (Open name)
+begin_call (Some (Attribute, name)) texts = option_map (Leaf Attribute name) (slice_get texts 0)
+begin_call (Some (Text, name)) texts = option_map (Leaf Text name) (slice_get texts 0)
+begin_call (Some (Comment, name)) texts = option_map (Leaf Comment name) (slice_get texts 0)
+begin_call (Some (Instruction, name)) texts = option_map (Leaf Instruction name) (slice_get texts 0)
+
+-- the texts that are left behind it
+abbrev pub texts_past : Named → List (List ℕ) → List (List ℕ)
+texts_past None texts = texts
+texts_past (Some (kind, name)) texts = if has_value kind then drop 1 texts else texts
+
+-- the call that ends a node: an element is closed
+abbrev pub end_call : Named → Option Call
+end_call (Some (Element, name)) = Some (Close name)
+end_call named = None
 
 -- the call for a label, if one
-abbrev pub call_at : List (Kind × List ℕ) → List ℕ → Label → Option Call
-call_at names outer Bottom = end_call names outer
-call_at names outer (Symbol f) = option_map Open (name_of names f)
-call_at names outer (CallOf q) = None
-call_at names outer Param = None
+abbrev pub call_at : List (Kind × List ℕ) → Place → Label → Option Call
+call_at names place Bottom = option_and_then (λ f. end_call (slice_get names f)) (slice_get place.outer 0)
+call_at names place (Symbol f) = begin_call (slice_get names f) place.texts
+call_at names place (CallOf q) = None
+call_at names place Param = None
+
+-- one label further
+abbrev pub place_after : List (Kind × List ℕ) → Place → Label → Place
+place_after names place Bottom = record { outer = drop 1 place.outer; texts = place.texts }
+place_after names place (Symbol f) = record { outer = f ∷ place.outer; texts = texts_past (slice_get names f) place.texts }
+place_after names place (CallOf q) = place
+place_after names place Param = place
 
 -- the call, if there is one, and then the others
 abbrev pub with_call : Option Call → List Call → List Call
@@ -47,23 +63,35 @@ with_call None cs = cs
 with_call (Some c) cs = c ∷ cs
 
 -- the calls for labels in preorder
-abbrev pub body_calls : List (Kind × List ℕ) → List ℕ → List Label → List Call
-body_calls names outer [] = []
-body_calls names outer (l ∷ ls) = with_call (call_at names outer l) (body_calls names (open_after outer l) ls)
+abbrev pub body_calls : List (Kind × List ℕ) → Place → List Label → List Call
+body_calls names place [] = []
+body_calls names place (l ∷ ls) = with_call (call_at names place l) (body_calls names (place_after names place l) ls)
 
--- what is written of a body
-abbrev pub body_text : List (Kind × List ℕ) → List Label → List ℕ
-body_text names body = calls_text (new_pen true) (body_calls names [] body)
+-- what is written of a body, with these texts
+abbrev pub body_text : List (Kind × List ℕ) → List (List ℕ) → List Label → List ℕ
+body_text names texts body = calls_text (new_pen true) (body_calls names (start_place texts) body)
+
+-- 1 for an element
+abbrev pub element_count : Named → ℕ
+element_count (Some (Element, name)) = 1
+element_count named = 0
 
 -- how many of the symbols are elements
 abbrev pub depth_of : List (Kind × List ℕ) → List ℕ → ℕ
 depth_of names [] = 0
-depth_of names (f ∷ outer) = option_map_or (λ _. 1) (name_of names f) 0 + depth_of names outer
+depth_of names (f ∷ outer) = element_count (slice_get names f) + depth_of names outer
 
 -- what a call writes, if there is one
 abbrev pub text_at : Pen → Option Call → List ℕ
 text_at pen None = []
 text_at pen (Some call) = call_text pen call
+
+-- at most so many bytes are that
+abbrev pub most_text : Option Call → ℕ
+most_text None = 0
+most_text (Some (Open name)) = 2 ^ 64
+most_text (Some (Close name)) = 2 ^ 64
+most_text (Some (Leaf kind name value)) = 2 ^ 66
 
 -- the pen after it
 abbrev pub pen_past : Pen → Option Call → Pen

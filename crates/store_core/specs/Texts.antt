@@ -18,7 +18,7 @@ refusal_line no.ReadFault = codes "! read-fault\n"
 refusal_line no.NoFile = codes "! no-file\n"
 refusal_line no.WriteFault = codes "! write-fault\n"
 refusal_line no.LongFile = codes "! long-file\n"
-refusal_line no.BadXml = codes "! bad-xml\n"
+refusal_line (no.BadXml at) = codes "! bad-xml " ++ decimal at ++ codes "\n"
 refusal_line no.Memory = codes "! memory\n"
 
 -- the line of what a command came to

@@ -34,7 +34,8 @@ pub enum Refusal {
     NoFile,
     WriteFault,
     LongFile,
-    BadXml,
+    /// The place, from 0 on, where the file's bytes go wrong.
+    BadXml { at: u64 },
     Memory,
 }
 
@@ -57,7 +58,7 @@ impl From<XmlError> for Refusal {
 
     fn from(error: XmlError) -> Refusal {
         match error {
-            XmlError::Bad => Refusal::BadXml,
+            XmlError::Bad { at } => Refusal::BadXml { at },
             XmlError::Memory => Refusal::Memory,
         }
     }
@@ -76,21 +77,23 @@ pub(crate) fn write_line<K: Sink>(
         Ok(Answer::Nodes(count)) => write_count(b"ok nodes ", count, sink),
         Ok(Answer::Bytes(count)) => write_count(b"ok bytes ", count, sink),
         Ok(Answer::Grammar { rules, size, bytes }) => write_grammar(rules, size, bytes, sink),
-        Err(refusal) => sink.write(refusal_text(refusal)),
+        Err(refusal) => write_refusal(refusal, sink),
     }
 }
 
-fn refusal_text(refusal: Refusal) -> &'static [u8]
-    ensures { result.now ≡ refusal_line refusal }
+fn write_refusal<K: Sink>(refusal: Refusal, sink: &mut K) -> Result<(), Failed>
+    ensures content { Writes (K.got sink.old) (K.got sink.new) result (refusal_line refusal) }
+    ensures kept { Keeps (K.kept sink.old) (K.kept sink.new) }
+    ensures cause { HasCause (K.faults sink.old) (K.faults sink.new) result }
 {
     match refusal {
-        Refusal::NoDocument => b"! no-document\n",
-        Refusal::ReadFault => b"! read-fault\n",
-        Refusal::NoFile => b"! no-file\n",
-        Refusal::WriteFault => b"! write-fault\n",
-        Refusal::LongFile => b"! long-file\n",
-        Refusal::BadXml => b"! bad-xml\n",
-        Refusal::Memory => b"! memory\n",
+        Refusal::NoDocument => sink.write(b"! no-document\n"),
+        Refusal::ReadFault => sink.write(b"! read-fault\n"),
+        Refusal::NoFile => sink.write(b"! no-file\n"),
+        Refusal::WriteFault => sink.write(b"! write-fault\n"),
+        Refusal::LongFile => sink.write(b"! long-file\n"),
+        Refusal::BadXml { at } => write_count(b"! bad-xml ", at, sink),
+        Refusal::Memory => sink.write(b"! memory\n"),
     }
 }
 

@@ -8,6 +8,7 @@
 mod answer;
 mod command;
 mod loading;
+mod reading;
 mod saving;
 mod session;
 mod store;

@@ -1,5 +1,5 @@
 // Writing a document, or what is held of it, to the shelf.
-ghost use Rattle.std.specs.Prelude.{◌≡◌, ◌≤◌, Ok, Err, Some, IfOk, IfErr, OnOk, OnErr, MatchResult, length};
+ghost use Rattle.std.specs.Prelude.{◌≡◌, ◌≤◌, Some, IfOk, IfErr, OnOk, OnErr, length};
 ghost use Rattle.tree_outside.specs.Outside.{Gets, Stays};
 ghost use Rattle.tree_outside.specs.Shelf.{beside_of, pending_bytes};
 ghost use Rattle.slt_grammar.specs.Keyed.{rules_of};
@@ -14,12 +14,12 @@ ghost use Rattle.store_core.specs.Texts.{answer_line};
 
 use crate::answer::{Answer, Refusal};
 use crate::store::Store;
-use crate::writing::write_document;
+use crate::writing::{write_document, written};
 use grammar_file::WriteError;
 use read_steps::Steps;
 use std::alloc::Global;
 use std::sync::ledger::Ledger;
-use tree_outside::{Failed, Pending, Shelf};
+use tree_outside::{Pending, Shelf};
 
 /// Writes the document to the file with this name, and answers how many bytes that were.
 pub(crate) fn save_document<F: Shelf, L: Ledger>(
@@ -97,11 +97,4 @@ fn write_grammar<F: Shelf>(store: &Store, shelf: &mut F) -> Result<u128, Refusal
         Err(WriteError::Failed) => Err(Refusal::WriteFault),
         Err(WriteError::Memory) => Err(Refusal::Memory),
     }
-}
-
-// A call of the shelf that failed is a refusal.
-fn written(call: Result<(), Failed>) -> Result<(), Refusal>
-    ensures { MatchResult call (λ _. result ≡ Ok tt) (λ _. result ≡ Err Refusal.WriteFault) }
-{
-    call.map_err(|_| Refusal::WriteFault)
 }

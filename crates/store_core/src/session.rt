@@ -12,10 +12,12 @@ use read_steps::Steps;
 use std::alloc::Global;
 use std::marker::Model;
 use std::sync::ledger::Ledger;
+use thiserror::Error;
 use tree_outside::{Failed, Shelf, Sink};
 
 /// The sink failed while it got the text of a command.
-#[derive(Clone, Copy, Debug, PartialEq, Eq)]
+#[derive(Clone, Copy, Debug, PartialEq, Eq, Drop, Error)]
+#[error("the sink failed")]
 pub struct SinkFailed;
 
 impl From<Failed> for SinkFailed {

@@ -1,5 +1,5 @@
 use Rattle.std.proofs.Common.{rules, ◌≡◌, length, ap, refl, ◌∙◌}
-use Rattle.xml_profile.specs.Saved.{saved_bytes}
+use Rattle.xml_nodes.specs.Saved.{saved_bytes}
 use Rattle.store_core.specs.Texts.{answer_line}
 use Rattle.store_core.specs.StoreOf.{parts_of, start_text}
 use Rattle.store_core.specs.declared.answer.Answer.TheVariants.{Bytes}

@@ -1,0 +1,64 @@
+// Reading the document in the open file, piece by piece.
+ghost use Rattle.std.specs.Prelude.{◌≡◌, ◌≤◌, [], IfOk, IfErr, OnOk};
+ghost use Rattle.tree_outside.specs.Outside.{Stays};
+ghost use Rattle.plain_tree.specs.NodeTree.{tree_of};
+ghost use Rattle.store_core.specs.Worlds.{told_files};
+ghost use Rattle.store_core.specs.Feeding.{HasFed, FeedsFile, ReadsDocument};
+ghost use Rattle.store_core.specs.Stopping.{StopsReading};
+
+use crate::answer::Refusal;
+use plain_tree::Node;
+use std::alloc::Global;
+use tree_outside::{Failed, Shelf};
+use xml_profile::{Reader, TreeBuilder, XmlError};
+
+/// A file must have fewer bytes than this.
+const FILE_LIMIT: usize = 1 << 30;
+
+/// How many bytes of a file are read at once.
+const PIECE: usize = 1 << 16;
+
+/// The document that the open file spells.
+pub(crate) fn read_document<F: Shelf>(alloc: Global, shelf: &mut F) -> Result<Node, Refusal>
+    ensures later { F.faults shelf.old ≤ F.faults shelf.new }
+    ensures files { Stays (told_files (F.told shelf.old)) (told_files (F.told shelf.new)) }
+    ensures document { IfOk result (λ document. ReadsDocument (F.told shelf.old) (tree_of document)) }
+    ensures refused { IfErr result (λ refusal. StopsReading refusal (F.told shelf.old) (F.faults shelf.old) (F.faults shelf.new)) }
+{
+    let mut reader = Reader::new(alloc)?;
+    let mut builder = TreeBuilder::new(alloc);
+    feed_file(alloc, shelf, &mut reader, &mut builder)?;
+    reader.finish()?;
+    Ok(builder.document()?)
+}
+
+// Feeds the open file to the reader, to the file's end, to the limit or to a fault. Bytes that go wrong don't end it, since
+// a fault or the limit is told before them: the reader tells them again when it is finished.
+fn feed_file<F: Shelf>(
+    alloc: Global,
+    shelf: &mut F,
+    reader: &mut Reader,
+    builder: &mut TreeBuilder,
+) -> Result<(), Refusal>
+    requires { HasFed reader.old builder.old [] }
+    ensures later { F.faults shelf.old ≤ F.faults shelf.new }
+    ensures files { Stays (told_files (F.told shelf.old)) (told_files (F.told shelf.new)) }
+    ensures feeds { OnOk result (FeedsFile (F.told shelf.old) reader.new builder.new) }
+    ensures refused { IfErr result (λ refusal. StopsReading refusal (F.told shelf.old) (F.faults shelf.old) (F.faults shelf.new)) }
+{
+    let mut piece = Vec::new(alloc);
+    piece.resize(PIECE, 0)?;
+    let mut fed = 0;
+    while fed < FILE_LIMIT {
+        let count = match shelf.read(&mut piece) {
+            Err(Failed) => return Err(Refusal::ReadFault),
+            Ok(0) => return Ok(()),
+            Ok(count) => count,
+        };
+        if let Err(XmlError::Memory) = reader.feed(alloc, &piece[..count], builder) {
+            return Err(Refusal::Memory);
+        }
+        fed += count;
+    }
+    Err(Refusal::LongFile)
+}

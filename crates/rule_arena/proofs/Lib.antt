@@ -20,3 +20,14 @@ pub mod FreeLemmas
 pub mod CutLemmas
 pub mod Rises
 pub mod Climbs
+pub mod Puts
+pub mod Holes
+pub mod PutLemmas
+pub mod Families
+pub mod PutWrites
+pub mod TakenOut
+pub mod Detached
+pub mod Dissolved
+pub mod ChildLemmas
+pub mod Merging
+pub mod TakingLaws

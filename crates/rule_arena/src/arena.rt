@@ -1,5 +1,5 @@
 // The arena: linked nodes in slots, seen as terms in preorder.
-ghost use Rattle.std.specs.Prelude.{◌≡◌, ◌≢◌, ◌+◌, ◌^◌, ◌<◌, ◌≤◌, ℕ, None, Some, length, OnOk, IsOk, List, slice_get, ◌∷◌};
+ghost use Rattle.std.specs.Prelude.{◌≡◌, ◌≢◌, ◌+◌, ◌^◌, ◌<◌, ◌≤◌, ℕ, None, Some, length, OnOk, IsOk, List, slice_get, [], ◌∷◌};
 ghost use Rattle.rule_arena.specs.declared.key.Key.{Key};
 ghost use Rattle.rule_arena.specs.OneStanding.{Standing-prop};
 ghost use Rattle.rule_arena.specs.Slots.{Standing, room};
@@ -9,7 +9,7 @@ use crate::item::Item;
 use crate::key::Key;
 use crate::kids::Kids;
 use crate::label::Label;
-use crate::slots::{adopt, cell_of, free, read, set_kid, set_label, set_parent};
+use crate::slots::{adopt, cell_of, free, read, set_kid, set_kids, set_label, set_parent, strip};
 use read_steps::Steps;
 use slab::Slab;
 use std::alloc::{AllocError, Global};
@@ -44,6 +44,7 @@ impl Model for Arena {
 impl Arena {
     ghost use Rattle.rule_arena.specs.Preorder.{with_subterm, subterm};
     ghost use Rattle.rule_arena.specs.Terms.{Node, Apart, AreDistinctKeys, AreRoots, At, IsRoot, IsSound, kids_of, joined, key_in, kids_in, labelled, parent_in, term_at};
+    ghost use Rattle.rule_arena.specs.Taking.{IsInner, FitsItsParent, without_term, without_node};
 
     /// An arena with no term. It takes no memory.
     pub fn new(alloc: Global) -> Arena
@@ -135,6 +136,16 @@ impl Arena {
         }
     }
 
+    /// The label of a node. One step.
+    pub fn label<L: Ledger>(&self, key: Key, steps: &mut Steps<L>) -> Label
+        requires { At self.now key }
+        ensures node { (x : At self.now key) → (n : ℕ)
+            × (slice_get x.nodes x.place ≡ Some (record { key = key; label = result; kids = n })) }
+        ensures step { steps.new ≡ steps.old + 1 }
+    {
+        read(&self.slots, key, steps).label()
+    }
+
     /// The next node of the same term in preorder. One step.
     pub fn next_in_preorder<L: Ledger>(&self, key: Key, steps: &mut Steps<L>) -> Option<Key>
         requires { At self.now key }
@@ -185,6 +196,44 @@ impl Arena {
         set_parent(&mut self.slots, at, None);
         set_parent(&mut self.slots, root, Some((up, place)));
         set_kid(&mut self.slots, up, place - 1, root);
+    }
+
+    /// Takes the node `at`, which is no root, out of its term. With what stands below it, it becomes a root; its parent has one child
+    /// fewer.
+    pub fn detach(&mut self, at: Key)
+        requires { IsInner self.old at }
+        ensures moved { (x : At self.old at) (up : Key) (i : ℕ) → parent_in x.nodes x.place ≡ Some (up, i)
+            → term_at self.new x.root ≡ Some (without_term x.nodes up x.place) }
+        ensures freed { (x : At self.old at) → term_at self.new at.number ≡ Some (subterm kids_of x.nodes x.place) }
+        ensures others { (x : At self.old at) (r : ℕ) → r ≢ x.root → r ≢ at.number → term_at self.new r ≡ term_at self.old r }
+        ensures spare { self.new.spare ≡ self.old.spare }
+        ensures limit { self.new.limit ≡ self.old.limit }
+    {
+        let (up, place) = cell_of(&self.slots, at).parent().unwrap();
+        let above = cell_of(&self.slots, up);
+        let kids = above.kids().without(self.alloc, place - 1);
+        set_kids(&mut self.slots, up, kids);
+        set_parent(&mut self.slots, at, None);
+    }
+
+    /// Puts the children of the node `at`, which is no root, in its own place, so that its parent and it are one. The node becomes a
+    /// root with no children. The parent then has at most eight.
+    pub fn dissolve(&mut self, at: Key)
+        requires { FitsItsParent self.old at }
+        ensures moved { (x : At self.old at) (up : Key) (i : ℕ) → parent_in x.nodes x.place ≡ Some (up, i)
+            → term_at self.new x.root ≡ Some (without_node x.nodes up x.place) }
+        ensures freed { (x : At self.old at) (n : Node) → slice_get x.nodes x.place ≡ Some n
+            → term_at self.new at.number ≡ Some (record n { kids = 0 } ∷ []) }
+        ensures others { (x : At self.old at) (r : ℕ) → r ≢ x.root → r ≢ at.number → term_at self.new r ≡ term_at self.old r }
+        ensures spare { self.new.spare ≡ self.old.spare }
+        ensures limit { self.new.limit ≡ self.old.limit }
+    {
+        let cell = cell_of(&self.slots, at);
+        let (up, place) = cell.parent().unwrap();
+        let above = cell_of(&self.slots, up);
+        let kids = above.kids().with_others(self.alloc, place - 1, cell.kids());
+        set_kids(&mut self.slots, up, kids);
+        strip(&mut self.slots, at);
     }
 
     /// Frees a whole term.

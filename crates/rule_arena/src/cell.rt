@@ -1,5 +1,5 @@
 // What the arena keeps of a node, in 64 bytes.
-ghost use Rattle.std.specs.Prelude.{◌≡◌, ◌<◌, length, slice_set, None};
+ghost use Rattle.std.specs.Prelude.{◌≡◌, ◌<◌, [], length, slice_set, None};
 ghost use Rattle.rule_arena.specs.Linked.{label_of, IsPlaced};
 
 use crate::key::Key;
@@ -100,6 +100,20 @@ impl Cell {
                 self.place = place as u8;
             }
         }
+    }
+
+    pub(crate) fn set_kids(&mut self, kids: Kids)
+        ensures { self.new ≡ record self.old { kids = kids } }
+    {
+        self.kids = kids;
+    }
+
+    // It is a root with no children from now on.
+    pub(crate) fn strip(&mut self)
+        ensures { self.new ≡ record { label = self.old.label; parent = None; kids = [] } }
+    {
+        self.kids.clear();
+        self.place = 0;
     }
 
     pub(crate) fn set_kid(&mut self, at: usize, key: Key)

@@ -1,5 +1,5 @@
 // The children of a node.
-ghost use Rattle.std.specs.Prelude.{◌≡◌, ◌<◌, ◌≤◌, length, slice_get, slice_set};
+ghost use Rattle.std.specs.Prelude.{◌≡◌, ◌<◌, ◌≤◌, ◌+◌, ◌++◌, [], suc, length, take, drop, slice_get, slice_set};
 
 use crate::key::Key;
 use smallvec::SmallVec;
@@ -43,6 +43,38 @@ impl Kids {
         }
     }
 
+    // The same list without the key at a place.
+    pub(crate) fn without(&self, alloc: Global, at: usize) -> Kids
+        requires { at < length self.now }
+        ensures { result ≡ take at self.now ++ drop (suc at) self.now }
+    {
+        let keys = self.keys.as_slice();
+        let mut kids = SmallVec::from_slice(alloc, &keys[..at]).unwrap();
+        kids.extend_from_slice(&keys[at + 1..]).unwrap();
+        Kids { keys: kids }
+    }
+
+    // The same list with others in the place of one, at most eight in all.
+    pub(crate) fn with_others(&self, alloc: Global, at: usize, others: &Kids) -> Kids
+        requires within { at < length self.now }
+        requires few { length self.now + length others.now ≤ 9 }
+        ensures { result ≡ take at self.now ++ (others.now ++ drop (suc at) self.now) }
+    {
+        let keys = self.keys.as_slice();
+        let mut kids = SmallVec::from_slice(alloc, &keys[..at]).unwrap();
+        kids.extend_from_slice(others.keys.as_slice()).unwrap();
+        kids.extend_from_slice(&keys[at + 1..]).unwrap();
+        Kids { keys: kids }
+    }
+
+    // The keys one after another.
+    pub(crate) fn as_slice(&self) -> &[Key]
+        ensures value { result.now ≡ self.now }
+        ensures few { length result.now ≤ 8 }
+    {
+        self.keys.as_slice()
+    }
+
     /// How many children there are.
     pub fn len(&self) -> usize
         ensures value { result ≡ length self.now }
@@ -56,6 +88,13 @@ impl Kids {
         ensures { result ≡ slice_get self.now at }
     {
         self.keys.as_slice().get(at).copied()
+    }
+
+    // Leaves no child.
+    pub(crate) fn clear(&mut self)
+        ensures { self.new ≡ [] }
+    {
+        self.keys.clear();
     }
 
     // Puts another key at a place.

@@ -1,7 +1,7 @@
 // Reads and writes of cells under their keys.
 ghost use Rattle.std.specs.Prelude.{◌≡◌, ◌+◌, ◌<◌, ◌≤◌, ℕ, List, Some, IfSome, length, slice_get};
 ghost use Rattle.slab.specs.Slab.{get, ContainsKey};
-ghost use Rattle.rule_arena.specs.Changing.{changed, labelled_cell, hung, with_kid, adopted};
+ghost use Rattle.rule_arena.specs.Changing.{changed, labelled_cell, hung, bare, with_kid, with_kids, adopted};
 ghost use Rattle.rule_arena.specs.Cutting.{chained, first_of, Freed};
 ghost use Rattle.rule_arena.specs.Slots.{RootAt};
 ghost use Rattle.rule_arena.specs.Terms.{Node};
@@ -63,6 +63,15 @@ pub(crate) fn set_kid(slots: &mut Slab<Cell>, key: Key, at: usize, kid: Key)
     cell.set_kid(at, kid);
 }
 
+// Makes a node a root with no children.
+pub(crate) fn strip(slots: &mut Slab<Cell>, key: Key)
+    requires { ContainsKey slots.old key.number }
+    ensures { slots.new ≡ changed slots.old key.number bare }
+{
+    let cell = slots.get_mut(key.number()).unwrap();
+    cell.strip();
+}
+
 // These nodes become the children of `up`, each at its place.
 pub(crate) fn adopt(slots: &mut Slab<Cell>, up: Key, kids: &[Key])
     requires few { length kids.now ≤ 8 }
@@ -72,6 +81,17 @@ pub(crate) fn adopt(slots: &mut Slab<Cell>, up: Key, kids: &[Key])
     for i in 0..kids.len() {
         set_parent(slots, kids[i], Some((up, i + 1)));
     }
+}
+
+// Gives a node other children, each at its place.
+pub(crate) fn set_kids(slots: &mut Slab<Cell>, key: Key, kids: Kids)
+    requires there { ContainsKey slots.old key.number }
+    requires kids_there { (i : ℕ) (k : Key) → slice_get kids i ≡ Some k → ContainsKey slots.old k.number }
+    ensures { slots.new ≡ changed (adopted slots.old key 1 kids) key.number (with_kids kids) }
+{
+    adopt(slots, key, kids.as_slice());
+    let cell = slots.get_mut(key.number()).unwrap();
+    cell.set_kids(kids);
 }
 
 // Frees a root with all nodes below it. Those that still have to go hang in a chain, each one's parent the next: so no stack is

@@ -1,8 +1,9 @@
 -- The stops of the levels, with the walks that stand there.
-use Rattle.std.specs.Prelude.{◌≡◌, ℕ, ◌+◌, ◌<◌, List, ◌∷◌, ◌++◌, Option, Some, None, sum_by}
+use Rattle.std.specs.Prelude.{◌≡◌, ℕ, ◌+◌, ◌<◌, List, [], ◌∷◌, ◌++◌, Option, Some, None, sum_by}
 use Rattle.rule_arena.specs.Terms.{Node}
 use Rattle.rule_arena.specs.declared.label.Label.{Label}
 use Rattle.rule_arena.specs.declared.label.Label.TheVariants.{Call}
+use Rattle.slt_grammar.specs.Bodies.{CallsBelow}
 use Rattle.slt_grammar.specs.Keyed.{KeyedRule, rules_of}
 use Rattle.slt_grammar.specs.Segments.{node_tour}
 use Rattle.slt_grammar.specs.Tours.{Stop}
@@ -40,6 +41,7 @@ pub record FallsInto (w : Label → ℕ) (G : List KeyedRule) (wanted : Wanted) 
   pub here : Stop Node
   pub offset : ℕ
   pub falls : FallsAt w G wanted.rule wanted.number stop.walk here offset
+  pub earlier : CallsBelow wanted.rule (here.item.label ∷ [])
   pub onward : next ≡ wanted_below w G here.item.label here.part offset
 
 -- a descent went on through a stop, and without one nothing was wanted

@@ -1,20 +1,21 @@
 -- Leaving a rule for the call that led there.
 use Rattle.std.proofs.Common.{◌≡◌, ℕ, zero, suc, ◌+◌, ◌-◌, ◌<◌, ◌≤◌, List, [], ◌∷◌, ◌++◌, length, drop, refl, ap, sym, ◌∙◌, arith, subst, Bool, true, false, None, Some, length-drop}
-use Rattle.std.specs.Prelude.{vec_capacity}
+use Rattle.std.specs.Prelude.{slice_get, vec_capacity}
 use Rattle.std.specs.Option.{option_to_list}
 use Rattle.rule_arena.specs.Terms.{Node}
-use Rattle.slt_grammar.specs.Keyed.{Keyed, KeyedRule, IsKeyed, key_at}
+use Rattle.rule_arena.specs.declared.label.Label.TheVariants.{Call, Param}
+use Rattle.slt_grammar.specs.Keyed.{Keyed, KeyedRule, IsKeyed, key_at, nodes_at}
 use Rattle.slt_grammar.specs.Tours.{Stop}
 use Rattle.slt_grammar.specs.TourWalks.{StandsBefore, StandsNext}
 use Rattle.slt_grammar.specs.declared.tour_walk.TourWalk.{TourWalk}
 use Rattle.slt_grammar.proofs.TourWalking.{node-here}
 use Rattle.preorder_address.specs.declared.descent.RuleStop.{RuleStop}
 use Rattle.value_cursor.specs.Cursors.{left_at}
-use Rattle.value_cursor.specs.Stops.{AreStops, IsAtStop, behind, segment_left, stops_of}
+use Rattle.value_cursor.specs.Stops.{AreStops, IsAtStop, IsSilent, behind, segment_left, stops_of}
 use Rattle.value_cursor.specs.Work.{work_at, work_behind, work_in}
 use Rattle.value_cursor.specs.declared.cursor.Cursor.{Cursor}
 use Rattle.value_cursor.proofs.CallLemmas.{behind-snoc, lowest, stops-few, stops-front, stops-last, stops-snoc}
-use Rattle.value_cursor.proofs.StopSteps.{at, rest-is, stop-next, stops-fewer}
+use Rattle.value_cursor.proofs.StopSteps.{at, left-param, left-silent, rest-is, stop-next, stops-fewer}
 use Rattle.value_cursor.proofs.Working.{work_behind-snoc, work-fewer}
 
 -- some calls were left, and there was no stop behind them
@@ -88,6 +89,14 @@ module _ (g : Keyed) (k : IsKeyed g) (calls : List RuleStop) (s : RuleStop) (a :
       let n = length (stops_of g.rules s) in
       let few : 0 < n = omega (arith, stops-fewer g k s last-below last-at) in
       omega (arith, work-fewer g.rules s 0 n few)
+
+  module _ (x : Node) (item : (r p : ℕ) → key_at g.rules r p ≡ Some s.walk.key → slice_get (nodes_at g.rules r) p ≡ Some x) where
+    -- a parameter ends what is left of the rule
+    pub left-behind : x.label ≡ Param → behind g.rules calls [] ≡ left_at g.rules (Some s) calls
+    left-behind e = sym (ap (λ ls. ls ++ behind g.rules calls []) (left-param g k s last-below last-at x item e))
+
+    pub left-passed : IsSilent x.label s.walk.part → ((q : ℕ) → x.label ≡ Call q → ⊥) → (x.label ≡ Param → ⊥) → segment_left g.rules (drop 1 (stops_of g.rules s)) ++ behind g.rules calls [] ≡ left_at g.rules (Some s) calls
+    left-passed h c p = sym (ap (λ ls. ls ++ behind g.rules calls []) (left-silent g k s last-below last-at x item h c p))
 
   pub front-work : work_behind g.rules calls ≤ work_behind g.rules (calls ++ s ∷ [])
   front-work = omega (arith, work_behind-snoc g.rules calls s)

@@ -5,3 +5,4 @@ pub mod Working
 pub mod Leaving
 pub mod SegmentStarts
 pub mod Going
+pub mod Telling

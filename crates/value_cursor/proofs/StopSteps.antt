@@ -12,7 +12,7 @@ use Rattle.slt_grammar.specs.declared.tour_walk.TourWalk.{TourWalk}
 use Rattle.slt_grammar.proofs.TourLemmas.{params-segment, segment-first}
 use Rattle.slt_grammar.proofs.TourWalking.{node-is}
 use Rattle.preorder_address.specs.declared.descent.RuleStop.{RuleStop}
-use Rattle.value_cursor.specs.Stops.{IsAtStop, segment_left, stops_from, stops_of}
+use Rattle.value_cursor.specs.Stops.{IsAtStop, IsSilent, segment_left, stops_from, stops_of}
 use Rattle.value_cursor.proofs.Once.{hits, is_stop-same, stops_from-split, stops_from-suffix, tour-once}
 
 -- what stops stand for
@@ -113,13 +113,14 @@ module _ (g : Keyed) (k : IsKeyed g) (s : RuleStop) (h : s.rule < length g.rules
     left-none : part_of (rules_of g.rules) x.label s.walk.part ≡ [] → segment_left g.rules (stops_of g.rules s) ≡ segment_left g.rules (drop 1 (stops_of g.rules s))
     left-none e = left-by [] e
 
-    -- behind the kids of a symbol nothing stands
-    pub left-later : (l : Label) → x.label ≡ l → ((q : ℕ) → l ≡ Call q → ⊥) → (l ≡ Param → ⊥) → s.walk.part ≢ 0 → segment_left g.rules (stops_of g.rules s) ≡ segment_left g.rules (drop 1 (stops_of g.rules s))
-    left-later l e c p z = left-none (ap (λ (m : Label). part_of (rules_of g.rules) m s.walk.part) e ∙ nothing l s.walk.part c p z)
+    -- a silent stop that is no call and no parameter stands for nothing
+    pub left-silent : IsSilent x.label s.walk.part → ((q : ℕ) → x.label ≡ Call q → ⊥) → (x.label ≡ Param → ⊥) → segment_left g.rules (stops_of g.rules s) ≡ segment_left g.rules (drop 1 (stops_of g.rules s))
+    left-silent h c p = left-none (nothing x.label s.walk.part h c p)
       where
-        nothing : (l : Label) (i : ℕ) → ((q : ℕ) → l ≡ Call q → ⊥) → (l ≡ Param → ⊥) → i ≢ 0 → part_of (rules_of g.rules) l i ≡ []
-        nothing l zero c p z = absurd (z refl)
-        nothing Bottom (suc i) c p z = refl
-        nothing (Symbol f) (suc i) c p z = refl
-        nothing (Call q) (suc i) c p z = absurd (c q refl)
-        nothing Param (suc i) c p z = absurd (p refl)
+        nothing : (l : Label) (i : ℕ) → IsSilent l i → ((q : ℕ) → l ≡ Call q → ⊥) → (l ≡ Param → ⊥) → part_of (rules_of g.rules) l i ≡ []
+        nothing Bottom zero h c p = absurd h
+        nothing Bottom (suc i) h c p = refl
+        nothing (Symbol f) zero h c p = absurd h
+        nothing (Symbol f) (suc i) h c p = refl
+        nothing (Call q) i h c p = absurd (c q refl)
+        nothing Param i h c p = absurd (p refl)

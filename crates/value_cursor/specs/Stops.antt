@@ -1,9 +1,9 @@
 -- What is left of a rule's tour from a stop on, and of the rules around it.
-use Rattle.std.specs.Prelude.{ℕ, ◌-◌, ◌<◌, List, [], ◌∷◌, ◌++◌, drop, Bool, ◌==◌, ◌&&◌, if◌then◌else◌}
+use Rattle.std.specs.Prelude.{ℕ, zero, ◌-◌, ◌<◌, List, [], ◌∷◌, ◌++◌, drop, Bool, ◌==◌, ◌&&◌, if◌then◌else◌}
 use Rattle.rule_arena.specs.Terms.{Node}
 use Rattle.rule_arena.specs.declared.key.Key.{Key}
 use Rattle.rule_arena.specs.declared.label.Label.{Label}
-use Rattle.rule_arena.specs.declared.label.Label.TheVariants.{Param}
+use Rattle.rule_arena.specs.declared.label.Label.TheVariants.{Bottom, Symbol, Param}
 use Rattle.slt_grammar.specs.Keyed.{KeyedRule, rules_of}
 use Rattle.slt_grammar.specs.Segments.{node_tour, part_of, segment, spread}
 use Rattle.slt_grammar.specs.Tours.{Stop}
@@ -30,6 +30,12 @@ IsAtStop G s = StandsBefore G s.rule s.walk (stops_of G s)
 -- what stops stand for up to the next parameter
 abbrev pub segment_left : List KeyedRule → List (Stop Node) → List Label
 segment_left G ms = segment 0 (spread (λ m. part_of (rules_of G) m.item.label m.part) ms [])
+
+-- a stop with this label and part gives no token
+abbrev pub IsSilent : Label → ℕ → Type 0
+IsSilent Bottom zero = ⊥
+IsSilent (Symbol f) zero = ⊥
+IsSilent l i = Unit {0}
 
 -- how many of n parameters come behind a stop with this label, which may be the first of them
 abbrev pub later_params : Label → ℕ → ℕ

@@ -8,7 +8,7 @@ ghost use Rattle.slt_grammar.specs.Segments.{listed};
 ghost use Rattle.segment_counts.specs.Weights.{node_weight};
 ghost use Rattle.preorder_address.specs.Numberings.{AreCountsOf};
 ghost use Rattle.value_cursor.specs.Cursors.{BeginsAtNode, Given, IsInside, left_at, tokens_of};
-ghost use Rattle.value_cursor.specs.Stops.{AreStops, behind, segment_left, stops_of};
+ghost use Rattle.value_cursor.specs.Stops.{AreStops, IsSilent, behind, segment_left, stops_of};
 ghost use Rattle.value_cursor.specs.Work.{work_at, work_of};
 
 use crate::entering::segment_start;
@@ -95,12 +95,38 @@ impl Cursor {
                     }
                     return Some(Token::Close);
                 }
-                (Label::Call(called), _) => self.enter(grammar, stop, called, &item, steps),
-                (Label::Param, _) => self.leave(grammar, steps),
-                _ => self.pass(grammar, stop, &item, steps),
+                _ => self.go_on(grammar, stop, &item, steps),
             }
         }
         None
+    }
+
+    // Goes on from a stop that gives no token.
+    fn go_on<L: Ledger>(
+        &mut self,
+        grammar: &Grammar,
+        stop: RuleStop,
+        item: &Item,
+        steps: &mut Steps<L>,
+    )
+        requires keyed { IsKeyed grammar.now }
+        requires stops { AreStops grammar.now.rules (length grammar.now.rules) (self.old.calls.items ++ stop ∷ []) }
+        requires room { length grammar.now.rules ≤ vec_capacity self.old.calls }
+        requires silent { IsSilent item.now.label stop.walk.part }
+        requires node { (r p : ℕ) → key_at grammar.now.rules r p ≡ Some stop.walk.key → slice_get (nodes_at grammar.now.rules r) p
+            ≡ Some (record { key = stop.walk.key; label = item.now.label; kids = length item.now.kids }) }
+        requires parent { (r p : ℕ) → key_at grammar.now.rules r p ≡ Some stop.walk.key → parent_in (nodes_at grammar.now.rules r) p ≡ item.now.parent }
+        ensures left { left_at grammar.now.rules self.new.here self.new.calls.items ≡ left_at grammar.now.rules (Some stop) self.old.calls.items }
+        ensures stops { AreStops grammar.now.rules (length grammar.now.rules) (self.new.calls.items ++ option_to_list self.new.here) }
+        ensures room { length grammar.now.rules ≤ vec_capacity self.new.calls }
+        ensures opened { self.new.opened ≡ self.old.opened }
+        ensures work { work_of grammar.now.rules self.new < work_at grammar.now.rules (Some stop) self.old.calls.items }
+    {
+        match item.label {
+            Label::Call(called) => self.enter(grammar, stop, called, item, steps),
+            Label::Param => self.leave(grammar, steps),
+            _ => self.pass(grammar, stop, item, steps),
+        }
     }
 
     // Goes from a call to the first stop of the called rule's segment, or past the call where there is none.

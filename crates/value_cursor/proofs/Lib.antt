@@ -6,3 +6,4 @@ pub mod Leaving
 pub mod SegmentStarts
 pub mod Going
 pub mod Telling
+pub mod Beginning

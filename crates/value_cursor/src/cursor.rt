@@ -54,6 +54,8 @@ impl Cursor {
         ensures inside { IfOk result (λ found. IfSome found (IsInside grammar.now.rules)) }
         ensures begins { IfOk result (λ found. IfSome found (BeginsAtNode grammar.now.rules number)) }
     {
+        // The call tells what is true of every grammar.
+        let _limit = grammar.limit();
         let Some(mut descent) = locate(counts, number) else {
             return Ok(None);
         };

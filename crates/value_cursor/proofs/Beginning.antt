@@ -10,8 +10,7 @@ use Rattle.slt_grammar.specs.Bodies.{CallsBelow, params}
 use Rattle.slt_grammar.specs.Grammars.{value}
 use Rattle.slt_grammar.specs.Keyed.{Keyed, KeyedRule, IsKeyed, rules_of}
 use Rattle.slt_grammar.specs.Segments.{listed, node_tour, part_of, preorder, segment}
-use Rattle.slt_grammar.specs.Tours.{Stop, stop}
-use Rattle.slt_grammar.specs.declared.rules.Rule.{Rule}
+use Rattle.slt_grammar.specs.Tours.{Stop}
 use Rattle.slt_grammar.proofs.KeyedLemmas.{length-rules_of}
 use Rattle.slt_grammar.proofs.Spreads.{IsPlain}
 use Rattle.slt_grammar.proofs.TourLemmas.{params-preorder, params-segment, segment-first}

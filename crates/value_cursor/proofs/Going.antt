@@ -1,5 +1,5 @@
 -- Going from a call into the rule that it calls.
-use Rattle.std.proofs.Common.{◌≡◌, ℕ, zero, suc, ◌+◌, ◌-◌, ◌<◌, ◌≤◌, List, [], ◌∷◌, ◌++◌, length, drop, refl, ap, sym, ◌∙◌, arith, subst, None, Some, append_assoc}
+use Rattle.std.proofs.Common.{◌≡◌, ℕ, zero, suc, ◌+◌, ◌-◌, ◌<◌, List, [], ◌∷◌, ◌++◌, length, drop, ap, sym, ◌∙◌, arith, subst, Some, append_assoc}
 use Rattle.std.specs.Prelude.{slice_get}
 use Rattle.rule_arena.specs.Terms.{Node}
 use Rattle.rule_arena.specs.declared.label.Label.{Label}
@@ -11,8 +11,8 @@ use Rattle.slt_grammar.proofs.StopLemmas.{calls-here}
 use Rattle.preorder_address.specs.declared.descent.RuleStop.{RuleStop}
 use Rattle.value_cursor.specs.Cursors.{left_at}
 use Rattle.value_cursor.specs.Stops.{AreStops, IsAtStop, behind, segment_left, stops_of}
-use Rattle.value_cursor.specs.Work.{work_at, work_behind, work_in}
-use Rattle.value_cursor.proofs.CallLemmas.{behind-snoc, lowest, lowest-snoc, stops-few, stops-front, stops-last, stops-snoc}
+use Rattle.value_cursor.specs.Work.{work_at, work_in}
+use Rattle.value_cursor.proofs.CallLemmas.{behind-snoc, lowest-snoc, stops-few, stops-front, stops-last, stops-snoc}
 use Rattle.value_cursor.proofs.Leaving.{last-at, last-below}
 use Rattle.value_cursor.proofs.StopSteps.{at, left-call, stops-fewer}
 use Rattle.value_cursor.proofs.Working.{work-below, work_behind-snoc}

@@ -1,7 +1,6 @@
 -- Leaving a rule for the call that led there.
-use Rattle.std.proofs.Common.{◌≡◌, ℕ, zero, suc, ◌+◌, ◌-◌, ◌<◌, ◌≤◌, List, [], ◌∷◌, ◌++◌, length, drop, refl, ap, sym, ◌∙◌, arith, subst, Bool, true, false, None, Some, length-drop}
+use Rattle.std.proofs.Common.{◌≡◌, ℕ, ◌-◌, ◌<◌, ◌≤◌, List, [], ◌∷◌, ◌++◌, length, drop, ap, sym, ◌∙◌, arith, subst, true, false, Some, length-drop}
 use Rattle.std.specs.Prelude.{slice_get, vec_capacity}
-use Rattle.std.specs.Option.{option_to_list}
 use Rattle.rule_arena.specs.Terms.{Node}
 use Rattle.rule_arena.specs.declared.label.Label.TheVariants.{Call, Param}
 use Rattle.slt_grammar.specs.Keyed.{Keyed, KeyedRule, IsKeyed, key_at, nodes_at}
@@ -14,7 +13,7 @@ use Rattle.value_cursor.specs.Cursors.{left_at}
 use Rattle.value_cursor.specs.Stops.{AreStops, IsAtStop, IsSilent, behind, segment_left, stops_of}
 use Rattle.value_cursor.specs.Work.{work_at, work_behind, work_in}
 use Rattle.value_cursor.specs.declared.cursor.Cursor.{Cursor}
-use Rattle.value_cursor.proofs.CallLemmas.{behind-snoc, lowest, stops-few, stops-front, stops-last, stops-snoc}
+use Rattle.value_cursor.proofs.CallLemmas.{behind-snoc, stops-few, stops-front, stops-last, stops-snoc}
 use Rattle.value_cursor.proofs.StopSteps.{at, left-param, left-silent, rest-is, stop-next, stops-fewer}
 use Rattle.value_cursor.proofs.Working.{work_behind-snoc, work-fewer}
 

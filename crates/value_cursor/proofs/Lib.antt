@@ -7,3 +7,4 @@ pub mod SegmentStarts
 pub mod Going
 pub mod Telling
 pub mod Beginning
+pub mod Subtrees

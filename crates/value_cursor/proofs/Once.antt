@@ -6,7 +6,7 @@ use Rattle.std.proofs.lemmas.Bool.Decides.{eqb_tells}
 use Rattle.rule_arena.specs.Preorder.{AreTerms}
 use Rattle.rule_arena.specs.Terms.{Node, kids_of, key_in}
 use Rattle.rule_arena.specs.NodeKey.{NodeKey as Key}
-use Rattle.slt_grammar.specs.Keyed.{Keyed, IsKeyed, nodes_at, key_at}
+use Rattle.slt_grammar.specs.Keyed.{Keyed, IsKeyed, nodes_at}
 use Rattle.slt_grammar.specs.Segments.{node_tour}
 use Rattle.slt_grammar.specs.Tours.{Stop, stop, opened_kids, once_closed, tour}
 use Rattle.slt_grammar.proofs.KeyedLemmas.{nodes-are-term}

@@ -1,5 +1,5 @@
 -- The walk to the first stop of a segment.
-use Rattle.std.proofs.Common.{◌≡◌, ◌≢◌, ℕ, zero, suc, ◌+◌, ◌-◌, ◌<◌, ◌≤◌, List, [], ◌∷◌, ◌++◌, length, drop, refl, ap, sym, ◌∙◌, arith, subst, Some, true, false}
+use Rattle.std.proofs.Common.{◌≡◌, ℕ, zero, suc, ◌-◌, ◌<◌, List, [], ◌∷◌, ◌++◌, length, drop, refl, ap, sym, ◌∙◌, arith, Some, true, false}
 use Rattle.std.specs.Prelude.{slice_get}
 use Rattle.rule_arena.specs.Terms.{Node}
 use Rattle.rule_arena.specs.declared.label.Label.{Label}
@@ -8,12 +8,11 @@ use Rattle.slt_grammar.specs.Keyed.{Keyed, KeyedRule, IsKeyed, key_at, nodes_at,
 use Rattle.slt_grammar.specs.Segments.{node_tour, part_of, preorder, segment}
 use Rattle.slt_grammar.specs.Tours.{Stop}
 use Rattle.slt_grammar.specs.TourWalks.{StandsBefore, StandsNext}
-use Rattle.slt_grammar.specs.declared.rules.Rule.{Rule}
 use Rattle.slt_grammar.specs.declared.tour_walk.TourWalk.{TourWalk}
 use Rattle.slt_grammar.proofs.TourLemmas.{params-segment, preorder-nodes, segment-others, spread_nodes}
 use Rattle.slt_grammar.proofs.TourWalking.{node-here}
 use Rattle.preorder_address.specs.declared.descent.RuleStop.{RuleStop}
-use Rattle.value_cursor.specs.Stops.{IsAtStop, later_params, stops_of}
+use Rattle.value_cursor.specs.Stops.{later_params, stops_of}
 use Rattle.value_cursor.proofs.StopSteps.{at, at-stop, labels-from, labels_at, rest-is, stop-next, stops-fewer}
 
 labels_at-nodes : (G : List KeyedRule) (ms : List (Stop Node)) → spread_nodes (rules_of G) ms ≡ labels_at G ms

@@ -1,5 +1,5 @@
 -- The stop at which a walk stands, what it stands for, and the next stop.
-use Rattle.std.proofs.Common.{◌≡◌, ◌≢◌, ℕ, zero, suc, ◌+◌, ◌-◌, ◌<◌, ◌≤◌, List, [], ◌∷◌, ◌++◌, length, drop, refl, ap, sym, ◌∙◌, arith, subst, Some, append_assoc, length-append, length-drop}
+use Rattle.std.proofs.Common.{◌≡◌, ℕ, zero, suc, ◌-◌, ◌<◌, ◌≤◌, List, [], ◌∷◌, ◌++◌, length, drop, refl, ap, sym, ◌∙◌, arith, subst, Some, append_assoc, length-append}
 use Rattle.std.specs.Prelude.{slice_get}
 use Rattle.rule_arena.specs.Terms.{Node}
 use Rattle.rule_arena.specs.declared.label.Label.{Label}

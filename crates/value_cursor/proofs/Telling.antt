@@ -1,6 +1,6 @@
 -- A turn of a cursor.
 use Rattle.std.proofs.Common.{◌≡◌, ◌≢◌, ℕ, zero, suc, ◌+◌, ◌-◌, ◌<◌, ◌≤◌, ◌^◌, List, [], ◌∷◌, ◌++◌, length, drop, sum_by, refl, ap, sym, ◌∙◌, arith, subst, Option, None, Some, add-one, append-nil}
-use Rattle.std.specs.Prelude.{slice_get, vec_capacity, nat_lt, if◌then◌else◌}
+use Rattle.std.specs.Prelude.{slice_get, vec_capacity, if◌then◌else◌}
 use Rattle.std.specs.Option.{option_to_list}
 use Rattle.std.proofs.lemmas.Bool.{lt-ltb, le-ltb}
 use Rattle.std.proofs.lemmas.List.Sums.{sum_by-cons}
@@ -18,7 +18,7 @@ use Rattle.value_cursor.specs.declared.cursor.Cursor.{Cursor}
 use Rattle.value_cursor.specs.declared.cursor.Token.{Token}
 use Rattle.value_cursor.specs.declared.cursor.Token.TheVariants.{Open, Close}
 use Rattle.value_cursor.proofs.CallLemmas.{stops-front}
-use Rattle.value_cursor.proofs.Leaving.{last-at, last-below, last-key}
+use Rattle.value_cursor.proofs.Leaving.{last-at, last-below}
 use Rattle.value_cursor.proofs.StopSteps.{left-bottom, left-symbol}
 
 -- no token was given so far

@@ -1,5 +1,5 @@
 -- The work that is left falls.
-use Rattle.std.proofs.Common.{◌≡◌, ℕ, zero, suc, ◌+◌, ◌-◌, ◌*◌, ◌^◌, ◌<◌, ◌≤◌, List, [], ◌∷◌, ◌++◌, length, drop, refl, ap, ◌∙◌, arith, None, Some}
+use Rattle.std.proofs.Common.{◌≡◌, ℕ, zero, suc, ◌+◌, ◌-◌, ◌*◌, ◌^◌, ◌<◌, ◌≤◌, List, [], ◌∷◌, ◌++◌, length, arith}
 use Rattle.std.proofs.lemmas.List.{length-map}
 use Rattle.std.proofs.lemmas.List.Sums.{sum_by-cons}
 use Rattle.std.proofs.Math.Nat.{one-le-pow, pow-succ', pow-le-pow_right, mul-le-mul_right}
@@ -11,7 +11,7 @@ use Rattle.slt_grammar.specs.declared.rules.Rule.{Rule}
 use Rattle.slt_grammar.proofs.TourLemmas.{length-node_tour}
 use Rattle.preorder_address.specs.declared.descent.RuleStop.{RuleStop}
 use Rattle.value_cursor.specs.Stops.{IsAtStop, stops_of}
-use Rattle.value_cursor.specs.Work.{width, work_at, work_behind, work_in}
+use Rattle.value_cursor.specs.Work.{width, work_behind, work_in}
 use Rattle.value_cursor.proofs.StopSteps.{stops-within}
 
 body-few : (G : List KeyedRule) (r : ℕ) → length (nodes_at G r) ≤ whole (rules_of G)

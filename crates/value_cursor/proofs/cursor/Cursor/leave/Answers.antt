@@ -1,9 +1,8 @@
-use Rattle.std.proofs.Common.{◌≡◌, ◌++◌, [], ◌∷◌, List, length, refl, ap, sym, ◌∙◌, arith, subst}
+use Rattle.std.proofs.Common.{[], List, length, refl, ap, sym, ◌∙◌, arith, subst}
 use Rattle.std.proofs.lemmas.List.{nil_from_length}
 use Rattle.preorder_address.specs.declared.descent.RuleStop.{RuleStop}
 use Rattle.value_cursor.specs.Stops.{AreStops, behind}
 use Rattle.value_cursor.specs.Work.{work_behind}
-use Rattle.value_cursor.proofs.CallLemmas.{stops-front}
 use Rattle.value_cursor.proofs.Leaving.{last-key, last-stands, leaves-more, moved-behind, moved-stops, moved-work_behind}
 use Rattle.value_cursor.proofs.cursor.Cursor.leave.Goals as goal
 

@@ -1,12 +1,8 @@
-use Rattle.std.proofs.Common.{◌≡◌, ◌++◌, ◌+◌, ◌-◌, ◌^◌, ◌<◌, ◌≤◌, [], ◌∷◌, List, length, sum_by, ap, sym, subst, ◌∙◌, arith, refl, None, Option}
+use Rattle.std.proofs.Common.{◌≡◌, ◌-◌, List, length, sym, subst, ◌∙◌, arith, refl, None}
 use Rattle.std.specs.Prelude.{vec_capacity}
-use Rattle.std.specs.Option.{option_to_list}
 use Rattle.std.proofs.lemmas.List.{nil_from_length}
-use Rattle.slt_grammar.specs.Grammars.{value}
 use Rattle.slt_grammar.specs.Keyed.{rules_of}
-use Rattle.slt_grammar.specs.Segments.{listed, preorder}
 use Rattle.slt_grammar.proofs.KeyedLemmas.{length-rules_of}
-use Rattle.segment_counts.specs.Weights.{node_weight}
 use Rattle.segment_counts.specs.declared.counts.Measure.TheVariants.{Nodes}
 use Rattle.segment_counts.proofs.Telling.{total-told}
 use Rattle.preorder_address.specs.declared.descent.RuleStop.{RuleStop}

@@ -1,4 +1,4 @@
-use Rattle.std.proofs.Common.{◌≡◌, ◌<◌, ◌+◌, ◌-◌, length, ap, sym, subst, ◌∙◌, arith, refl, Some}
+use Rattle.std.proofs.Common.{◌+◌, length, ap, sym, subst, arith, refl}
 use Rattle.rule_arena.specs.Terms.{Node}
 use Rattle.value_cursor.specs.declared.cursor.Cursor.{Cursor}
 use Rattle.value_cursor.specs.declared.cursor.Token.TheVariants.{Close}
@@ -49,10 +49,10 @@ returns-in-Bottom-eq0-clause-inside g c =
 
 pub go_on-requires-clause-silent : goal.go_on-requires-clause-silent
 go_on-requires-clause-silent g c = elim c.in_default-2.branch [
-    | in_default-2-via-in-Symbol+in_default w ↦ silent-later c.item-item.result.label c.in-Some.field-0.walk.part w.in_default-2.is-1.1
-    | in_default-2-via-in-Bottom+in_default w ↦ silent-later c.item-item.result.label c.in-Some.field-0.walk.part w.in_default-2.is-1.1
-    | in_default-2-via-in_default w ↦ silent-other c.item-item.result.label c.in-Some.field-0.walk.part w.in_default-2.not-Bottom-0 w.in_default-2.not-Symbol-0
-  ]
+  | in_default-2-via-in-Symbol+in_default w ↦ silent-later c.item-item.result.label c.in-Some.field-0.walk.part w.in_default-2.is-1.1
+  | in_default-2-via-in-Bottom+in_default w ↦ silent-later c.item-item.result.label c.in-Some.field-0.walk.part w.in_default-2.is-1.1
+  | in_default-2-via-in_default w ↦ silent-other c.item-item.result.label c.in-Some.field-0.walk.part w.in_default-2.not-Bottom-0 w.in_default-2.not-Symbol-0
+]
 
 pub loop-rule-smaller-in_default-2 : goal.loop-rule-smaller-in_default-2
 loop-rule-smaller-in_default-2 g c = smaller c.args.grammar.now c.limit-limit.ensures.keyed c.args.self.now c.loop-rule.self c.loop-rule.invariant c.in-Some.field-0 (sym c.in-Some.ensures.value) c.go_on.new.self c.go_on.ensures.work

@@ -1,4 +1,4 @@
-use Rattle.std.proofs.Common.{◌≡◌, ◌++◌, [], List, length, drop, ap, sym, ◌∙◌, arith}
+use Rattle.std.proofs.Common.{◌++◌, [], List, length, ap, sym, ◌∙◌, arith}
 use Rattle.rule_arena.specs.declared.label.Label.{Label}
 use Rattle.value_cursor.specs.Stops.{behind}
 use Rattle.value_cursor.proofs.CallLemmas.{stops-front}

@@ -9,6 +9,6 @@ mod descent;
 mod laws;
 mod numbering;
 
-pub use descent::{Descent, locate, locate_place};
+pub use descent::{Descent, RuleStop, locate, locate_place};
 pub use laws::descents_arrive;
 pub use numbering::Numbering;

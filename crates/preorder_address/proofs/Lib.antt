@@ -5,3 +5,4 @@ pub mod Descending
 pub mod Finding
 pub mod Arriving
 pub mod Locating
+pub mod TreePlaces

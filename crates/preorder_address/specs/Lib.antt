@@ -2,3 +2,4 @@ pub mod Numberings
 pub mod Routes
 pub mod Descents
 pub mod Chains
+pub mod TreeNumbers

@@ -6,3 +6,5 @@ pub mod Finding
 pub mod Arriving
 pub mod Locating
 pub mod TreePlaces
+pub mod Heading
+pub mod Naming

@@ -1,11 +1,11 @@
 -- The node at a number of a tree's code, and what stands before it and behind it there.
-use Rattle.std.proofs.Common.{◌≡◌, ℕ, zero, suc, ◌+◌, ◌*◌, List, [], ◌∷◌, ◌++◌, length, take, refl, ap, sym, ◌∙◌, arith, Some, sum_by, ◌⊎◌, inl, inr, subst, append_assoc, append-nil, length-append}
-use Rattle.std.specs.Prelude.{slice_get, if◌then◌else◌, Bool, true, false}
+use Rattle.std.proofs.Common.{◌≡◌, ℕ, zero, suc, ◌+◌, ◌*◌, List, [], ◌∷◌, ◌++◌, length, take, refl, ap, sym, ◌∙◌, arith, Some, sum_by, ◌⊎◌, inl, inr, subst, append_assoc, length-append}
+use Rattle.std.specs.Prelude.{slice_get}
 use Rattle.std.proofs.lemmas.List.Sums.{sum_by-cons, sum_by-append}
 use Rattle.plain_tree.specs.declared.kind.Kind.{Kind}
 use Rattle.plain_tree.specs.declared.kind.Kind.TheVariants.{Document, Element, Attribute, Text, Comment, Instruction}
 use Rattle.plain_tree.specs.Tree.{Tree, node, Trees, none, more, node_count_all}
-use Rattle.plain_tree.specs.Numbers.{nodes, nodes_all, values_of, texts_all}
+use Rattle.plain_tree.specs.Numbers.{nodes_all, values_of, texts_all}
 use Rattle.plain_tree.proofs.NodeCounts.{length-nodes_all}
 use Rattle.rule_arena.specs.declared.label.Label.{Label}
 use Rattle.rule_arena.specs.declared.label.Label.TheVariants.{Bottom, Symbol}

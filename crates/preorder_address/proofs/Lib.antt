@@ -5,3 +5,6 @@ pub mod Descending
 pub mod Finding
 pub mod Arriving
 pub mod Locating
+pub mod TreePlaces
+pub mod Heading
+pub mod Naming

@@ -7,8 +7,10 @@
 
 mod descent;
 mod laws;
+mod nodes;
 mod numbering;
 
 pub use descent::{Descent, RuleStop, locate, locate_place};
 pub use laws::descents_arrive;
+pub use nodes::kind_of;
 pub use numbering::Numbering;

@@ -45,7 +45,7 @@ returns-clause-through g c =
         here = stop x p.walk.part;
         offset = p.offset;
         falls = e.falls.1;
-      earlier = e.calls;
+        earlier = e.calls;
         onward = c.next_wanted-self.ensures ∙ wanted-next a.grammar.now.rules K.grammar a.counts.now c.requires.counts a.self.now.by r h.0 p.label p.walk.part p.offset e.calls;
       },
       refl,

@@ -8,3 +8,4 @@ pub mod Locating
 pub mod TreePlaces
 pub mod Heading
 pub mod Naming
+pub mod Lading

@@ -3,3 +3,4 @@ pub mod Routes
 pub mod Descents
 pub mod Chains
 pub mod TreeNumbers
+pub mod Sites

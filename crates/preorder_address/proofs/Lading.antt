@@ -1,0 +1,170 @@
+-- Weights of labels whose parameters weigh what their arguments do.
+use Rattle.std.proofs.Common.{◌≡◌, ℕ, zero, suc, ◌+◌, ◌<◌, ◌≤◌, List, [], ◌∷◌, ◌++◌, length, get_or, drop, refl, ap, ◌∙◌, arith, sum_by, subst}
+use Rattle.std.specs.Prelude.{sum}
+use Rattle.std.proofs.lemmas.List.Sums.{sum_by-cons, sum_by-append}
+use Rattle.rule_arena.specs.Preorder.{AreTerms}
+use Rattle.rule_arena.specs.declared.label.Label.{Label}
+use Rattle.rule_arena.specs.declared.label.Label.TheVariants.{Bottom, Symbol, Call, Param}
+use Rattle.slt_grammar.specs.Bodies.{arity, params}
+use Rattle.slt_grammar.specs.Editing.{put}
+use Rattle.slt_grammar.specs.Segments.{listed, segment}
+use Rattle.slt_grammar.specs.Terms.{Term, Leaf, Node, Hole}
+use Rattle.slt_grammar.proofs.Meanings.{drop-one}
+use Rattle.slt_grammar.proofs.Spreads.{IsPlain}
+use Rattle.segment_counts.specs.Weights.{node_weight, segments_sum}
+use Rattle.segment_counts.proofs.Numbers.{segments_sum-param, segment-now, segment-later, segments_sum-later}
+use Rattle.preorder_address.specs.Sites.{laden, weight_before, terms_weight, weight_below}
+
+-- a symbol stands before two terms, and each other label is a term
+abbrev pub label_arity : Label → ℕ
+label_arity l = arity [] l
+
+-- each of these is one term
+abbrev pub AllTerms : List (List Label) → Type 0
+AllTerms [] = Unit {0}
+AllTerms (c ∷ cs) = AreTerms label_arity 1 c × AllTerms cs
+
+-- how many nodes each of these has
+abbrev pub sizes : List (List Label) → List ℕ
+sizes [] = []
+sizes (c ∷ cs) = sum_by node_weight c ∷ sizes cs
+
+module _ (w : Label → ℕ) where
+  -- what each of these weighs, where their parameters take the arguments one after another
+  abbrev pub portions : List ℕ → List (List Label) → List ℕ
+  portions args [] = []
+  portions args (c ∷ cs) = laden w args c ∷ portions (drop (params c) args) cs
+
+  pub laden-append : (args : List ℕ) (xs ys : List Label) → laden w args (xs ++ ys) ≡ laden w args xs + laden w (drop (params xs) args) ys
+  laden-append args [] ys = omega arith
+  laden-append args (Param ∷ xs) ys = omega (arith, laden-append (drop 1 args) xs ys, ap (λ us. laden w us ys) (drop-one (params xs) args))
+  laden-append args (Bottom ∷ xs) ys = omega (arith, laden-append args xs ys)
+  laden-append args (Symbol f ∷ xs) ys = omega (arith, laden-append args xs ys)
+  laden-append args (Call q ∷ xs) ys = omega (arith, laden-append args xs ys)
+
+  pub before-append : (args : List ℕ) (xs ys : List Label) (i n : ℕ) → i ≡ sum_by node_weight xs + n → weight_before w args (xs ++ ys) i ≡ laden w args xs + weight_before w (drop (params xs) args) ys n
+  before-append args [] ys i n e = let z : i ≡ n = omega arith in omega (arith, ap (weight_before w args ys) z)
+  before-append args (Param ∷ xs) ys i n e =
+      omega (arith, before-append (drop 1 args) xs ys i n (omega (arith, e, sum_by-cons node_weight Param xs)), ap (λ us. weight_before w us ys n) (drop-one (params xs) args))
+  before-append args (Bottom ∷ xs) ys i n e = omega (arith, before-append args xs ys i n (omega (arith, e, sum_by-cons node_weight Bottom xs)))
+  before-append args (Symbol f ∷ xs) ys zero n e = absurd (omega (arith, e, sum_by-cons node_weight (Symbol f) xs))
+  before-append args (Symbol f ∷ xs) ys (suc i) n e = omega (arith, before-append args xs ys i n (omega (arith, e, sum_by-cons node_weight (Symbol f) xs)))
+  before-append args (Call q ∷ xs) ys i n e = omega (arith, before-append args xs ys i n (omega (arith, e, sum_by-cons node_weight (Call q) xs)))
+
+  pub below-append : (args : List ℕ) (xs ys : List Label) (i n : ℕ) → i ≡ sum_by node_weight xs + n → weight_below w args (xs ++ ys) i ≡ weight_below w (drop (params xs) args) ys n
+  below-append args [] ys i n e = let z : i ≡ n = omega arith in ap (weight_below w args ys) z
+  below-append args (Param ∷ xs) ys i n e = below-append (drop 1 args) xs ys i n (omega (arith, e, sum_by-cons node_weight Param xs)) ∙ ap (λ us. weight_below w us ys n) (drop-one (params xs) args)
+  below-append args (Bottom ∷ xs) ys i n e = below-append args xs ys i n (omega (arith, e, sum_by-cons node_weight Bottom xs))
+  below-append args (Symbol f ∷ xs) ys zero n e = absurd (omega (arith, e, sum_by-cons node_weight (Symbol f) xs))
+  below-append args (Symbol f ∷ xs) ys (suc i) n e = below-append args xs ys i n (omega (arith, e, sum_by-cons node_weight (Symbol f) xs))
+  below-append args (Call q ∷ xs) ys i n e = below-append args xs ys i n (omega (arith, e, sum_by-cons node_weight (Call q) xs))
+
+  -- what whole terms weigh before other labels
+  pub terms-append : (m n j : ℕ) (args : List ℕ) (c k : List Label) → AreTerms label_arity m c → j ≡ m + n → terms_weight w args j (c ++ k) ≡ laden w args c + terms_weight w (drop (params c) args) n k
+  terms-append zero n j args [] k t e = let z : j ≡ n = omega arith in omega (arith, ap (λ i. terms_weight w args i k) z)
+  terms-append zero n j args (l ∷ c) k t e = absurd t
+  terms-append (suc m) n j args [] k t e = absurd t
+  terms-append (suc m) n zero args (l ∷ c) k t e = absurd (omega arith)
+  terms-append (suc m) n (suc j) args (Param ∷ c) k t e = omega (arith, terms-append (0 + m) n j (drop 1 args) c k t (omega arith), ap (λ us. terms_weight w us n k) (drop-one (params c) args))
+  terms-append (suc m) n (suc j) args (Bottom ∷ c) k t e = omega (arith, terms-append (0 + m) n j args c k t (omega arith))
+  terms-append (suc m) n (suc j) args (Symbol f ∷ c) k t e = omega (arith, terms-append (2 + m) n (suc (suc j)) args c k t (omega arith))
+  terms-append (suc m) n (suc j) args (Call q ∷ c) k t e = omega (arith, terms-append (0 + m) n j args c k t (omega arith))
+
+  -- labels with terms in the places of their parameters weigh what they do where the parameters weigh the terms
+  pub laden-put : (args : List ℕ) (T : List Label) (cs : List (List Label)) → params T ≡ length cs → laden w args (put T cs) ≡ laden w (portions args cs) T
+  laden-put args [] cs e = refl
+  laden-put args (Param ∷ T) [] e = absurd (omega arith)
+  laden-put args (Param ∷ T) (c ∷ cs) e = omega (arith, laden-append args c (put T cs), laden-put (drop (params c) args) T cs (omega arith))
+  laden-put args (Bottom ∷ T) cs e = omega (arith, laden-put args T cs e)
+  laden-put args (Symbol f ∷ T) cs e = omega (arith, laden-put args T cs e)
+  laden-put args (Call q ∷ T) cs e = omega (arith, laden-put args T cs e)
+
+  pub before-put : (args : List ℕ) (T : List Label) (cs : List (List Label)) (i n : ℕ) → params T ≡ length cs → i ≡ weight_before node_weight (sizes cs) T n → n < sum_by node_weight T → weight_before w args (put T cs) i ≡ weight_before w (portions args cs) T n
+  before-put args [] cs i n e d h = absurd (omega arith)
+  before-put args (Param ∷ T) [] i n e d h = absurd (omega arith)
+  before-put args (Param ∷ T) (c ∷ cs) i n e d h =
+      let j : ℕ = weight_before node_weight (sizes cs) T n in
+      omega (arith, before-append args c (put T cs) i j d, before-put (drop (params c) args) T cs j n (omega arith) refl (omega (arith, h, sum_by-cons node_weight Param T)))
+  before-put args (Bottom ∷ T) cs i n e d h = omega (arith, before-put args T cs i n e (omega arith) (omega (arith, h, sum_by-cons node_weight Bottom T)))
+  before-put args (Symbol f ∷ T) cs zero zero e d h = refl
+  before-put args (Symbol f ∷ T) cs (suc i) zero e d h = absurd (omega arith)
+  before-put args (Symbol f ∷ T) cs zero (suc n) e d h = absurd (omega arith)
+  before-put args (Symbol f ∷ T) cs (suc i) (suc n) e d h = omega (arith, before-put args T cs i n e (omega arith) (omega (arith, h, sum_by-cons node_weight (Symbol f) T)))
+  before-put args (Call q ∷ T) cs i n e d h = omega (arith, before-put args T cs i n e (omega arith) (omega (arith, h, sum_by-cons node_weight (Call q) T)))
+
+  terms-put : (m n : ℕ) (args : List ℕ) (T : List Label) (cs : List (List Label)) → params T ≡ length cs → AllTerms cs → AreTerms label_arity m T → n ≤ m → terms_weight w args n (put T cs) ≡ terms_weight w (portions args cs) n T
+  terms-put m zero args T cs e a t h = refl
+  terms-put zero (suc n) args T cs e a t h = absurd (omega arith)
+  terms-put (suc m) (suc n) args [] cs e a t h = absurd t
+  terms-put (suc m) (suc n) args (Param ∷ T) [] e a t h = absurd (omega arith)
+  terms-put (suc m) (suc n) args (Param ∷ T) (c ∷ cs) e a t h =
+      omega (arith, terms-append 1 n (suc n) args c (put T cs) a.0 (omega arith), terms-put (0 + m) n (drop (params c) args) T cs (omega arith) a.1 t (omega arith))
+  terms-put (suc m) (suc n) args (Bottom ∷ T) cs e a t h = omega (arith, terms-put (0 + m) n args T cs e a t (omega arith))
+  terms-put (suc m) (suc n) args (Symbol f ∷ T) cs e a t h = omega (arith, terms-put (2 + m) (suc (suc n)) args T cs e a t (omega arith))
+  terms-put (suc m) (suc n) args (Call q ∷ T) cs e a t h = omega (arith, terms-put (0 + m) n args T cs e a t (omega arith))
+
+  pub below-put : (m : ℕ) (args : List ℕ) (T : List Label) (cs : List (List Label)) (i n : ℕ) → params T ≡ length cs → AllTerms cs → AreTerms label_arity m T → i ≡ weight_before node_weight (sizes cs) T n → n < sum_by node_weight T → weight_below w args (put T cs) i ≡ weight_below w (portions args cs) T n
+  below-put m args [] cs i n e a t d h = absurd (omega arith)
+  below-put zero args (l ∷ T) cs i n e a t d h = absurd t
+  below-put (suc m) args (Param ∷ T) [] i n e a t d h = absurd (omega arith)
+  below-put (suc m) args (Param ∷ T) (c ∷ cs) i n e a t d h =
+      let j : ℕ = weight_before node_weight (sizes cs) T n in
+      below-append args c (put T cs) i j d ∙ below-put (0 + m) (drop (params c) args) T cs j n (omega arith) a.1 t refl (omega (arith, h, sum_by-cons node_weight Param T))
+  below-put (suc m) args (Bottom ∷ T) cs i n e a t d h = below-put (0 + m) args T cs i n e a t (omega arith) (omega (arith, h, sum_by-cons node_weight Bottom T))
+  below-put (suc m) args (Symbol f ∷ T) cs zero zero e a t d h = terms-put (2 + m) 1 args T cs e a t (omega arith)
+  below-put (suc m) args (Symbol f ∷ T) cs (suc i) zero e a t d h = absurd (omega arith)
+  below-put (suc m) args (Symbol f ∷ T) cs zero (suc n) e a t d h = absurd (omega arith)
+  below-put (suc m) args (Symbol f ∷ T) cs (suc i) (suc n) e a t d h = below-put (2 + m) args T cs i n e a t (omega arith) (omega (arith, h, sum_by-cons node_weight (Symbol f) T))
+  below-put (suc m) args (Call q ∷ T) cs i n e a t d h = below-put (0 + m) args T cs i n e a t (omega arith) (omega (arith, h, sum_by-cons node_weight (Call q) T))
+
+  -- what labels weigh is what they do without their parameters, and the arguments
+  pub laden-sum : (zero_param : w Param ≡ 0) (args : List ℕ) (T : List Label) → params T ≡ length args → laden w args T ≡ sum_by w T + sum args
+  laden-sum z [] [] e = refl
+  laden-sum z (a ∷ args) [] e = absurd (omega arith)
+  laden-sum z [] (Param ∷ T) e = absurd (omega arith)
+  laden-sum z (a ∷ args) (Param ∷ T) e = omega (arith, laden-sum z args T (omega arith), sum_by-cons w Param T, sum_by-cons (λ (x : ℕ). x) a args, z)
+  laden-sum z args (Bottom ∷ T) e = omega (arith, laden-sum z args T e, sum_by-cons w Bottom T)
+  laden-sum z args (Symbol f ∷ T) e = omega (arith, laden-sum z args T e, sum_by-cons w (Symbol f) T)
+  laden-sum z args (Call q ∷ T) e = omega (arith, laden-sum z args T e, sum_by-cons w (Call q) T)
+
+-- the nodes and the arguments in the first i segments
+abbrev pub reach : List Label → List ℕ → ℕ → ℕ
+reach T args zero = 0
+reach T args (suc i) = reach T args i + sum_by node_weight (segment i T) + get_or args i 0
+
+reach-param : (T : List Label) (args : List ℕ) (i : ℕ) → reach (Param ∷ T) args (suc i) ≡ get_or args 0 0 + reach T (drop 1 args) i
+reach-param T args zero = omega arith
+reach-param T args (suc i) = omega (arith, reach-param T args i, next args i)
+  where
+    next : (args : List ℕ) (i : ℕ) → get_or args (suc i) 0 ≡ get_or (drop 1 args) i 0
+    next [] i = refl
+    next (a ∷ args) i = refl
+
+reach-plain : (l : Label) → IsPlain l → (T : List Label) (args : List ℕ) (i : ℕ) → reach (l ∷ T) args (suc i) ≡ node_weight l + reach T args (suc i)
+reach-plain l p T args zero = omega (arith, ap (sum_by node_weight) (segment-now node_weight l p T), sum_by-cons node_weight l (segment 0 T))
+reach-plain l p T args (suc i) = omega (arith, reach-plain l p T args i, ap (sum_by node_weight) (segment-later node_weight l p T i))
+
+sums-plain : (l : Label) → IsPlain l → (T : List Label) (i : ℕ) → segments_sum node_weight (l ∷ T) 0 (suc i) ≡ node_weight l + segments_sum node_weight T 0 (suc i)
+sums-plain l p T i = omega (arith, ap (sum_by node_weight) (segment-now node_weight l p T), sum_by-cons node_weight l (segment 0 T), segments_sum-later node_weight l p T 0 i)
+
+-- the number of a node with the arguments' nodes counted in
+pub before-segments : (args : List ℕ) (T : List Label) (i o n : ℕ) → n ≡ segments_sum node_weight T 0 i + o → o < sum_by node_weight (segment i T) → weight_before node_weight args T n ≡ reach T args i + o
+before-segments args [] i o n e h = absurd (omega arith)
+before-segments args (Param ∷ T) zero o n e h = absurd (omega arith)
+before-segments args (Param ∷ T) (suc i) o n e h = omega (arith, before-segments (drop 1 args) T i o n (omega (arith, e, segments_sum-param node_weight T 0 i)) h, reach-param T args i)
+before-segments args (Bottom ∷ T) zero o n e h = omega (arith, before-segments args T 0 o n e (omega (arith, h, sum_by-cons node_weight Bottom (segment 0 T))))
+before-segments args (Bottom ∷ T) (suc i) o n e h = omega (arith, before-segments args T (suc i) o n (omega (arith, e, sums-plain Bottom tt T i)) h, reach-plain Bottom tt T args i)
+before-segments args (Call q ∷ T) zero o n e h = omega (arith, before-segments args T 0 o n e (omega (arith, h, sum_by-cons node_weight (Call q) (segment 0 T))))
+before-segments args (Call q ∷ T) (suc i) o n e h = omega (arith, before-segments args T (suc i) o n (omega (arith, e, sums-plain (Call q) tt T i)) h, reach-plain (Call q) tt T args i)
+before-segments args (Symbol f ∷ T) zero o zero e h = omega arith
+before-segments args (Symbol f ∷ T) zero o (suc n) e h = omega (arith, before-segments args T 0 n n (omega arith) (omega (arith, h, e, sum_by-cons node_weight (Symbol f) (segment 0 T))))
+before-segments args (Symbol f ∷ T) (suc i) o zero e h = absurd (omega (arith, e, sums-plain (Symbol f) tt T i))
+before-segments args (Symbol f ∷ T) (suc i) o (suc n) e h = omega (arith, before-segments args T (suc i) o n (omega (arith, e, sums-plain (Symbol f) tt T i)) h, reach-plain (Symbol f) tt T args i)
+
+-- what is listed of a term is one term
+pub listed-term : (n : ℕ) (t : Term) (k : List Label) → AreTerms label_arity n k → AreTerms label_arity (suc n) (listed t k)
+listed-term n Leaf k a = let z : n ≡ 0 + n = omega arith in subst (λ (j : ℕ). AreTerms label_arity j k) z a
+listed-term n (Hole i) k a = let z : n ≡ 0 + n = omega arith in subst (λ (j : ℕ). AreTerms label_arity j k) z a
+listed-term n (Node f a b) k t =
+    let z : suc (suc n) ≡ 2 + n = omega arith in
+    subst (λ (j : ℕ). AreTerms label_arity j (listed a (listed b k))) z (listed-term (suc n) a (listed b k) (listed-term n b k t))

@@ -9,3 +9,4 @@ pub mod TreePlaces
 pub mod Heading
 pub mod Naming
 pub mod Lading
+pub mod Listings

@@ -10,3 +10,4 @@ pub mod Heading
 pub mod Naming
 pub mod Lading
 pub mod Listings
+pub mod Loads

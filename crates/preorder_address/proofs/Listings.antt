@@ -8,12 +8,7 @@ use Rattle.slt_grammar.specs.Segments.{part_of}
 use Rattle.slt_grammar.specs.Tours.{Stop, stop, opened_kids, once_closed, entered, tour}
 use Rattle.slt_grammar.specs.declared.rules.Rule.{Rule}
 use Rattle.slt_grammar.proofs.TourLemmas.{spread_nodes}
-
--- the stops before the one at the node at a place
-abbrev pub stops_before : List (List (Stop Node)) → List Node → ℕ → List (Stop Node)
-stops_before afters xs zero = []
-stops_before afters [] (suc p) = []
-stops_before afters (x ∷ xs) (suc p) = stop x 0 ∷ (once_closed x.kids (get_or afters 0 []) ++ stops_before (entered kids_of x afters) xs p)
+use Rattle.preorder_address.specs.Sites.{stops_before}
 
 length-opened : (x : Node) (i n : ℕ) (a : List (Stop Node)) → length (opened_kids x i n a) ≡ n
 length-opened x i zero a = refl

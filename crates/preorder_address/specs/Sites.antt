@@ -1,8 +1,12 @@
 -- What stands before a node in labels, and what the first term behind it weighs. A parameter weighs what its argument does: the numbers
 -- in `args`, one after another.
-use Rattle.std.specs.Prelude.{ℕ, zero, suc, ◌+◌, List, [], ◌∷◌, drop, get_or}
+use Rattle.std.specs.Prelude.{ℕ, zero, suc, ◌+◌, List, [], ◌∷◌, ◌++◌, take, drop, get_or, sum, sum_by}
+use Rattle.rule_arena.specs.Terms.{Node, kids_of}
 use Rattle.rule_arena.specs.declared.label.Label.{Label}
 use Rattle.rule_arena.specs.declared.label.Label.TheVariants.{Bottom, Symbol, Call, Param}
+use Rattle.slt_grammar.specs.Segments.{preorder}
+use Rattle.slt_grammar.specs.Tours.{Stop, stop, once_closed, entered}
+use Rattle.slt_grammar.specs.declared.rules.Rule.{Rule}
 
 -- what labels weigh together
 abbrev pub laden : (Label → ℕ) → List ℕ → List Label → ℕ
@@ -33,3 +37,33 @@ weight_below w args (Param ∷ ls) n = weight_below w (drop 1 args) ls n
 weight_below w args (Symbol f ∷ ls) zero = terms_weight w args 1 ls
 weight_below w args (Symbol f ∷ ls) (suc n) = weight_below w args ls n
 weight_below w args (l ∷ ls) n = weight_below w args ls n
+
+-- the labels of what a node means, with a parameter for each kid
+abbrev pub shape : List Rule → Label → List Label
+shape G Bottom = Bottom ∷ []
+shape G (Symbol f) = Symbol f ∷ Param ∷ Param ∷ []
+shape G (Call q) = preorder G q
+shape G Param = Param ∷ []
+
+-- what a node of a body weighs without its kids
+abbrev pub own_weight : (Label → ℕ) → List Rule → List ℕ → Label → ℕ
+own_weight w G args Param = get_or args 0 0
+own_weight w G args l = sum_by w (shape G l)
+
+-- the arguments for what is behind a node
+abbrev pub args_behind : Label → List ℕ → List ℕ
+args_behind Param args = drop 1 args
+args_behind l args = args
+
+-- what each of the terms of a body weighs, its calls replaced
+abbrev pub term_weights : (Label → ℕ) → List Rule → List ℕ → List Node → List ℕ
+term_weights w G args [] = []
+term_weights w G args (x ∷ xs) =
+    let all = term_weights w G (args_behind x.label args) xs in
+    (own_weight w G args x.label + sum (take x.kids all)) ∷ drop x.kids all
+
+-- the stops of a tour before the one at the node at a place
+abbrev pub stops_before : List (List (Stop Node)) → List Node → ℕ → List (Stop Node)
+stops_before afters xs zero = []
+stops_before afters [] (suc p) = []
+stops_before afters (x ∷ xs) (suc p) = stop x 0 ∷ (once_closed x.kids (get_or afters 0 []) ++ stops_before (entered kids_of x afters) xs p)

@@ -127,6 +127,14 @@ module _ (w : Label → ℕ) where
   laden-sum z args (Symbol f ∷ T) e = omega (arith, laden-sum z args T e, sum_by-cons w (Symbol f) T)
   laden-sum z args (Call q ∷ T) e = omega (arith, laden-sum z args T e, sum_by-cons w (Call q) T)
 
+-- labels without parameters weigh what they do alone
+pub laden-none : (w : Label → ℕ) (args : List ℕ) (ls : List Label) → params ls ≡ 0 → laden w args ls ≡ sum_by w ls
+laden-none w args [] e = refl
+laden-none w args (Param ∷ ls) e = absurd (omega arith)
+laden-none w args (Bottom ∷ ls) e = omega (arith, laden-none w args ls e, sum_by-cons w Bottom ls)
+laden-none w args (Symbol f ∷ ls) e = omega (arith, laden-none w args ls e, sum_by-cons w (Symbol f) ls)
+laden-none w args (Call q ∷ ls) e = omega (arith, laden-none w args ls e, sum_by-cons w (Call q) ls)
+
 -- the nodes and the arguments in the first i segments
 abbrev pub reach : List Label → List ℕ → ℕ → ℕ
 reach T args zero = 0
@@ -144,8 +152,16 @@ reach-plain : (l : Label) → IsPlain l → (T : List Label) (args : List ℕ) (
 reach-plain l p T args zero = omega (arith, ap (sum_by node_weight) (segment-now node_weight l p T), sum_by-cons node_weight l (segment 0 T))
 reach-plain l p T args (suc i) = omega (arith, reach-plain l p T args i, ap (sum_by node_weight) (segment-later node_weight l p T i))
 
-sums-plain : (l : Label) → IsPlain l → (T : List Label) (i : ℕ) → segments_sum node_weight (l ∷ T) 0 (suc i) ≡ node_weight l + segments_sum node_weight T 0 (suc i)
-sums-plain l p T i = omega (arith, ap (sum_by node_weight) (segment-now node_weight l p T), sum_by-cons node_weight l (segment 0 T), segments_sum-later node_weight l p T 0 i)
+sums-plain : (w : Label → ℕ) (l : Label) → IsPlain l → (T : List Label) (i : ℕ) → segments_sum w (l ∷ T) 0 (suc i) ≡ w l + segments_sum w T 0 (suc i)
+sums-plain w l p T i = omega (arith, ap (sum_by w) (segment-now w l p T), sum_by-cons w l (segment 0 T), segments_sum-later w l p T 0 i)
+
+-- all segments together
+pub segments-all : (w : Label → ℕ) → w Param ≡ 0 → (T : List Label) → segments_sum w T 0 (suc (params T)) ≡ sum_by w T
+segments-all w z [] = refl
+segments-all w z (Param ∷ T) = omega (arith, segments_sum-param w T 0 (suc (params T)), segments-all w z T, sum_by-cons w Param T, z)
+segments-all w z (Bottom ∷ T) = omega (arith, sums-plain w Bottom tt T (params T), segments-all w z T, sum_by-cons w Bottom T)
+segments-all w z (Symbol f ∷ T) = omega (arith, sums-plain w (Symbol f) tt T (params T), segments-all w z T, sum_by-cons w (Symbol f) T)
+segments-all w z (Call q ∷ T) = omega (arith, sums-plain w (Call q) tt T (params T), segments-all w z T, sum_by-cons w (Call q) T)
 
 -- the number of a node with the arguments' nodes counted in
 pub before-segments : (args : List ℕ) (T : List Label) (i o n : ℕ) → n ≡ segments_sum node_weight T 0 i + o → o < sum_by node_weight (segment i T) → weight_before node_weight args T n ≡ reach T args i + o
@@ -153,13 +169,13 @@ before-segments args [] i o n e h = absurd (omega arith)
 before-segments args (Param ∷ T) zero o n e h = absurd (omega arith)
 before-segments args (Param ∷ T) (suc i) o n e h = omega (arith, before-segments (drop 1 args) T i o n (omega (arith, e, segments_sum-param node_weight T 0 i)) h, reach-param T args i)
 before-segments args (Bottom ∷ T) zero o n e h = omega (arith, before-segments args T 0 o n e (omega (arith, h, sum_by-cons node_weight Bottom (segment 0 T))))
-before-segments args (Bottom ∷ T) (suc i) o n e h = omega (arith, before-segments args T (suc i) o n (omega (arith, e, sums-plain Bottom tt T i)) h, reach-plain Bottom tt T args i)
+before-segments args (Bottom ∷ T) (suc i) o n e h = omega (arith, before-segments args T (suc i) o n (omega (arith, e, sums-plain node_weight Bottom tt T i)) h, reach-plain Bottom tt T args i)
 before-segments args (Call q ∷ T) zero o n e h = omega (arith, before-segments args T 0 o n e (omega (arith, h, sum_by-cons node_weight (Call q) (segment 0 T))))
-before-segments args (Call q ∷ T) (suc i) o n e h = omega (arith, before-segments args T (suc i) o n (omega (arith, e, sums-plain (Call q) tt T i)) h, reach-plain (Call q) tt T args i)
+before-segments args (Call q ∷ T) (suc i) o n e h = omega (arith, before-segments args T (suc i) o n (omega (arith, e, sums-plain node_weight (Call q) tt T i)) h, reach-plain (Call q) tt T args i)
 before-segments args (Symbol f ∷ T) zero o zero e h = omega arith
 before-segments args (Symbol f ∷ T) zero o (suc n) e h = omega (arith, before-segments args T 0 n n (omega arith) (omega (arith, h, e, sum_by-cons node_weight (Symbol f) (segment 0 T))))
-before-segments args (Symbol f ∷ T) (suc i) o zero e h = absurd (omega (arith, e, sums-plain (Symbol f) tt T i))
-before-segments args (Symbol f ∷ T) (suc i) o (suc n) e h = omega (arith, before-segments args T (suc i) o n (omega (arith, e, sums-plain (Symbol f) tt T i)) h, reach-plain (Symbol f) tt T args i)
+before-segments args (Symbol f ∷ T) (suc i) o zero e h = absurd (omega (arith, e, sums-plain node_weight (Symbol f) tt T i))
+before-segments args (Symbol f ∷ T) (suc i) o (suc n) e h = omega (arith, before-segments args T (suc i) o n (omega (arith, e, sums-plain node_weight (Symbol f) tt T i)) h, reach-plain (Symbol f) tt T args i)
 
 -- what is listed of a term is one term
 pub listed-term : (n : ℕ) (t : Term) (k : List Label) → AreTerms label_arity n k → AreTerms label_arity (suc n) (listed t k)

@@ -11,3 +11,5 @@ pub mod Naming
 pub mod Lading
 pub mod Listings
 pub mod Loads
+pub mod Weighers
+pub mod KidWalking

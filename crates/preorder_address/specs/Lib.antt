@@ -4,3 +4,4 @@ pub mod Descents
 pub mod Chains
 pub mod TreeNumbers
 pub mod Sites
+pub mod Weighing

@@ -1,10 +1,11 @@
 -- What stands before a node in labels, and what the first term behind it weighs. A parameter weighs what its argument does: the numbers
 -- in `args`, one after another.
-use Rattle.std.specs.Prelude.{ℕ, zero, suc, ◌+◌, List, [], ◌∷◌, ◌++◌, take, drop, get_or, sum, sum_by}
+use Rattle.std.specs.Prelude.{ℕ, zero, suc, ◌+◌, List, [], ◌∷◌, ◌++◌, take, drop, map, get_or, sum, sum_by}
 use Rattle.rule_arena.specs.Terms.{Node, kids_of}
 use Rattle.rule_arena.specs.declared.label.Label.{Label}
 use Rattle.rule_arena.specs.declared.label.Label.TheVariants.{Bottom, Symbol, Call, Param}
-use Rattle.slt_grammar.specs.Segments.{preorder}
+use Rattle.slt_grammar.specs.Keyed.{KeyedRule, nodes_at, rules_of}
+use Rattle.slt_grammar.specs.Segments.{preorder, piece, spread}
 use Rattle.slt_grammar.specs.Tours.{Stop, stop, once_closed, entered}
 use Rattle.slt_grammar.specs.declared.rules.Rule.{Rule}
 
@@ -67,3 +68,7 @@ abbrev pub stops_before : List (List (Stop Node)) → List Node → ℕ → List
 stops_before afters xs zero = []
 stops_before afters [] (suc p) = []
 stops_before afters (x ∷ xs) (suc p) = stop x 0 ∷ (once_closed x.kids (get_or afters 0 []) ++ stops_before (entered kids_of x afters) xs p)
+
+-- the labels of a rule's value before the node at a place of its body
+abbrev pub labels_before : List KeyedRule → ℕ → ℕ → List Label
+labels_before G r p = spread (piece (rules_of G)) (map (λ m. stop m.item.label m.part) (stops_before ([] ∷ []) (nodes_at G r) p)) []

@@ -9,6 +9,8 @@ mod descent;
 mod laws;
 mod nodes;
 mod numbering;
+mod site;
+mod weigher;
 
 pub use descent::{Descent, locate, locate_place};
 pub use laws::descents_arrive;

@@ -13,3 +13,4 @@ pub mod Listings
 pub mod Loads
 pub mod Weighers
 pub mod KidWalking
+pub mod Passing

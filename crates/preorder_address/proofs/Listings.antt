@@ -114,7 +114,7 @@ module _ (G : List Rule) where
         (p.0, placed-append (b ++ part_of G m.item.label m.part) ms ns p.1 (subst (λ (ls : List Label). ArePlaced ls ns) (sym (append_assoc b (part_of G m.item.label m.part) (spread_nodes G ms))) q))
 
     -- and so are the stops behind each of these terms
-    abbrev AreAllPlaced : List Label → List (List Label) → List (List (Stop Node)) → Type 0
+    abbrev pub AreAllPlaced : List Label → List (List Label) → List (List (Stop Node)) → Type 0
     AreAllPlaced b [] [] = Unit {0}
     AreAllPlaced b [] (a ∷ behind) = ⊥
     AreAllPlaced b (t ∷ ts) [] = ⊥
@@ -172,7 +172,7 @@ module _ (G : List Rule) where
           (λ j. let z : 0 + j ≡ j = omega arith in ap (λ q. get_or (kids here) q []) z ∙ ap (λ us. get_or us j []) d) w pa pr)
 
     -- each stop of a tour is placed
-    tour-placed : (n here : ℕ) (b : List Label) (afters : List (List (Stop Node))) (xs : List Node) → AreTerms kids_of n xs → ((j : ℕ) → slice_get all (here + j) ≡ slice_get xs j)
+    pub tour-placed : (n here : ℕ) (b : List Label) (afters : List (List (Stop Node))) (xs : List Node) → AreTerms kids_of n xs → ((j : ℕ) → slice_get all (here + j) ≡ slice_get xs j)
         → ((j : ℕ) → base (here + j) ≡ b ++ spread_nodes G (stops_before afters xs j)) → ((j : ℕ) → kids (here + j) ≡ listings (drop (suc j) xs)) → AreAllPlaced b (listings xs) afters
         → ArePlaced b (tour kids_of afters xs)
     tour-placed n here b afters [] t hx hb hk p = tt
@@ -197,3 +197,57 @@ module _ (G : List Rule) where
       where
         regroup : (b p q r : List Label) → b ++ (p ++ (q ++ r)) ≡ ((b ++ p) ++ q) ++ r
         regroup b p q r = simp append_assoc
+
+drop-at : (xs : List Node) (p : ℕ) (x : Node) → slice_get xs p ≡ Some x → drop p xs ≡ x ∷ drop (suc p) xs
+drop-at [] p x e = cc
+drop-at (y ∷ xs) zero x e = let f : y ≡ x = cc in ap (λ z. z ∷ xs) f
+drop-at (y ∷ xs) (suc p) x e = drop-at xs p x e
+
+within-list : (xs : List Node) (p : ℕ) (x : Node) → slice_get xs p ≡ Some x → p < length xs
+within-list [] p x e = cc
+within-list (y ∷ xs) zero x e = omega arith
+within-list (y ∷ xs) (suc p) x e = omega (arith, within-list xs p x e)
+
+module _ (G : List Rule) (ns : List Node) (t : AreTerms kids_of 1 ns) where
+  -- the labels before the node at a place, and those of its kids and of the terms behind them
+  abbrev pub before_place : ℕ → List Label
+  before_place p = spread_nodes G (stops_before ([] ∷ []) ns p)
+
+  abbrev pub kids_from : ℕ → List (List Label)
+  kids_from p = listings G (drop (suc p) ns)
+
+  pub placed-in-tour : (passed rest : List (Stop Node)) (m : Stop Node) → tour kids_of ([] ∷ []) ns ≡ passed ++ m ∷ rest → IsPlaced G ns before_place kids_from (spread_nodes G passed) m
+  placed-in-tour passed rest m e = at-split [] passed (subst (λ (ms : List (Stop Node)). ArePlaced G ns before_place kids_from [] ms) e all-placed)
+    where
+      one : (ts : List (List Label)) → length ts ≡ 1 → AreAllPlaced G ns before_place kids_from [] ts ([] ∷ [])
+      one [] n = absurd (omega arith)
+      one (u ∷ []) n = (tt, tt)
+      one (u ∷ v ∷ ts) n = absurd (omega arith)
+
+      all-placed : ArePlaced G ns before_place kids_from [] (tour kids_of ([] ∷ []) ns)
+      all-placed =
+          tour-placed G ns before_place kids_from 1 0 [] ([] ∷ []) ns t (λ j. let z : 0 + j ≡ j = omega arith in ap (slice_get ns) z) (λ j. let z : 0 + j ≡ j = omega arith in ap before_place z)
+          (λ j. let z : 0 + j ≡ j = omega arith in ap kids_from z) (one (listings G ns) (length-listings G 1 ns t))
+
+      at-split : (b : List Label) (ms : List (Stop Node)) → ArePlaced G ns before_place kids_from b (ms ++ m ∷ rest) → IsPlaced G ns before_place kids_from (b ++ spread_nodes G ms) m
+      at-split b [] p = subst (λ (ls : List Label). IsPlaced G ns before_place kids_from ls m) (sym (append-nil b)) p.0
+      at-split b (k ∷ ms) p =
+          subst (λ (ls : List Label). IsPlaced G ns before_place kids_from ls m) (append_assoc b (part_of G k.item.label k.part) (spread_nodes G ms)) (at-split (b ++ part_of G k.item.label k.part) ms p.1)
+
+  -- the tour comes to each node
+  pub tour-comes : (p : ℕ) (x : Node) → slice_get ns p ≡ Some x → (behind : List (Stop Node)) × (tour kids_of ([] ∷ []) ns ≡ stops_before ([] ∷ []) ns p ++ stop x 0 ∷ behind)
+  tour-comes p x e =
+      let r = tour-at 1 ([] ∷ []) ns p t refl (within-list ns p x e) in
+      let d = drop-at ns p x e in
+      (once_closed x.kids (get_or r.later 0 []) ++ tour kids_of (entered kids_of x r.later) (drop (suc p) ns), r.split ∙ ap (λ xs. stops_before ([] ∷ []) ns p ++ tour kids_of r.later xs) d)
+
+  -- behind what is before a node stand its parts around its kids
+  pub value-at-node : (p : ℕ) (x : Node) → slice_get ns p ≡ Some x → (rest : List Label) × (spread_nodes G (tour kids_of ([] ∷ []) ns) ≡ before_place p ++ (weave G x.label 0 (take x.kids (kids_from p)) ++ rest))
+  value-at-node p x e =
+      let r = tour-at 1 ([] ∷ []) ns p t refl (within-list ns p x e) in
+      let d = drop-at ns p x e in
+      (
+        spread_nodes G (get_or r.later 0 []) ++ strung G (drop x.kids (kids_from p)) (drop 1 r.later),
+        ap (spread_nodes G) r.split ∙ spread-nodes-append G (stops_before ([] ∷ []) ns p) (tour kids_of r.later (drop p ns))
+        ∙ ap (λ ls. before_place p ++ ls) (spread-listings G r.count r.later (drop p ns) r.terms ∙ ap (λ xs. strung G (listings G xs) r.later) d),
+      )

@@ -131,7 +131,7 @@ fn pass_to<L: Ledger>(
         weight: 0,
         params: 0,
     };
-    loop {
+    'stops: loop {
         if begins_at(&walk, key) {
             return passed;
         }

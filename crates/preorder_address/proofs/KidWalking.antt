@@ -200,7 +200,7 @@ terms-few zero xs t = omega arith
 terms-few (suc n) [] t = absurd t
 terms-few (suc n) (x ∷ xs) t = omega (arith, terms-few (x.kids + n) xs t)
 
-terms-behind : (xs : List Node) (p n : ℕ) → AreTerms kids_of n xs → (x : Node) → slice_get xs p ≡ Some x → (m : ℕ) × AreTerms kids_of (x.kids + m) (drop (p + 1) xs)
+pub terms-behind : (xs : List Node) (p n : ℕ) → AreTerms kids_of n xs → (x : Node) → slice_get xs p ≡ Some x → (m : ℕ) × AreTerms kids_of (x.kids + m) (drop (p + 1) xs)
 terms-behind [] p n t x e = cc
 terms-behind (y ∷ xs) p zero t x e = absurd t
 terms-behind (y ∷ xs) zero (suc n) t x e = let f : y ≡ x = cc in (n, subst (λ (z : Node). AreTerms kids_of (z.kids + n) xs) f t)

@@ -1,5 +1,5 @@
 -- Weights of labels whose parameters weigh what their arguments do.
-use Rattle.std.proofs.Common.{◌≡◌, ℕ, zero, suc, ◌+◌, ◌<◌, ◌≤◌, List, [], ◌∷◌, ◌++◌, length, get_or, drop, refl, ap, ◌∙◌, arith, sum_by, subst}
+use Rattle.std.proofs.Common.{◌≡◌, ℕ, zero, suc, ◌+◌, ◌<◌, ◌≤◌, List, [], ◌∷◌, ◌++◌, length, get_or, drop, take, refl, ap, sym, ◌∙◌, arith, sum_by, subst}
 use Rattle.std.specs.Prelude.{sum}
 use Rattle.std.proofs.lemmas.List.Sums.{sum_by-cons, sum_by-append}
 use Rattle.rule_arena.specs.Preorder.{AreTerms}
@@ -184,3 +184,110 @@ listed-term n (Hole i) k a = let z : n ≡ 0 + n = omega arith in subst (λ (j :
 listed-term n (Node f a b) k t =
     let z : suc (suc n) ≡ 2 + n = omega arith in
     subst (λ (j : ℕ). AreTerms label_arity j (listed a (listed b k))) z (listed-term (suc n) a (listed b k) (listed-term n b k t))
+
+-- arguments that weigh the same
+abbrev pub Alike : List ℕ → List ℕ → Type 0
+Alike a b = (j : ℕ) → get_or a j 0 ≡ get_or b j 0
+
+alike-behind : (a b : List ℕ) → Alike a b → Alike (drop 1 a) (drop 1 b)
+alike-behind a b e j = behind a j ∙ e (suc j) ∙ sym (behind b j)
+  where
+    behind : (a : List ℕ) (j : ℕ) → get_or (drop 1 a) j 0 ≡ get_or a (suc j) 0
+    behind [] j = refl
+    behind (x ∷ a) j = refl
+
+module _ (w : Label → ℕ) where
+  pub laden-alike : (a b : List ℕ) → Alike a b → (ls : List Label) → laden w a ls ≡ laden w b ls
+  laden-alike a b e [] = refl
+  laden-alike a b e (Param ∷ ls) = omega (arith, e 0, laden-alike (drop 1 a) (drop 1 b) (alike-behind a b e) ls)
+  laden-alike a b e (Bottom ∷ ls) = omega (arith, laden-alike a b e ls)
+  laden-alike a b e (Symbol f ∷ ls) = omega (arith, laden-alike a b e ls)
+  laden-alike a b e (Call q ∷ ls) = omega (arith, laden-alike a b e ls)
+
+  pub before-alike : (a b : List ℕ) → Alike a b → (ls : List Label) (n : ℕ) → weight_before w a ls n ≡ weight_before w b ls n
+  before-alike a b e [] n = refl
+  before-alike a b e (Param ∷ ls) n = omega (arith, e 0, before-alike (drop 1 a) (drop 1 b) (alike-behind a b e) ls n)
+  before-alike a b e (Bottom ∷ ls) n = omega (arith, before-alike a b e ls n)
+  before-alike a b e (Symbol f ∷ ls) zero = refl
+  before-alike a b e (Symbol f ∷ ls) (suc n) = omega (arith, before-alike a b e ls n)
+  before-alike a b e (Call q ∷ ls) n = omega (arith, before-alike a b e ls n)
+
+  terms-alike : (a b : List ℕ) → Alike a b → (n : ℕ) (ls : List Label) → terms_weight w a n ls ≡ terms_weight w b n ls
+  terms-alike a b e zero ls = refl
+  terms-alike a b e (suc n) [] = refl
+  terms-alike a b e (suc n) (Param ∷ ls) = omega (arith, e 0, terms-alike (drop 1 a) (drop 1 b) (alike-behind a b e) n ls)
+  terms-alike a b e (suc n) (Bottom ∷ ls) = omega (arith, terms-alike a b e n ls)
+  terms-alike a b e (suc n) (Symbol f ∷ ls) = omega (arith, terms-alike a b e (suc (suc n)) ls)
+  terms-alike a b e (suc n) (Call q ∷ ls) = omega (arith, terms-alike a b e n ls)
+
+  pub below-alike : (a b : List ℕ) → Alike a b → (ls : List Label) (n : ℕ) → weight_below w a ls n ≡ weight_below w b ls n
+  below-alike a b e [] n = refl
+  below-alike a b e (Param ∷ ls) n = below-alike (drop 1 a) (drop 1 b) (alike-behind a b e) ls n
+  below-alike a b e (Bottom ∷ ls) n = below-alike a b e ls n
+  below-alike a b e (Symbol f ∷ ls) zero = terms-alike a b e 1 ls
+  below-alike a b e (Symbol f ∷ ls) (suc n) = below-alike a b e ls n
+  below-alike a b e (Call q ∷ ls) n = below-alike a b e ls n
+
+  -- what stands behind a node's labels tells nothing of it
+  pub before-front : (a : List ℕ) (xs ys : List Label) (n : ℕ) → n < sum_by node_weight xs → weight_before w a (xs ++ ys) n ≡ weight_before w a xs n
+  before-front a [] ys n h = absurd (omega arith)
+  before-front a (Param ∷ xs) ys n h = omega (arith, before-front (drop 1 a) xs ys n (omega (arith, h, sum_by-cons node_weight Param xs)))
+  before-front a (Bottom ∷ xs) ys n h = omega (arith, before-front a xs ys n (omega (arith, h, sum_by-cons node_weight Bottom xs)))
+  before-front a (Symbol f ∷ xs) ys zero h = refl
+  before-front a (Symbol f ∷ xs) ys (suc n) h = omega (arith, before-front a xs ys n (omega (arith, h, sum_by-cons node_weight (Symbol f) xs)))
+  before-front a (Call q ∷ xs) ys n h = omega (arith, before-front a xs ys n (omega (arith, h, sum_by-cons node_weight (Call q) xs)))
+
+  terms-front : (m n : ℕ) (a : List ℕ) (xs ys : List Label) → AreTerms label_arity m xs → n ≤ m → terms_weight w a n (xs ++ ys) ≡ terms_weight w a n xs
+  terms-front m zero a xs ys t h = refl
+  terms-front zero (suc n) a xs ys t h = absurd (omega arith)
+  terms-front (suc m) (suc n) a [] ys t h = absurd t
+  terms-front (suc m) (suc n) a (Param ∷ xs) ys t h = omega (arith, terms-front (0 + m) n (drop 1 a) xs ys t (omega arith))
+  terms-front (suc m) (suc n) a (Bottom ∷ xs) ys t h = omega (arith, terms-front (0 + m) n a xs ys t (omega arith))
+  terms-front (suc m) (suc n) a (Symbol f ∷ xs) ys t h = omega (arith, terms-front (2 + m) (suc (suc n)) a xs ys t (omega arith))
+  terms-front (suc m) (suc n) a (Call q ∷ xs) ys t h = omega (arith, terms-front (0 + m) n a xs ys t (omega arith))
+
+  pub below-front : (m : ℕ) (a : List ℕ) (xs ys : List Label) (n : ℕ) → AreTerms label_arity m xs → n < sum_by node_weight xs → weight_below w a (xs ++ ys) n ≡ weight_below w a xs n
+  below-front m a [] ys n t h = absurd (omega arith)
+  below-front zero a (l ∷ xs) ys n t h = absurd t
+  below-front (suc m) a (Param ∷ xs) ys n t h = below-front (0 + m) (drop 1 a) xs ys n t (omega (arith, h, sum_by-cons node_weight Param xs))
+  below-front (suc m) a (Bottom ∷ xs) ys n t h = below-front (0 + m) a xs ys n t (omega (arith, h, sum_by-cons node_weight Bottom xs))
+  below-front (suc m) a (Symbol f ∷ xs) ys zero t h = terms-front (2 + m) 1 a xs ys t (omega arith)
+  below-front (suc m) a (Symbol f ∷ xs) ys (suc n) t h = below-front (2 + m) a xs ys n t (omega (arith, h, sum_by-cons node_weight (Symbol f) xs))
+  below-front (suc m) a (Call q ∷ xs) ys n t h = below-front (0 + m) a xs ys n t (omega (arith, h, sum_by-cons node_weight (Call q) xs))
+
+pub nodes-put : (T : List Label) (cs : List (List Label)) → params T ≡ length cs → sum_by node_weight (put T cs) ≡ laden node_weight (sizes cs) T
+nodes-put [] cs e = refl
+nodes-put (Param ∷ T) [] e = absurd (omega arith)
+nodes-put (Param ∷ T) (c ∷ cs) e = omega (arith, nodes-put T cs (omega arith), sum_by-append node_weight c (put T cs))
+nodes-put (Bottom ∷ T) cs e = omega (arith, nodes-put T cs e, sum_by-cons node_weight Bottom (put T cs))
+nodes-put (Symbol f ∷ T) cs e = omega (arith, nodes-put T cs e, sum_by-cons node_weight (Symbol f) (put T cs))
+nodes-put (Call q ∷ T) cs e = omega (arith, nodes-put T cs e, sum_by-cons node_weight (Call q) (put T cs))
+
+pub before-less : (a : List ℕ) (T : List Label) (n : ℕ) → n < sum_by node_weight T → weight_before node_weight a T n < laden node_weight a T
+before-less a [] n h = absurd (omega arith)
+before-less a (Param ∷ T) n h = omega (arith, before-less (drop 1 a) T n (omega (arith, h, sum_by-cons node_weight Param T)))
+before-less a (Bottom ∷ T) n h = omega (arith, before-less a T n (omega (arith, h, sum_by-cons node_weight Bottom T)))
+before-less a (Symbol f ∷ T) zero h = omega arith
+before-less a (Symbol f ∷ T) (suc n) h = omega (arith, before-less a T n (omega (arith, h, sum_by-cons node_weight (Symbol f) T)))
+before-less a (Call q ∷ T) n h = omega (arith, before-less a T n (omega (arith, h, sum_by-cons node_weight (Call q) T)))
+
+pub segment-past : (T : List Label) (i : ℕ) → params T < i → segment i T ≡ []
+segment-past [] i h = refl
+segment-past (Param ∷ T) zero h = absurd (omega arith)
+segment-past (Param ∷ T) (suc i) h = segment-past T i (omega arith)
+segment-past (Bottom ∷ T) zero h = absurd (omega arith)
+segment-past (Bottom ∷ T) (suc i) h = segment-past T (suc i) h
+segment-past (Symbol f ∷ T) zero h = absurd (omega arith)
+segment-past (Symbol f ∷ T) (suc i) h = segment-past T (suc i) h
+segment-past (Call q ∷ T) zero h = absurd (omega arith)
+segment-past (Call q ∷ T) (suc i) h = segment-past T (suc i) h
+
+pub get_or-sizes : (k : ℕ) (cs : List (List Label)) (i : ℕ) → i < k → get_or (sizes (take k cs)) i 0 ≡ sum_by node_weight (get_or cs i [])
+get_or-sizes zero cs i h = absurd (omega arith)
+get_or-sizes (suc k) [] i h = refl
+get_or-sizes (suc k) (c ∷ cs) zero h = refl
+get_or-sizes (suc k) (c ∷ cs) (suc i) h = get_or-sizes k cs i (omega arith)
+
+-- a term whose first labels are a whole term weighs what these do
+pub first-term : (w : Label → ℕ) (a : List ℕ) (c k : List Label) → AreTerms label_arity 1 c → terms_weight w a 1 (c ++ k) ≡ laden w a c
+first-term w a c k t = omega (arith, terms-append w 1 0 1 a c k t (omega arith))

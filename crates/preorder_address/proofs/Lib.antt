@@ -14,3 +14,4 @@ pub mod Loads
 pub mod Weighers
 pub mod KidWalking
 pub mod Passing
+pub mod Siting

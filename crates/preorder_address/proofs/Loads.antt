@@ -44,7 +44,7 @@ params-put (Bottom ∷ T) cs e = params-put T cs e
 params-put (Symbol f ∷ T) cs e = params-put T cs e
 params-put (Call q ∷ T) cs e = params-put T cs e
 
-put-term : (n : ℕ) (T : List Label) (cs : List (List Label)) → AreTerms label_arity n T → AllTerms cs → params T ≡ length cs → AreTerms label_arity n (put T cs)
+pub put-term : (n : ℕ) (T : List Label) (cs : List (List Label)) → AreTerms label_arity n T → AllTerms cs → params T ≡ length cs → AreTerms label_arity n (put T cs)
 put-term n [] cs t a e = t
 put-term zero (l ∷ T) cs t a e = absurd t
 put-term (suc n) (Param ∷ T) [] t a e = absurd (omega arith)
@@ -55,7 +55,7 @@ put-term (suc n) (Bottom ∷ T) cs t a e = put-term (0 + n) T cs t a e
 put-term (suc n) (Symbol f ∷ T) cs t a e = put-term (2 + n) T cs t a e
 put-term (suc n) (Call q ∷ T) cs t a e = put-term (0 + n) T cs t a e
 
-all-take : (k : ℕ) (cs : List (List Label)) → AllTerms cs → AllTerms (take k cs)
+pub all-take : (k : ℕ) (cs : List (List Label)) → AllTerms cs → AllTerms (take k cs)
 all-take zero cs a = tt
 all-take (suc k) [] a = tt
 all-take (suc k) (c ∷ cs) a = (a.0, all-take k cs a.1)
@@ -136,7 +136,7 @@ module _ (G : List Rule) (g : IsGrammar G) where
       )
 
   module _ (w : Label → ℕ) (zero_param : w Param ≡ 0) where
-    length-portions : (args : List ℕ) (cs : List (List Label)) → length (portions w args cs) ≡ length cs
+    pub length-portions : (args : List ℕ) (cs : List (List Label)) → length (portions w args cs) ≡ length cs
     length-portions args [] = refl
     length-portions args (c ∷ cs) = ap suc (length-portions (drop (params c) args) cs)
 
@@ -153,7 +153,7 @@ module _ (G : List Rule) (g : IsGrammar G) where
         ∙ ap (λ vs. laden w args x ∷ (portions w (drop (params x) args) xs ++ portions w vs ys)) (drop-drop (params x) (params_all xs) args)
 
     -- of the first k terms, and of the others
-    portions-split : (k : ℕ) (args : List ℕ) (cs : List (List Label)) → k ≤ length cs
+    pub portions-split : (k : ℕ) (args : List ℕ) (cs : List (List Label)) → k ≤ length cs
         → (take k (portions w args cs) ≡ portions w args (take k cs)) × (drop k (portions w args cs) ≡ portions w (drop (params_all (take k cs)) args) (drop k cs))
     portions-split zero args cs h = (refl, refl)
     portions-split (suc k) args [] h = absurd (omega arith)

@@ -15,3 +15,4 @@ pub mod Weighers
 pub mod KidWalking
 pub mod Passing
 pub mod Siting
+pub mod Sited

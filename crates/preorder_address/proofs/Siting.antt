@@ -18,6 +18,7 @@ use Rattle.slt_grammar.specs.declared.rules.Rule.{Rule}
 use Rattle.slt_grammar.proofs.CallCounts.{below-more}
 use Rattle.slt_grammar.proofs.Keeping.{CallsBelow-drop}
 use Rattle.slt_grammar.proofs.KeyedLemmas.{body_at-rules_of, length-rules_of, nodes-are-term}
+use Rattle.slt_grammar.proofs.Spreads.{IsPlain}
 use Rattle.slt_grammar.proofs.TourLemmas.{preorder-nodes}
 use Rattle.segment_counts.specs.Weights.{count, count_before, node_weight}
 use Rattle.segment_counts.proofs.Numbers.{segment-within}
@@ -25,7 +26,7 @@ use Rattle.preorder_address.specs.Sites.{laden, weight_before, weight_below, lab
 use Rattle.preorder_address.proofs.KidWalking.{terms-behind, is-node, IsNodeOf}
 use Rattle.preorder_address.proofs.Lading.{label_arity, AllTerms, portions, sizes, reach, laden-append, before-append, below-append, laden-put, before-put, below-put, before-segments, before-front, below-front, nodes-put, before-less, segment-past, get_or-sizes, listed-term, first-term}
 use Rattle.preorder_address.proofs.Listings.{fronts, weave, listings, length-listings, value-at-node}
-use Rattle.preorder_address.proofs.Loads.{all-take, listings-terms, portions-split, put-term, shape-params, weave-put, weights-listings}
+use Rattle.preorder_address.proofs.Loads.{all-take, listings-terms, portions-split, put-term, shape-params, laden-weave, weave-put, weights-listings}
 
 arities-drop : (ranks : List ℕ) (n : ℕ) (xs : List Node) → HasArities ranks xs → HasArities ranks (drop n xs)
 arities-drop ranks n xs a i d l =
@@ -165,8 +166,8 @@ module _ (g : Keyed) (K : IsKeyed g) (w : Label → ℕ) (zero_param : w Param �
       value-call : preorder H r ≡ base ++ (put (preorder H q) kids_at ++ value-here.0)
       value-call = value-here.1 ∙ ap (λ ls. base ++ (ls ++ value-here.0)) weave-call
 
-      pub call-before : weight_before w args (preorder H r) n ≡ laden w args base + weight_before w kid_args (preorder H q) inner
-      call-before =
+      pub before-call : weight_before w args (preorder H r) n ≡ laden w args base + weight_before w kid_args (preorder H q) inner
+      before-call =
           omega (
             arith,
             ap (λ ls. weight_before w args ls n) value-call,
@@ -175,8 +176,8 @@ module _ (g : Keyed) (K : IsKeyed g) (w : Label → ℕ) (zero_param : w Param �
             before-put w (drop (params base) args) (preorder H q) kids_at outer inner call-params refl inner-there,
           )
 
-      pub call-below : weight_below w args (preorder H r) n ≡ weight_below w kid_args (preorder H q) inner
-      call-below =
+      pub below-call : weight_below w args (preorder H r) n ≡ weight_below w kid_args (preorder H q) inner
+      below-call =
           ap (λ ls. weight_below w args ls n) value-call ∙ below-append w args base (put (preorder H q) kids_at ++ value-here.0) n outer number-is
           ∙ below-front w 1 (drop (params base) args) (put (preorder H q) kids_at) value-here.0 outer (put-term 1 (preorder H q) kids_at value-term kids-terms call-params) outer-there
           ∙ below-put w 1 (drop (params base) args) (preorder H q) kids_at outer inner call-params kids-terms value-term refl inner-there
@@ -191,8 +192,8 @@ module _ (g : Keyed) (K : IsKeyed g) (w : Label → ℕ) (zero_param : w Param �
     number-zero : n ≡ sum_by node_weight base + 0
     number-zero = omega arith
 
-    pub symbol-before : weight_before w args (preorder H r) n ≡ laden w args base
-    symbol-before =
+    pub before-symbol : weight_before w args (preorder H r) n ≡ laden w args base
+    before-symbol =
         omega (
           arith,
           ap (λ ls. weight_before w args ls n) value-symbol,
@@ -204,11 +205,17 @@ module _ (g : Keyed) (K : IsKeyed g) (w : Label → ℕ) (zero_param : w Param �
         by_kids [] n = absurd (omega arith)
         by_kids (c ∷ cs) n = refl
 
-    pub symbol-below : weight_below w args (preorder H r) n ≡ get_or kid_args 0 0
-    symbol-below =
+    pub below-symbol : weight_below w args (preorder H r) n ≡ get_or kid_args 0 0
+    below-symbol =
         ap (λ ls. weight_below w args ls n) value-symbol ∙ below-append w args base (weave H (Symbol f) 0 kids_at ++ value-here.0) n 0 number-zero ∙ by_kids kids_at two kids-terms
       where
         by_kids : (cs : List (List Label)) → length cs ≡ 2 → AllTerms cs → weight_below w (drop (params base) args) (weave H (Symbol f) 0 cs ++ value-here.0) 0 ≡ get_or (portions w (drop (params base) args) cs) 0 0
         by_kids [] n a = absurd (omega arith)
         by_kids (c ∷ cs) n a =
             ap (terms_weight w (drop (params base) args) 1) (append_assoc c (weave H (Symbol f) 1 cs) value-here.0) ∙ first-term w (drop (params base) args) c (weave H (Symbol f) 1 cs ++ value-here.0) a.0
+
+  -- and so do the kids' weights
+  pub kids-within : IsPlain x.label → laden w args base + sum kid_args ≤ laden w args (preorder H r)
+  kids-within plain =
+      let n : params (shape H x.label) ≡ length kids_at = omega (arith, shape-params H K.grammar x.label plain is.calls, is.kids, length-kids) in
+      omega (arith, base-within, laden-weave H K.grammar w zero_param (drop (params base) args) x.label kids_at plain n)

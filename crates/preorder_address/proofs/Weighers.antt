@@ -1,5 +1,5 @@
 -- Kept numbers by what is added up.
-use Rattle.std.proofs.Common.{◌≡◌, ℕ, suc, ◌+◌, ◌<◌, ◌≤◌, ◌^◌, List, [], ◌∷◌, length, drop, refl, ap, sym, ◌∙◌, arith, sum_by, zero, subst}
+use Rattle.std.proofs.Common.{◌≡◌, ℕ, suc, ◌+◌, ◌-◌, ◌<◌, ◌≤◌, ◌^◌, List, [], ◌∷◌, length, drop, refl, ap, sym, ◌∙◌, arith, sum_by, zero, subst}
 use Rattle.rule_arena.specs.declared.label.Label.{Label}
 use Rattle.rule_arena.specs.declared.label.Label.TheVariants.{Bottom, Symbol, Call, Param}
 use Rattle.slt_grammar.specs.Algebras.{ranks_of}
@@ -15,6 +15,9 @@ use Rattle.segment_counts.specs.Weights.{count, count_before, segments_sum}
 use Rattle.segment_counts.specs.declared.counts.Measure.TheVariants as measure
 use Rattle.segment_counts.proofs.Numbers.{segment-within, segments_sum-suc}
 use Rattle.segment_counts.proofs.Telling.{told_before-is}
+use Rattle.slt_grammar.specs.Keyed.{KeyedRule, rules_of}
+use Rattle.slt_grammar.proofs.KeyedLemmas.{length-rules_of}
+use Rattle.preorder_address.specs.Numberings.{AreCountsOf}
 use Rattle.preorder_address.specs.Sites.{laden, shape}
 use Rattle.preorder_address.specs.Weighing.{AreCountsBy, IsSmallCall, measure_by, weight_of}
 use Rattle.preorder_address.specs.declared.weigher.Weigher.{Weigher}
@@ -34,7 +37,7 @@ module _ (G : List Rule) (C : CountTable) where
   told_before-of (Texts names) a q i h = told_before-is names.now (length G) G C.rows a.numbers measure.Texts q i h
   told_before-of All a q i h = told_before-is a.0 (length G) G C.rows a.1.numbers measure.All q i h
 
-  small-of : (W : Weigher) → AreCountsBy W G C → (q : ℕ) → q < length G → sum_by (weight_of W) (preorder G q) < 2 ^ 64
+  pub small-of : (W : Weigher) → AreCountsBy W G C → (q : ℕ) → q < length G → sum_by (weight_of W) (preorder G q) < 2 ^ 64
   small-of (Texts names) a q h = a.numbers.small measure.Texts q h
   small-of All a q h = a.1.numbers.small measure.All q h
 
@@ -79,3 +82,13 @@ pub call-whole : (W : Weigher) (G : List Rule) (C : CountTable) → AreCountsBy 
 call-whole W G C a g l q e kids n c k d =
     let b : CallsBelow (length G) (Call q ∷ []) = subst (λ (m : Label). CallsBelow (length G) (m ∷ [])) e c in
     d ∙ whole-of G C W a g q kids b.0 (k ∙ ap (arity (ranks_of G)) e) ∙ sym (ap (λ m. sum_by (weight_of W) (shape G m)) e)
+
+pub counts-of : (W : Weigher) (G : List Rule) (C : CountTable) → AreCountsBy W G C → AreCountsOf G C
+counts-of (Texts names) G C a = (names.now, a)
+counts-of All G C a = a
+
+-- what the whole value weighs fits 64 bits
+pub total-small : (W : Weigher) (G : List KeyedRule) (C : CountTable) → AreCountsBy W (rules_of G) C → IsGrammar (rules_of G) → sum_by (weight_of W) (preorder (rules_of G) (length G - 1)) < 2 ^ 64
+total-small W G C a g =
+    let n = length-rules_of G in
+    small-of (rules_of G) C W a (length G - 1) (omega (arith, g.some, n))

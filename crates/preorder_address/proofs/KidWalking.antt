@@ -1,5 +1,5 @@
 -- A walk over the terms of a node's kids.
-use Rattle.std.proofs.Common.{◌≡◌, ℕ, zero, suc, ◌+◌, ◌-◌, ◌*◌, ◌<◌, ◌≤◌, ◌^◌, List, [], ◌∷◌, length, get_or, set, take, drop, refl, ap, sym, ◌∙◌, arith, subst, Option, Some, None, length-set, length-drop, ◌⊎◌, inl, inr}
+use Rattle.std.proofs.Common.{◌≡◌, ℕ, zero, suc, ◌+◌, ◌-◌, ◌*◌, ◌<◌, ◌≤◌, List, [], ◌∷◌, length, get_or, set, take, drop, refl, ap, sym, ◌∙◌, arith, subst, Option, Some, None, length-set, length-drop, ◌⊎◌, inl, inr}
 use Rattle.std.specs.Prelude.{slice_get, sum, Bool, true, false, eqb, if◌then◌else◌}
 use Rattle.std.proofs.lemmas.Bool.{eqb-true, eqb-false, cases_lt}
 use Rattle.std.proofs.lemmas.List.{get_or-set_same, get_or-set_other, get_or-take}
@@ -15,7 +15,7 @@ use Rattle.slt_grammar.specs.Bodies.{CallsBelow, arity}
 use Rattle.slt_grammar.specs.Grammars.{IsGrammar, whole}
 use Rattle.slt_grammar.specs.Keyed.{Keyed, KeyedRule, IsKeyed, key_at, nodes_at, rules_of}
 use Rattle.slt_grammar.specs.declared.rules.Rule.{Rule}
-use Rattle.slt_grammar.proofs.KeyedLemmas.{key_in-there, nodes-are-term, length-rules_of, key_at-within}
+use Rattle.slt_grammar.proofs.KeyedLemmas.{nodes-are-term, length-rules_of, key_at-within}
 use Rattle.slt_grammar.proofs.RuleMeanings.{rank_at-ranks_of}
 use Rattle.slt_grammar.proofs.StopLemmas.{call-below}
 use Rattle.slt_grammar.proofs.CallCounts.{below-more}
@@ -146,8 +146,7 @@ module _ (k : ℕ) (kids all : List ℕ) (o a kid left : ℕ) (weights : List �
             omega (arith, other (kid + 1) (λ d. omega arith), ap (λ j. get_or weights j 0) i, ap (λ j. get_or kids j 0) i, t.0, t.1, sum-one all, ap (λ us. get_or us 0 0) (n.1 ∙ y));
         later = λ i l.
             let j : kid + 1 + 1 + i ≡ kid + 1 + suc i = omega arith in
-            let t = s.later (suc i) (omega arith) in
-            (
+            let t = s.later (suc i) (omega arith) in (
               other (kid + 1 + 1 + i) (λ d. omega arith) ∙ ap (λ m. get_or weights m 0) j ∙ t.0,
               get_or-behind all i ∙ ap (λ us. get_or us (suc i) 0) (sym (n.1 ∙ y)) ∙ t.1 ∙ ap (λ m. get_or kids m 0) (sym j),
             );

@@ -16,3 +16,4 @@ pub mod KidWalking
 pub mod Passing
 pub mod Siting
 pub mod Sited
+pub mod TreeSites

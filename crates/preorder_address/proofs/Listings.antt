@@ -137,8 +137,7 @@ module _ (G : List Rule) where
       opened-placed (suc n) i b whole [] a behind z h e k w pa pr = absurd (omega arith)
       opened-placed (suc zero) i b whole (c ∷ cs) a behind z h e k w pa pr =
           let j : i ≡ i + 0 = omega arith in
-          let v : whole ≡ (b ++ c) ++ part_of G x.label (suc i) = sym w ∙ sym (append_assoc b c (part_of G x.label (suc i))) in
-          (
+          let v : whole ≡ (b ++ c) ++ part_of G x.label (suc i) = sym w ∙ sym (append_assoc b c (part_of G x.label (suc i))) in (
             (is-placed-next i b c e (ap (λ q. get_or (kids here) q []) j ∙ k 0), subst (λ (ls : List Label). ArePlaced ls a) v pa),
             subst (λ (ls : List Label). AreAllPlaced ls cs behind) (ap (λ ls. ls ++ spread_nodes G a) v ∙ append_assoc (b ++ c) (part_of G x.label (suc i)) (spread_nodes G a)) pr,
           )
@@ -182,17 +181,16 @@ module _ (G : List Rule) where
         let z : here ≡ here + 0 = omega arith in
         let i : slice_get all here ≡ Some x = ap (slice_get all) z ∙ hx 0 in
         let e : b ≡ base here = sym (ap base z ∙ hb 0 ∙ append-nil b) in
-        let d : kids here ≡ listings xs = ap kids z ∙ hk 0 in
-        (
+        let d : kids here ≡ listings xs = ap kids z ∙ hk 0 in (
           (here, i, e ∙ sym (append-nil (base here))),
           step-placed here x i x.kids n b xs a behind t e d p.0 p.1
-          (λ c later f g q. tour-placed (x.kids + n) (suc here) c later xs t (λ j. let s : suc here + j ≡ here + suc j = omega arith in ap (slice_get all) s ∙ hx (suc j))
-          (λ j.
+              (λ c later f g q. tour-placed (x.kids + n) (suc here) c later xs t (λ j. let s : suc here + j ≡ here + suc j = omega arith in ap (slice_get all) s ∙ hx (suc j))
+              (λ j.
               let s : suc here + j ≡ here + suc j = omega arith in
               ap base s ∙ hb (suc j) ∙ ap (λ ls. b ++ (part_of G x.label 0 ++ ls)) (spread-nodes-append (once_closed x.kids a) (stops_before (opened_kids x 1 x.kids a ++ behind) xs j))
               ∙ regroup b (part_of G x.label 0) (spread_nodes G (once_closed x.kids a)) (spread_nodes G (stops_before (opened_kids x 1 x.kids a ++ behind) xs j))
               ∙ ap (λ ls. ls ++ spread_nodes G (stops_before (opened_kids x 1 x.kids a ++ behind) xs j)) (sym f) ∙ ap (λ ls. c ++ spread_nodes G (stops_before ls xs j)) (sym g))
-          (λ j. let s : suc here + j ≡ here + suc j = omega arith in ap kids s ∙ hk (suc j)) q),
+              (λ j. let s : suc here + j ≡ here + suc j = omega arith in ap kids s ∙ hk (suc j)) q),
         )
       where
         regroup : (b p q r : List Label) → b ++ (p ++ (q ++ r)) ≡ ((b ++ p) ++ q) ++ r
@@ -245,9 +243,8 @@ module _ (G : List Rule) (ns : List Node) (t : AreTerms kids_of 1 ns) where
   pub value-at-node : (p : ℕ) (x : Node) → slice_get ns p ≡ Some x → (rest : List Label) × (spread_nodes G (tour kids_of ([] ∷ []) ns) ≡ before_place p ++ (weave G x.label 0 (take x.kids (kids_from p)) ++ rest))
   value-at-node p x e =
       let r = tour-at 1 ([] ∷ []) ns p t refl (within-list ns p x e) in
-      let d = drop-at ns p x e in
-      (
+      let d = drop-at ns p x e in (
         spread_nodes G (get_or r.later 0 []) ++ strung G (drop x.kids (kids_from p)) (drop 1 r.later),
         ap (spread_nodes G) r.split ∙ spread-nodes-append G (stops_before ([] ∷ []) ns p) (tour kids_of r.later (drop p ns))
-        ∙ ap (λ ls. before_place p ++ ls) (spread-listings G r.count r.later (drop p ns) r.terms ∙ ap (λ xs. strung G (listings G xs) r.later) d),
+            ∙ ap (λ ls. before_place p ++ ls) (spread-listings G r.count r.later (drop p ns) r.terms ∙ ap (λ xs. strung G (listings G xs) r.later) d),
       )

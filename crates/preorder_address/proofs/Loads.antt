@@ -1,9 +1,7 @@
 -- What the terms of a body weigh, by their nodes and by their labels.
-use Rattle.std.proofs.Common.{◌≡◌, ℕ, zero, suc, ◌+◌, ◌<◌, ◌≤◌, List, [], ◌∷◌, ◌++◌, length, get_or, take, drop, map, refl, ap, sym, ◌∙◌, arith, append-nil, sum_by, subst, length-append}
+use Rattle.std.proofs.Common.{◌≡◌, ℕ, zero, suc, ◌+◌, ◌≤◌, List, [], ◌∷◌, ◌++◌, length, get_or, take, drop, refl, ap, sym, ◌∙◌, arith, append-nil, sum_by, subst}
 use Rattle.std.specs.Prelude.{sum}
-use Rattle.std.proofs.lemmas.List.{length-map, length-take-le, take-append-drop}
-use Rattle.std.proofs.Math.Seq.{take-append_seam, drop-append_seam}
-use Rattle.std.proofs.lemmas.List.Sums.{sum_by-cons, sum_by-append}
+use Rattle.std.proofs.lemmas.List.{length-take-le}
 use Rattle.rule_arena.specs.Preorder.{AreTerms}
 use Rattle.rule_arena.specs.Terms.{Node, kids_of}
 use Rattle.rule_arena.specs.declared.label.Label.{Label}
@@ -14,7 +12,7 @@ use Rattle.slt_grammar.specs.Bodies.{arity, params, CallsBelow}
 use Rattle.slt_grammar.specs.Editing.{put}
 use Rattle.slt_grammar.specs.Grammars.{IsGrammar, value_at}
 use Rattle.slt_grammar.specs.Keyed.{HasArities, labels_of}
-use Rattle.slt_grammar.specs.Segments.{listed, segment, preorder, part_of}
+use Rattle.slt_grammar.specs.Segments.{segment, preorder}
 use Rattle.slt_grammar.specs.declared.rules.Rule.{Rule}
 use Rattle.slt_grammar.proofs.Meanings.{params-append}
 use Rattle.slt_grammar.proofs.RuleMeanings.{rank_at-ranks_of}
@@ -129,8 +127,7 @@ module _ (G : List Rule) (g : IsGrammar G) where
   listings-terms zero (x ∷ xs) t r c = absurd t
   listings-terms (suc n) (x ∷ xs) t r c =
       let d = head-calls (length G) x.label (labels_of xs) c in
-      let ih = listings-terms (x.kids + n) xs t (λ k e l. r (suc k) e (omega arith)) d.1 in
-      (
+      let ih = listings-terms (x.kids + n) xs t (λ k e l. r (suc k) e (omega arith)) d.1 in (
         weave-term x.label x.kids (listings G xs) d.0 (r 0 x (omega arith)) (omega (arith, length-listings G (x.kids + n) xs t)) ih,
         all-drop x.kids (listings G xs) ih,
       )

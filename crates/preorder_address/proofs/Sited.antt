@@ -1,10 +1,9 @@
 -- A descent that carries what stands before its node.
-use Rattle.std.proofs.Common.{◌≡◌, ℕ, zero, suc, ◌+◌, ◌-◌, ◌*◌, ◌<◌, ◌≤◌, ◌^◌, List, [], ◌∷◌, ◌++◌, length, get_or, take, drop, refl, ap, sym, ◌∙◌, arith, Some, sum_by, subst, append-nil}
+use Rattle.std.proofs.Common.{◌≡◌, ℕ, ◌+◌, ◌-◌, ◌*◌, ◌<◌, ◌≤◌, List, [], ◌∷◌, ◌++◌, length, get_or, take, drop, refl, ap, sym, ◌∙◌, arith, Some, sum_by, subst, append-nil}
 use Rattle.std.specs.Prelude.{slice_get, sum}
 use Rattle.std.proofs.lemmas.Option.{same_Some}
 use Rattle.std.proofs.lemmas.List.Sums.{sum_by-cons}
 use Rattle.rule_arena.specs.Terms.{Node}
-use Rattle.rule_arena.specs.declared.key.Key.{Key}
 use Rattle.rule_arena.specs.declared.label.Label.{Label}
 use Rattle.rule_arena.specs.declared.label.Label.TheVariants.{Bottom, Symbol, Call, Param}
 use Rattle.slt_grammar.specs.Bodies.{CallsBelow, params}
@@ -21,7 +20,6 @@ use Rattle.slt_grammar.proofs.TourWalking.{node-key}
 use Rattle.segment_counts.specs.Weights.{count, count_before, node_weight}
 use Rattle.preorder_address.specs.Chains.{BeginsAt, EndsAt, HasLabel, LeadsTo, LeadsToNumber}
 use Rattle.preorder_address.specs.Descents.{IsInside, levels_of, steps_of, nodes_up_to}
-use Rattle.preorder_address.specs.Routes.{stop_weight}
 use Rattle.preorder_address.specs.Sites.{laden, weight_before, weight_below, labels_before, term_weights}
 use Rattle.preorder_address.specs.declared.descent.Descent.{Descent}
 use Rattle.preorder_address.specs.declared.numbering.Numbering.TheVariants.{Nodes}
@@ -34,7 +32,7 @@ use Rattle.preorder_address.proofs.Naming.{symbol-of}
 use Rattle.preorder_address.proofs.Siting.{kid_args, kid-args, kids-within, call-within, before-call, below-call, before-symbol, below-symbol}
 use Rattle.preorder_address.proofs.Weighing.{weight-nodes}
 
-laden-alone : (w : Label → ℕ) → w Param ≡ 0 → (ls : List Label) → laden w [] ls ≡ sum_by w ls
+pub laden-alone : (w : Label → ℕ) → w Param ≡ 0 → (ls : List Label) → laden w [] ls ≡ sum_by w ls
 laden-alone w z [] = refl
 laden-alone w z (Param ∷ ls) = omega (arith, laden-alone w z ls, sum_by-cons w Param ls, z)
 laden-alone w z (Bottom ∷ ls) = omega (arith, laden-alone w z ls, sum_by-cons w Bottom ls)
@@ -97,8 +95,7 @@ module _ (g : Keyed) (K : IsKeyed g) (w : Label → ℕ) (zero_param : w Param �
       by_levels : (ls : List Level) → LeadsTo g.rules (length g.rules - 1) ls l.arrives.label → EndsAt node_weight g.rules (length g.rules - 1) n ls → SitedBy g w n ls 0 no_weights
       by_levels [] c e = absurd c
       by_levels (k ∷ ls) c e =
-          let z = first-rule k ls c in
-          (
+          let z = first-rule k ls c in (
             n,
             l.arrives.label,
             l.arrives.counted,
@@ -180,7 +177,7 @@ module _ (g : Keyed) (K : IsKeyed g) (w : Label → ℕ) (zero_param : w Param �
         record {
           passed = spread_nodes H b.passed;
           placed = q.2 ∙ ap (λ (y : Node). before_place H (nodes_at g.rules l.rule) t q.0 ++ fronts H y.label (kids_from H (nodes_at g.rules l.rule) t q.0) part) n
-          ∙ ap (λ j. before_place H (nodes_at g.rules l.rule) t j ++ fronts H i.node.label (kids_from H (nodes_at g.rules l.rule) t j) part) z.1;
+              ∙ ap (λ j. before_place H (nodes_at g.rules l.rule) t j ++ fronts H i.node.label (kids_from H (nodes_at g.rules l.rule) t j) part) z.1;
           is_first = sym (weight-nodes node_weight g.rules b.passed ∙ b.number);
         }
 
@@ -210,8 +207,7 @@ module _ (g : Keyed) (K : IsKeyed g) (w : Label → ℕ) (zero_param : w Param �
               let f = symbol-of s.1 s.2 in
               let y = same-label s.1 c.1 ∙ f.1 in
               let v = level-part 0 s.0 e in
-              let n : s.0 ≡ sum_by node_weight (labels_before g.rules l.rule i.place) = v.is_first ∙ ap (sum_by node_weight) (v.placed ∙ append-nil (labels_before g.rules l.rule i.place)) in
-              (
+              let n : s.0 ≡ sum_by node_weight (labels_before g.rules l.rule i.place) = v.is_first ∙ ap (sum_by node_weight) (v.placed ∙ append-nil (labels_before g.rules l.rule i.place)) in (
                 omega (arith, is_weight, s.5, before-symbol g K w zero_param l.rule args i.place i.node i.there f.0 y s.0 n),
                 alike 0 ∙ sym (below-symbol g K w zero_param l.rule args i.place i.node i.there f.0 y s.0 n) ∙ s.6,
               )
@@ -222,8 +218,7 @@ module _ (g : Keyed) (K : IsKeyed g) (w : Label → ℕ) (zero_param : w Param �
               let b = before-call g K w zero_param l.rule args i.place i.node i.there k.rule y v.passed e.0 e.1 e.2 s.0 v.placed v.is_first e.4 e.5 in
               let d = below-call g K w zero_param l.rule args i.place i.node i.there k.rule y v.passed e.0 e.1 e.2 s.0 v.placed v.is_first e.4 e.5 in
               let m : ℕ = count_before node_weight H k.rule e.0 + e.2 in
-              let us = kid_args g K w zero_param l.rule args i.place i.node i.there in
-              (
+              let us = kid_args g K w zero_param l.rule args i.place i.node i.there in (
                 m,
                 s.1,
                 s.2,

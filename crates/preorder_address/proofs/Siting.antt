@@ -7,13 +7,13 @@ use Rattle.std.proofs.lemmas.List.Sums.{sum_by-append}
 use Rattle.rule_arena.specs.Preorder.{AreTerms}
 use Rattle.rule_arena.specs.Terms.{Node, kids_of}
 use Rattle.rule_arena.specs.declared.label.Label.{Label}
-use Rattle.rule_arena.specs.declared.label.Label.TheVariants.{Bottom, Symbol, Call, Param}
+use Rattle.rule_arena.specs.declared.label.Label.TheVariants.{Symbol, Call, Param}
 use Rattle.slt_grammar.specs.Algebras.{ranks_of}
 use Rattle.slt_grammar.specs.Bodies.{CallsBelow, arity, params}
 use Rattle.slt_grammar.specs.Editing.{put}
 use Rattle.slt_grammar.specs.Grammars.{value_at}
 use Rattle.slt_grammar.specs.Keyed.{Keyed, IsKeyed, HasArities, labels_of, nodes_at, rules_of}
-use Rattle.slt_grammar.specs.Segments.{preorder, segment, part_of}
+use Rattle.slt_grammar.specs.Segments.{preorder, segment}
 use Rattle.slt_grammar.specs.declared.rules.Rule.{Rule}
 use Rattle.slt_grammar.proofs.CallCounts.{below-more}
 use Rattle.slt_grammar.proofs.Keeping.{CallsBelow-drop}

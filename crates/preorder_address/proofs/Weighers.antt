@@ -1,5 +1,5 @@
 -- Kept numbers by what is added up.
-use Rattle.std.proofs.Common.{◌≡◌, ℕ, suc, ◌+◌, ◌-◌, ◌<◌, ◌≤◌, ◌^◌, List, [], ◌∷◌, length, drop, refl, ap, sym, ◌∙◌, arith, sum_by, zero, subst}
+use Rattle.std.proofs.Common.{◌≡◌, ℕ, suc, ◌+◌, ◌-◌, ◌<◌, ◌^◌, List, [], ◌∷◌, length, refl, ap, sym, ◌∙◌, arith, sum_by, zero, subst}
 use Rattle.rule_arena.specs.declared.label.Label.{Label}
 use Rattle.rule_arena.specs.declared.label.Label.TheVariants.{Bottom, Symbol, Call, Param}
 use Rattle.slt_grammar.specs.Algebras.{ranks_of}
@@ -13,7 +13,6 @@ use Rattle.slt_grammar.proofs.Spreads.{IsPlain}
 use Rattle.segment_counts.specs.Counting.{CountTable, told, told_before}
 use Rattle.segment_counts.specs.Weights.{count, count_before, segments_sum}
 use Rattle.segment_counts.specs.declared.counts.Measure.TheVariants as measure
-use Rattle.segment_counts.proofs.Numbers.{segment-within, segments_sum-suc}
 use Rattle.segment_counts.proofs.Telling.{told_before-is}
 use Rattle.slt_grammar.specs.Keyed.{KeyedRule, rules_of}
 use Rattle.slt_grammar.proofs.KeyedLemmas.{length-rules_of}

@@ -1,5 +1,5 @@
 -- What is added up along a descent.
-use Rattle.std.specs.Prelude.{◌≡◌, ℕ, ◌+◌, ◌-◌, ◌<◌, ◌^◌, List, [], ◌∷◌, if◌then◌else◌, eqb}
+use Rattle.std.specs.Prelude.{ℕ, ◌+◌, ◌-◌, ◌<◌, ◌^◌, List, if◌then◌else◌, eqb}
 use Rattle.rule_arena.specs.declared.label.Label.{Label}
 use Rattle.rule_arena.specs.declared.label.Label.TheVariants.{Call, Param}
 use Rattle.slt_grammar.specs.declared.rules.Rule.{Rule}

@@ -14,5 +14,5 @@ mod weigher;
 
 pub use descent::{Descent, locate, locate_place};
 pub use laws::descents_arrive;
-pub use nodes::kind_of;
+pub use nodes::{extent, kind_of, text_rank};
 pub use numbering::Numbering;

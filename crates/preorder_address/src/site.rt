@@ -90,15 +90,7 @@ pub(crate) fn site_of<L: Ledger>(
         let Level { rule, key } = level;
         let passed = pass_to(grammar, counts, weigher, rule, key, &kids, steps);
         before += passed.weight;
-        kids = kid_weights(
-            grammar,
-            counts,
-            weigher,
-            key,
-            passed.params,
-            &kids,
-            steps,
-        );
+        kids = kid_weights(grammar, counts, weigher, key, passed.params, &kids, steps);
     }
     Some(Site {
         before,
@@ -136,14 +128,7 @@ fn pass_to<L: Ledger>(
             return passed;
         }
         let item = grammar.item(walk.key, steps);
-        passed.weight += part_weight(
-            counts,
-            weigher,
-            item.label,
-            walk.part,
-            args,
-            passed.params,
-        );
+        passed.weight += part_weight(counts, weigher, item.label, walk.part, args, passed.params);
         passed.params += params_of(item.label);
         if !walk.advance(grammar, &item, steps) {
             unreachable!()

@@ -1,7 +1,6 @@
-use Rattle.std.proofs.Common.{◌+◌, ◌*◌, ◌<◌, ◌^◌, length, arith, drop, take, set, subst, sym, ◌≡◌, ◌∙◌, get_or, ℕ, zero, suc, ap, refl, [], ◌∷◌}
+use Rattle.std.proofs.Common.{◌+◌, arith, drop, take, set, subst, sym, get_or, ℕ, ap, refl}
 use Rattle.rule_arena.specs.Terms.{Node}
 use Rattle.slt_grammar.specs.Keyed.{nodes_at, rules_of}
-use Rattle.slt_grammar.proofs.TourWalking.{key-node}
 use Rattle.std.specs.Prelude.{sum}
 use Rattle.preorder_address.specs.Sites.{term_weights}
 use Rattle.preorder_address.specs.Weighing.{passed, weight_of}

@@ -1,4 +1,4 @@
-use Rattle.std.proofs.Common.{arith, length, ◌+◌, ◌∙◌, ap}
+use Rattle.std.proofs.Common.{arith, ◌+◌}
 use Rattle.slt_grammar.specs.Keyed.{rules_of}
 use Rattle.slt_grammar.proofs.KeyedLemmas.{key_at-within}
 use Rattle.slt_grammar.proofs.TourLemmas.{length-node_tour}

@@ -4,3 +4,5 @@ pub mod Descents
 pub mod Chains
 pub mod Stops
 pub mod TreeNumbers
+pub mod Sites
+pub mod Weighing

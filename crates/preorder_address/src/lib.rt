@@ -9,8 +9,10 @@ mod descent;
 mod laws;
 mod nodes;
 mod numbering;
+mod site;
+mod weigher;
 
 pub use descent::{Descent, RuleStop, locate, locate_place};
 pub use laws::descents_arrive;
-pub use nodes::kind_of;
+pub use nodes::{extent, kind_of, text_rank};
 pub use numbering::Numbering;

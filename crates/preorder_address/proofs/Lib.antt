@@ -17,3 +17,4 @@ pub mod Passing
 pub mod Siting
 pub mod Sited
 pub mod TreeSites
+pub mod TreeKids

@@ -1,19 +1,18 @@
 -- Places in a list of kids of a tree's code.
 use Rattle.std.proofs.Common.{◌≡◌, ℕ, zero, suc, ◌+◌, ◌-◌, ◌*◌, ◌/◌, ◌<◌, ◌≤◌, ◌^◌, List, [], ◌∷◌, ◌++◌, length, get_or, take, drop, refl, ap, sym, ◌∙◌, arith, Option, None, Some, sum_by, append-nil, append_assoc, subst}
-use Rattle.std.specs.Prelude.{slice_get, option_map, IsSome, IfSome, Bool, true, false, ◌↔◌}
+use Rattle.std.specs.Prelude.{slice_get, option_map, IsSome, IfSome, true, false, ◌↔◌}
 use Rattle.std.proofs.lemmas.List.Sums.{sum_by-cons, sum_by-append}
 use Rattle.std.proofs.lemmas.Option.{get_or_from_slice_get, slice_get_past}
 use Rattle.plain_tree.specs.declared.kind.Kind.{Kind}
 use Rattle.plain_tree.specs.Tree.{Tree, node, Trees, none, more, node_count, node_count_all}
-use Rattle.plain_tree.specs.Numbers.{nodes}
+use Rattle.plain_tree.specs.Lawful.{IsLawfulTree}
+use Rattle.plain_tree.specs.Numbers.{nodes, nodes_all}
 use Rattle.rule_arena.specs.declared.label.Label.{Label}
 use Rattle.rule_arena.specs.declared.label.Label.TheVariants.{Bottom, Symbol, Call, Param}
 use Rattle.slt_grammar.specs.Coding.{Codes}
 use Rattle.slt_grammar.specs.Grammars.{IsGrammar, value}
 use Rattle.slt_grammar.specs.Keyed.{KeyedRule, rules_of}
 use Rattle.slt_grammar.specs.Segments.{listed, preorder}
-use Rattle.slt_grammar.specs.Terms.{Term, Leaf, Node}
-use Rattle.slt_grammar.proofs.KeyedLemmas.{length-rules_of}
 use Rattle.segment_counts.specs.Counting.{CountTable, told}
 use Rattle.segment_counts.specs.Weights.{node_weight, all_weight}
 use Rattle.segment_counts.specs.declared.counts.Measure.TheVariants as measure
@@ -21,12 +20,13 @@ use Rattle.segment_counts.proofs.Telling.{total-told}
 use Rattle.preorder_address.specs.Chains.{IsAt, LeadsToNumber, LeadsToPlace}
 use Rattle.preorder_address.specs.Numberings.{AreCountsOf}
 use Rattle.preorder_address.specs.Sites.{laden, weight_before, weight_below, terms_weight, is_symbol}
-use Rattle.preorder_address.specs.TreeNumbers.{placed, siblings_behind, end_at, next_sibling_at, number_of_first}
+use Rattle.preorder_address.specs.TreeNumbers.{placed, siblings_behind, end_at, after_attributes_at, attribute_places, kids_of, next_sibling_at, number_of_first}
 use Rattle.preorder_address.specs.declared.descent.Descent.{Descent}
 use Rattle.preorder_address.specs.declared.numbering.Numbering.TheVariants.{All}
 use Rattle.preorder_address.proofs.Naming.{NumberedNode, past-count, value-last}
 use Rattle.preorder_address.proofs.Sited.{laden-alone}
-use Rattle.preorder_address.proofs.TreePlaces.{length-placed, nodes-coded, all-coded, listed-append}
+use Rattle.preorder_address.proofs.TreeAttributes.{after-told, from_number}
+use Rattle.preorder_address.proofs.TreePlaces.{length-placed, listed-append}
 use Rattle.preorder_address.proofs.TreeSites.{told-before, told-below, places-below}
 use Rattle.preorder_address.proofs.Weighers.{total-small}
 use Rattle.preorder_address.specs.declared.weigher.Weigher.TheVariants as weigher
@@ -115,6 +115,9 @@ module _ (names : List (Kind × List ℕ)) (G : List KeyedRule) (t : Tree) (c : 
   pub no-end : node_count t ≤ n → end_at t n ≡ None
   no-end h = ap (option_map (λ e. e.0 + 2 * node_count e.1 - 1)) (past-placed h)
 
+  pub no-after : node_count t ≤ n → after_attributes_at t n ≡ None
+  no-after h = ap (option_map (λ e. e.0 + 1 + attribute_places (kids_of e.1))) (past-placed h)
+
   pub no-next : node_count t ≤ n → next_sibling_at t n ≡ None
   no-next h = ap (option_map (λ s. number_of_first (n + node_count s) (get_or (siblings_behind (more t none)) n none))) (past-count names G t c n h)
 
@@ -135,6 +138,15 @@ module _ (names : List (Kind × List ℕ)) (G : List KeyedRule) (t : Tree) (c : 
     end-told =
         let z : b + 2 * (node_count_all x.place.kids + 1) - 1 ≡ b + d = omega (arith, below-is) in
         ap (option_map (λ e. e.0 + 2 * node_count e.1 - 1)) placed-at ∙ ap Some z
+
+    -- the place of the first kid that is no attribute, where so many attributes were passed
+    pub after-is : IsLawfulTree t → (e r : ℕ) → e ≡ d / 2 → r ≡ from_number t (n + 1) e → after_attributes_at t n ≡ Some (b + 1 + 2 * r)
+    after-is l e r q f =
+        let z : e ≡ node_count_all x.place.kids = omega (arith, q, below-is) in
+        let s : suc (sum_by node_weight x.before) ≡ n + 1 = omega (arith, x.number) in
+        let i : take (node_count_all x.place.kids) (drop (n + 1) (nodes t)) ≡ nodes_all x.place.kids =
+        sym (ap (λ k. take (node_count_all x.place.kids) (drop k (nodes t))) s) ∙ ap (λ xs. take (node_count_all x.place.kids) (drop (suc (sum_by node_weight x.before)) xs)) (sym (append-nil (nodes t ++ []) ∙ append-nil (nodes t))) ∙ x.place.inside [] in
+        after-told t l n b x.place.kind x.place.name x.place.value x.place.kids x.node_is placed-at i e r z f
 
     next-is : next_sibling_at t n ≡ Some (number_of_first (n + (node_count_all x.place.kids + 1)) x.place.others)
     next-is =

@@ -1,6 +1,7 @@
 // Places in a node's list of kids.
-ghost use Rattle.std.specs.Prelude.{◌≡◌, ◌↔◌, ℕ, ◌<◌, ◌≤◌, ◌+◌, ◌-◌, ◌*◌, List, IsSome, IfSome, length, drop, take};
+ghost use Rattle.std.specs.Prelude.{◌≡◌, ◌↔◌, ℕ, ◌<◌, ◌≤◌, ◌+◌, ◌-◌, ◌*◌, List, Some, IsSome, IfSome, true, false, length, drop, take};
 ghost use Rattle.plain_tree.specs.declared.kind.Kind.{Kind};
+ghost use Rattle.plain_tree.specs.declared.kind.Kind.TheVariants.{Attribute};
 ghost use Rattle.plain_tree.specs.Numbers.{nodes};
 ghost use Rattle.plain_tree.specs.Tree.{Tree, none, more};
 ghost use Rattle.slt_grammar.specs.Coding.{Codes};
@@ -97,8 +98,7 @@ fn label_at<L: Ledger>(
 }
 
 /// A descent to the first kid, of the node with this number, that isn't an attribute, or to the bottom that ends the list of kids where
-/// there is none. None comes exactly where the number isn't below the total. The grammar's symbols are places in `names`. At most ten
-/// steps for each node of the bodies, and four of them and one for each attribute and for what is behind these.
+/// there is none. None comes exactly where the number isn't below the total. The grammar's symbols are places in `names`.
 pub fn after_attributes<L: Ledger>(
     grammar: &Grammar,
     counts: &Counts,
@@ -137,9 +137,17 @@ fn leading_attributes<L: Ledger>(
     // The call tells what is true of every grammar.
     let _limit = grammar.limit();
     for passed in 0..most {
-        let Some(Kind::Attribute) = kind_of(grammar, counts, names, first + passed, steps) else {
+        let kind = kind_of(grammar, counts, names, first + passed, steps);
+        if !is_attribute(kind) {
             return passed;
-        };
+        }
     }
     most
+}
+
+fn is_attribute(kind: Option<Kind>) -> bool
+    ensures yes { result ≡ true → kind ≡ Some Attribute }
+    ensures no { result ≡ false → kind ≡ Some Attribute → ⊥ }
+{
+    matches!(kind, Some(Kind::Attribute))
 }

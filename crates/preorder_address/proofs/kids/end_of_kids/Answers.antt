@@ -1,4 +1,4 @@
-use Rattle.std.proofs.Common.{◌∙◌, sym, refl, arith, subst, None, Some}
+use Rattle.std.proofs.Common.{refl, arith}
 use Rattle.preorder_address.proofs.Naming.{total-count}
 use Rattle.preorder_address.proofs.TreeKids.{all-fits, site-fits, no-end, end-told, leads-place, no-place}
 use Rattle.preorder_address.proofs.TreeSites.{tree-node}

@@ -12,8 +12,11 @@ pub mod Lading
 pub mod Listings
 pub mod Loads
 pub mod Weighers
+pub mod KidWeighing
 pub mod KidWalking
 pub mod Passing
 pub mod Siting
 pub mod Sited
 pub mod TreeSites
+pub mod TreeKids
+pub mod TreeAttributes

@@ -24,7 +24,7 @@ use Rattle.preorder_address.specs.Sites.{laden, weight_before, weight_below, lab
 use Rattle.preorder_address.specs.declared.descent.Descent.{Descent}
 use Rattle.preorder_address.specs.declared.numbering.Numbering.TheVariants.{Nodes}
 use Rattle.preorder_address.proofs.Descending.{nodes-within, nodes-below}
-use Rattle.preorder_address.proofs.KidWalking.{no_weights, zeros}
+use Rattle.preorder_address.proofs.KidWeighing.{no_weights, zeros}
 use Rattle.preorder_address.proofs.Lading.{Alike, laden-alike, before-alike, below-alike}
 use Rattle.preorder_address.proofs.Listings.{fronts, before_place, kids_from, placed-in-tour}
 use Rattle.preorder_address.proofs.Locating.{nodes-few}

@@ -1,5 +1,5 @@
 -- The node at a number of a tree's code, and what stands before it and behind it there.
-use Rattle.std.proofs.Common.{◌≡◌, ℕ, zero, suc, ◌+◌, ◌*◌, List, [], ◌∷◌, ◌++◌, length, take, refl, ap, sym, ◌∙◌, arith, Some, sum_by, ◌⊎◌, inl, inr, subst, append_assoc, length-append}
+use Rattle.std.proofs.Common.{◌≡◌, ℕ, zero, suc, ◌+◌, ◌*◌, List, [], ◌∷◌, ◌++◌, length, take, drop, refl, ap, sym, ◌∙◌, arith, Some, sum_by, ◌⊎◌, inl, inr, subst, append_assoc, length-append}
 use Rattle.std.specs.Prelude.{slice_get}
 use Rattle.std.proofs.lemmas.List.Sums.{sum_by-cons, sum_by-append}
 use Rattle.plain_tree.specs.declared.kind.Kind.{Kind}
@@ -37,6 +37,16 @@ take-right : {X : Type 0} (xs ys : List X) (n i : ℕ) → n ≡ length xs → t
 take-right [] ys n i e = let z : n + i ≡ i = omega arith in ap (λ k. take k ys) z
 take-right (x ∷ xs) ys zero i e = absurd (omega arith)
 take-right (x ∷ xs) ys (suc n) i e = let z : suc n + i ≡ suc (n + i) = omega arith in ap (λ k. take k (x ∷ (xs ++ ys))) z ∙ ap (λ zs. x ∷ zs) (take-right xs ys n i (omega arith))
+
+drop-right : {X : Type 0} (xs ys : List X) (n i : ℕ) → n ≡ length xs → drop (suc (n + i)) (xs ++ ys) ≡ drop (suc i) ys
+drop-right [] ys n i e = let z : suc (n + i) ≡ suc i = omega arith in ap (λ k. drop k ys) z
+drop-right (x ∷ xs) ys zero i e = absurd (omega arith)
+drop-right (x ∷ xs) ys (suc n) i e = let z : suc (suc n + i) ≡ suc (suc (n + i)) = omega arith in ap (λ k. drop k (x ∷ (xs ++ ys))) z ∙ drop-right xs ys n i (omega arith)
+
+take-all : {X : Type 0} (xs ys : List X) (n : ℕ) → n ≡ length xs → take n (xs ++ ys) ≡ xs
+take-all [] ys n e = let z : n ≡ 0 = e in ap (λ k. take k ys) z
+take-all (x ∷ xs) ys zero e = absurd (omega arith)
+take-all (x ∷ xs) ys (suc n) e = ap (λ zs. x ∷ zs) (take-all xs ys n (omega arith))
 
 pub length-placed : (b : ℕ) (ts : Trees) → length (placed b ts) ≡ node_count_all ts
 length-placed b none = refl
@@ -109,6 +119,7 @@ module _ (names : List (Kind × List ℕ)) where
     pub there : (xs : List Tree) → slice_get (nodes_all ts ++ xs) (sum_by node_weight before) ≡ Some (node kind name value kids)
     pub place : (b : ℕ) (xs : List (ℕ × Tree)) → slice_get (placed b ts ++ xs) (sum_by node_weight before) ≡ Some (b + sum_by all_weight before, node kind name value kids)
     pub siblings : (xs : List Trees) → slice_get (siblings_behind ts ++ xs) (sum_by node_weight before) ≡ Some others
+    pub inside : (xs : List Tree) → take (node_count_all kids) (drop (suc (sum_by node_weight before)) (nodes_all ts ++ xs)) ≡ nodes_all kids
     pub texts : (xs : List Tree) → length (values_of (take (sum_by node_weight before) (nodes_all ts ++ xs))) ≡ sum_by (text_weight names) before
 
   -- or the symbol stands behind the code
@@ -139,6 +150,9 @@ module _ (names : List (Kind × List ℕ)) where
             ap (slice_get (placed b (more (node kind n v ks) ts) ++ xs)) m ∙ ap (λ ys. slice_get ys (sum_by node_weight before)) (append_assoc (placed (b + 1) ks) bs xs) ∙ p.place (b + 1) (bs ++ xs)
             ∙ ap (λ i. Some (i, node p.kind p.name p.value p.kids)) a;
         siblings = λ xs. ap (slice_get (siblings_behind (more (node kind n v ks) ts) ++ xs)) m ∙ ap (λ ys. slice_get ys (sum_by node_weight before)) (append_assoc (siblings_behind ks) (siblings_behind ts) xs) ∙ p.siblings (siblings_behind ts ++ xs);
+        inside = λ xs.
+            ap (λ i. take (node_count_all p.kids) (drop (suc i) (nodes_all (more (node kind n v ks) ts) ++ xs))) m
+            ∙ ap (λ ys. take (node_count_all p.kids) (drop (suc (sum_by node_weight before)) ys)) (append_assoc (nodes_all ks) (nodes_all ts) xs) ∙ p.inside (nodes_all ts ++ xs);
         texts = λ xs.
             ap (λ i. length (values_of (take i (nodes_all (more (node kind n v ks) ts) ++ xs)))) m
             ∙ ap (λ ys. length (values_of (node kind n v ks ∷ take (sum_by node_weight before) ys))) (append_assoc (nodes_all ks) (nodes_all ts) xs)
@@ -186,6 +200,10 @@ module _ (names : List (Kind × List ℕ)) where
         siblings = λ xs.
             ap (slice_get (siblings_behind (more (node kind n v ks) ts) ++ xs)) m ∙ ap (λ ys. slice_get ys (node_count_all ks + sum_by node_weight before)) (append_assoc (siblings_behind ks) (siblings_behind ts) xs)
             ∙ get-right (siblings_behind ks) (siblings_behind ts ++ xs) (node_count_all ks) (sum_by node_weight before) (sym (length-siblings ks)) ∙ p.siblings xs;
+        inside = λ xs.
+            ap (λ i. take (node_count_all p.kids) (drop (suc i) (nodes_all (more (node kind n v ks) ts) ++ xs))) m
+            ∙ ap (λ ys. take (node_count_all p.kids) (drop (suc (node_count_all ks + sum_by node_weight before)) ys)) (append_assoc (nodes_all ks) (nodes_all ts) xs)
+            ∙ ap (take (node_count_all p.kids)) (drop-right (nodes_all ks) (nodes_all ts ++ xs) (node_count_all ks) (sum_by node_weight before) (sym (length-nodes_all ks))) ∙ p.inside xs;
         texts = λ xs.
             let rest : List Tree = take (sum_by node_weight before) (nodes_all ts ++ xs) in
             ap (λ i. length (values_of (take i (nodes_all (more (node kind n v ks) ts) ++ xs)))) m
@@ -234,6 +252,7 @@ module _ (names : List (Kind × List ℕ)) where
         there = λ xs. refl;
         place = λ b xs. let z : b ≡ b + 0 = omega arith in ap (λ i. Some (i, node kind n v ks)) z;
         siblings = λ xs. refl;
+        inside = λ xs. ap (take (node_count_all ks)) (append_assoc (nodes_all ks) (nodes_all ts) xs) ∙ take-all (nodes_all ks) (nodes_all ts ++ xs) (node_count_all ks) (sym (length-nodes_all ks));
         texts = λ xs. refl;
       })
   trees-at (more (node kind n v ks) ts) term c k (b ∷ before) f after e =

@@ -1,5 +1,5 @@
 -- Chains of levels, and the label to which they lead.
-use Rattle.std.specs.Prelude.{◌≡◌, ℕ, ◌+◌, ◌-◌, ◌*◌, ◌<◌, ◌≤◌, List, [], ◌∷◌, ◌++◌, Some, slice_get, sum_by, length}
+use Rattle.std.specs.Prelude.{◌≡◌, ℕ, ◌+◌, ◌-◌, ◌*◌, ◌<◌, ◌≤◌, List, [], ◌∷◌, ◌++◌, Option, None, Some, slice_get, sum_by, length}
 use Rattle.rule_arena.specs.Terms.{Node}
 use Rattle.rule_arena.specs.declared.key.Key.{Key}
 use Rattle.rule_arena.specs.declared.label.Label.{Label}
@@ -14,6 +14,7 @@ use Rattle.preorder_address.specs.Routes.{route_to, stop_weight}
 use Rattle.preorder_address.specs.Numberings.{weigh_by}
 use Rattle.preorder_address.specs.declared.descent.Descent.{Descent}
 use Rattle.preorder_address.specs.declared.numbering.Numbering.{Numbering}
+use Rattle.preorder_address.specs.declared.numbering.Numbering.TheVariants.{All}
 use Rattle.slt_grammar.specs.declared.level.Level.{Level}
 
 -- the label f stands at number n
@@ -72,3 +73,10 @@ pub record LeadsToNumber (by : Numbering) (G : List KeyedRule) (n : ℕ) (d : De
   pub inside : IsInside G d
   pub arrives : Arrives (weigh_by by) G (length G - 1) n (levels_of G d)
   pub few : steps_of G d ≤ 4 * whole (rules_of G)
+
+-- a descent of these rules leads to this place of the last one's value, and there is none where there is no place
+abbrev pub LeadsToPlace : List KeyedRule → Option Descent → Option ℕ → Type 0
+LeadsToPlace G None None = Unit {0}
+LeadsToPlace G (Some d) (Some place) = LeadsToNumber All G place d
+LeadsToPlace G None (Some place) = ⊥
+LeadsToPlace G (Some d) None = ⊥

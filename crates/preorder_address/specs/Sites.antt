@@ -1,6 +1,6 @@
 -- What stands before a node in labels, and what the first term behind it weighs. A parameter weighs what its argument does: the numbers
 -- in `args`, one after another.
-use Rattle.std.specs.Prelude.{ℕ, zero, suc, ◌+◌, List, [], ◌∷◌, ◌++◌, take, drop, map, get_or, sum, sum_by}
+use Rattle.std.specs.Prelude.{ℕ, zero, suc, ◌+◌, List, [], ◌∷◌, ◌++◌, Bool, true, false, Option, Some, take, drop, map, get_or, sum, sum_by}
 use Rattle.rule_arena.specs.Terms.{Node, kids_of}
 use Rattle.rule_arena.specs.declared.label.Label.{Label}
 use Rattle.rule_arena.specs.declared.label.Label.TheVariants.{Bottom, Symbol, Call, Param}
@@ -72,3 +72,7 @@ stops_before afters (x ∷ xs) (suc p) = stop x 0 ∷ (once_closed x.kids (get_o
 -- the labels of a rule's value before the node at a place of its body
 abbrev pub labels_before : List KeyedRule → ℕ → ℕ → List Label
 labels_before G r p = spread (piece (rules_of G)) (map (λ m. stop m.item.label m.part) (stops_before ([] ∷ []) (nodes_at G r) p)) []
+
+abbrev pub is_symbol : Option Label → Bool
+is_symbol (Some (Symbol f)) = true
+is_symbol label = false

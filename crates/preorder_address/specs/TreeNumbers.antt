@@ -1,7 +1,8 @@
 -- What the nodes of a tree are, by their numbers.
-use Rattle.std.specs.Prelude.{ℕ, ◌+◌, ◌-◌, ◌*◌, List, [], ◌∷◌, ◌++◌, length, take, Option, option_map, slice_get}
+use Rattle.std.specs.Prelude.{ℕ, ◌+◌, ◌-◌, ◌*◌, List, [], ◌∷◌, ◌++◌, length, take, get_or, Option, None, Some, option_map, slice_get}
 use Rattle.plain_tree.specs.declared.kind.Kind.{Kind}
 use Rattle.plain_tree.specs.Tree.{Tree, node, Trees, none, more, node_count, node_count_all}
+use Rattle.plain_tree.specs.declared.kind.Kind.TheVariants.{Attribute}
 use Rattle.plain_tree.specs.Numbers.{nodes, kind_of, values_of}
 
 -- the kind of node n
@@ -26,3 +27,33 @@ placed from (more (node kind name value kids) ts) =
 abbrev pub siblings_behind : Trees → List Trees
 siblings_behind none = []
 siblings_behind (more (node kind name value kids) ts) = ts ∷ (siblings_behind kids ++ siblings_behind ts)
+
+-- the place behind the kids of node n
+abbrev pub end_at : Tree → ℕ → Option ℕ
+end_at t n = option_map (λ e. e.0 + 2 * node_count e.1 - 1) (slice_get (placed 0 (more t none)) n)
+
+-- how many places the attributes have that stand before all other trees
+abbrev pub attribute_places : Trees → ℕ
+attribute_places (more (node Attribute name value kids) ts) = 2 * node_count_all kids + 2 + attribute_places ts
+attribute_places ts = 0
+
+abbrev pub kids_of : Tree → Trees
+kids_of (node kind name value kids) = kids
+
+-- the place of the first kid of node n behind its attributes, or that behind its kids
+abbrev pub after_attributes_at : Tree → ℕ → Option ℕ
+after_attributes_at t n = option_map (λ e. e.0 + 1 + attribute_places (kids_of e.1)) (slice_get (placed 0 (more t none)) n)
+
+-- how many attributes stand before all other nodes
+abbrev pub attributes_in : List Tree → ℕ
+attributes_in (node Attribute name value kids ∷ ts) = attributes_in ts + 1
+attributes_in ts = 0
+
+-- the number of the first of some trees, if there is one, where it is this
+abbrev pub number_of_first : ℕ → Trees → Option ℕ
+number_of_first n none = None
+number_of_first n (more t ts) = Some n
+
+-- the number of the sibling that stands next behind node n, if there is one
+abbrev pub next_sibling_at : Tree → ℕ → Option (Option ℕ)
+next_sibling_at t n = option_map (λ s. number_of_first (n + node_count s) (get_or (siblings_behind (more t none)) n none)) (slice_get (nodes t) n)

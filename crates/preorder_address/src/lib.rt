@@ -6,6 +6,7 @@
 #![tactic(auto)]
 
 mod descent;
+mod kids;
 mod laws;
 mod nodes;
 mod numbering;
@@ -13,6 +14,7 @@ mod site;
 mod weigher;
 
 pub use descent::{Descent, RuleStop, locate, locate_place};
+pub use kids::{after_attributes, end_of_kids, next_sibling};
 pub use laws::descents_arrive;
 pub use nodes::{extent, kind_of, text_rank};
 pub use numbering::Numbering;

@@ -1,12 +1,13 @@
 // What stands at the node with a number.
-ghost use Rattle.std.specs.Prelude.{◌≡◌, ℕ, ◌≤◌, ◌+◌, ◌*◌, List};
+ghost use Rattle.std.specs.Prelude.{◌≡◌, ℕ, ◌≤◌, ◌+◌, ◌*◌, ◌-◌, ◌<◌, List, IsSome};
 ghost use Rattle.plain_tree.specs.declared.kind.Kind.{Kind};
 ghost use Rattle.plain_tree.specs.Tree.{Tree, none, more};
 ghost use Rattle.slt_grammar.specs.Coding.{Codes};
 ghost use Rattle.slt_grammar.specs.Grammars.{value, whole};
 ghost use Rattle.slt_grammar.specs.Keyed.{rules_of};
 ghost use Rattle.rule_arena.specs.declared.label.Label.{Label};
-ghost use Rattle.segment_counts.specs.Counting.{AreCounts};
+ghost use Rattle.segment_counts.specs.Counting.{AreCounts, told};
+ghost use Rattle.segment_counts.specs.declared.counts.Measure.TheVariants.{Nodes};
 ghost use Rattle.preorder_address.specs.Chains.{LeadsTo};
 ghost use Rattle.preorder_address.specs.Descents.{IsInside, levels_of, steps_of};
 ghost use Rattle.preorder_address.specs.Numberings.{AreCountsOf};
@@ -32,6 +33,7 @@ pub fn kind_of<L: Ledger>(
 ) -> Option<Kind>
     requires counts { AreCountsOf (rules_of grammar.now.rules) counts.now }
     ensures kind { (t : Tree) → Codes names.now (more t none) (value (rules_of grammar.now.rules)) → result ≡ kind_at t number }
+    ensures below { IsSome result → number < told Nodes counts.now.rows (counts.now.rules - 1) 0 }
     ensures steps { steps.new ≤ steps.old + 4 * whole (rules_of grammar.now.rules) + 1 }
 {
     // The call tells what is true of every grammar.

@@ -5,7 +5,8 @@ use Rattle.std.specs.Prelude.{sum}
 use Rattle.preorder_address.specs.Sites.{term_weights}
 use Rattle.preorder_address.specs.Weighing.{passed, weight_of}
 use Rattle.preorder_address.specs.declared.site.KidPlace.{KidPlace}
-use Rattle.preorder_address.proofs.KidWalking.{KidsWalking, kids-start, kid-few, some-next, next-there, node-facts, terms-left, few-params, sum-within, kids-next, kids-end, kids-steps, no_weights, zeros, kids-nearer}
+use Rattle.preorder_address.proofs.KidWalking.{KidsWalking, kids-start, kid-few, some-next, next-there, node-facts, terms-left, few-params, sum-within, kids-next, kids-end, kids-steps, kids-nearer}
+use Rattle.preorder_address.proofs.KidWeighing.{no_weights, zeros}
 use Rattle.preorder_address.proofs.Weighers.{small-call}
 use Rattle.preorder_address.proofs.site.kid_weights.Goals as goal
 

@@ -5,9 +5,13 @@
 #![tactic(auto)]
 
 #[cfg(test)]
+mod addresses;
+#[cfg(test)]
 mod arena;
 #[cfg(test)]
 mod code;
+#[cfg(test)]
+mod counts;
 #[cfg(test)]
 mod grammar;
 #[cfg(test)]

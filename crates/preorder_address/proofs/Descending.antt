@@ -15,6 +15,7 @@ use Rattle.segment_counts.specs.Weights.{count_before}
 use Rattle.preorder_address.specs.Numberings.{AreCountsOf, weigh_by}
 use Rattle.preorder_address.specs.Routes.{sought, stop_weight, routed, route, route_to}
 use Rattle.preorder_address.specs.Descents.{levels_at, IsWithin, nodes_up_to, steps_at, told_next, IsSmallNext}
+use Rattle.preorder_address.specs.Stops.{wanted_below}
 use Rattle.preorder_address.specs.declared.numbering.Numbering.{Numbering}
 use Rattle.segment_counts.proofs.Numbers.{segment-within}
 use Rattle.preorder_address.proofs.Weighing.{told-by, small-by}
@@ -56,6 +57,15 @@ module _ (G : List KeyedRule) (g : IsGrammar (rules_of G)) (C : CountTable) (a :
       let w = segment-within (weigh_by m) (preorder (rules_of G) q) i in
       (omega (arith, c.0), omega (arith, t, w))
   inside-next Param i o s c = tt
+
+  pub wanted-next : (l : Label) (i o : ℕ) → CallsBelow r (l ∷ []) → told_next m C l i o ≡ wanted_below (weigh_by m) G l i o
+  wanted-next Bottom i o c = refl
+  wanted-next (Symbol f) i o c = refl
+  wanted-next (Call q) i o c =
+      let n = length-rules_of G in
+      let t = told-by (rules_of G) C a m q i (omega (arith, c.0)) in
+      ap (λ k. Some (record { rule = q; number = k + o })) t
+  wanted-next Param i o c = refl
 
   pub steps-next : (l : Label) (i o : ℕ) → CallsBelow r (l ∷ []) → 4 * length (nodes_at G r) + steps_at G (told_next m C l i o) ≤ 4 * nodes_up_to G r
   steps-next Bottom i o c = omega (arith, nodes-within G r)

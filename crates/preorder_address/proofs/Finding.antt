@@ -1,5 +1,6 @@
 -- A turn of the search along a rule's stops.
-use Rattle.std.proofs.Common.{◌≡◌, ℕ, ◌+◌, ◌-◌, ◌<◌, ◌≤◌, List, [], ◌∷◌, length, ap, sym, ◌∙◌, arith, sum_by, Some}
+use Rattle.std.proofs.Common.{◌≡◌, ℕ, ◌+◌, ◌-◌, ◌<◌, ◌≤◌, List, [], ◌∷◌, ◌++◌, length, ap, sym, ◌∙◌, arith, sum_by, subst, append_assoc, Some}
+use Rattle.std.proofs.lemmas.List.Sums.{sum_by-cons, sum_by-append}
 use Rattle.std.specs.Prelude.{slice_get}
 use Rattle.rule_arena.specs.Terms.{Node}
 use Rattle.slt_grammar.specs.Bodies.{CallsBelow}
@@ -12,6 +13,7 @@ use Rattle.slt_grammar.specs.declared.tour_walk.TourWalk.{TourWalk}
 use Rattle.segment_counts.specs.Counting.{CountTable}
 use Rattle.preorder_address.specs.Routes.{stop_weight, sought}
 use Rattle.preorder_address.specs.Numberings.{AreCountsOf, weigh_by}
+use Rattle.preorder_address.specs.Stops.{FallsAt}
 use Rattle.preorder_address.specs.declared.numbering.Numbering.{Numbering}
 use Rattle.preorder_address.proofs.Seeking.{Seeks, Ahead, ahead, sought-here, sought-later}
 use Rattle.slt_grammar.proofs.StopLemmas.{stop-is, calls-here}
@@ -43,6 +45,16 @@ module _ (g : Keyed) (k : IsKeyed g) (C : CountTable) (a : AreCountsOf (rules_of
   pub found-inside : number < n → number < sum_by (weigh_by by) (part_of (rules_of g.rules) x.label walk.part)
   found-inside b = omega (arith, b, weight-here, ap (stop_weight (weigh_by by) g.rules) here-is)
 
+  pub falls-here : number < n → FallsAt (weigh_by by) g.rules r wanted walk (stop x walk.part) number
+  falls-here b = record {
+    passed = there.passed;
+    rest = there.others;
+    split = there.split ∙ ap (λ (m : Stop Node). there.passed ++ m ∷ there.others) here-is;
+    stands = subst (λ (m : Stop Node). StandsBefore g.rules r walk (m ∷ there.others)) here-is there.stands;
+    number = there.number_is;
+    inside = found-inside b;
+  }
+
   pub never-last : n ≤ number → there.others ≡ [] → ⊥
   never-last b e = omega (arith, b, weight-here, there.inside, ap (sum_by (stop_weight (weigh_by by) g.rules)) e)
 
@@ -52,5 +64,8 @@ module _ (g : Keyed) (k : IsKeyed g) (C : CountTable) (a : AreCountsOf (rules_of
     stands = t;
     same = there.same ∙ sought-later (stop_weight (weigh_by by) g.rules) there.here there.others number (omega (arith, b, weight-here)) ∙ ap (λ j. sought (stop_weight (weigh_by by) g.rules) there.others (number - j)) (sym weight-here);
     inside = omega (arith, b, weight-here, there.inside);
+    passed = there.passed ++ there.here ∷ [];
+    split = there.split ∙ sym (append_assoc there.passed (there.here ∷ []) there.others);
+    number_is = omega (arith, b, weight-here, there.number_is, sum_by-append (stop_weight (weigh_by by) g.rules) there.passed (there.here ∷ []), sum_by-cons (stop_weight (weigh_by by) g.rules) there.here []);
     few = omega (arith, there.few, f);
   }

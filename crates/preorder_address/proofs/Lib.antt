@@ -5,3 +5,15 @@ pub mod Descending
 pub mod Finding
 pub mod Arriving
 pub mod Locating
+pub mod TreePlaces
+pub mod Heading
+pub mod Naming
+pub mod Lading
+pub mod Listings
+pub mod Loads
+pub mod Weighers
+pub mod KidWalking
+pub mod Passing
+pub mod Siting
+pub mod Sited
+pub mod TreeSites

@@ -17,7 +17,7 @@ use Rattle.preorder_address.specs.declared.numbering.Numbering.{Numbering}
 use Rattle.preorder_address.proofs.Arriving.{descents-arrive}
 use Rattle.preorder_address.proofs.Weighing.{told-each}
 
-nodes-few : (G : List KeyedRule) (r : ℕ) → nodes_up_to G r ≤ whole (rules_of G)
+pub nodes-few : (G : List KeyedRule) (r : ℕ) → nodes_up_to G r ≤ whole (rules_of G)
 nodes-few [] r = omega arith
 nodes-few (R ∷ G) zero =
     omega (

@@ -1,5 +1,6 @@
 // Descents to a number, level by level.
 ghost use Rattle.std.specs.Prelude.{◌≡◌, ◌↔◌, ◌<◌, ◌≤◌, ◌+◌, ◌-◌, ◌*◌, ℕ, [], ◌∷◌, length, sum_by, Some, IsSome, IfSome};
+ghost use Rattle.std.specs.Option.{option_map};
 ghost use Rattle.slt_grammar.specs.Bodies.{CallsBelow};
 ghost use Rattle.slt_grammar.specs.Keyed.{IsKeyed, Keyed, rules_of};
 ghost use Rattle.slt_grammar.specs.Segments.{node_tour, part_of, preorder};
@@ -10,12 +11,13 @@ ghost use Rattle.preorder_address.specs.Chains.{LeadsToNumber};
 ghost use Rattle.preorder_address.specs.Descents.{Given, IsInside, IsSmallNext, descent_to, levels_of, steps_of, told_next};
 ghost use Rattle.preorder_address.specs.Numberings.{AreCountsOf, weigh_by};
 ghost use Rattle.preorder_address.specs.Routes.{sought, stop_weight};
+ghost use Rattle.preorder_address.specs.Stops.{FallsAt, GoesThrough, level_of};
 ghost use Rattle.preorder_address.specs.declared.numbering.Numbering.TheVariants as by;
 
 use crate::numbering::Numbering;
 use read_steps::Steps;
 use segment_counts::Counts;
-use slt_grammar::{Grammar, Key, Label, Level, TourWalk};
+use slt_grammar::{Grammar, Label, Level, TourWalk};
 use std::sync::ledger::Ledger;
 
 /// The levels that lead to a number, one after another. It takes no memory.
@@ -32,12 +34,18 @@ pub(crate) struct Wanted {
     pub(crate) number: u64,
 }
 
-// A part of a node, and what is left of a number there.
+/// A stop of a rule's tour: the walk stands there.
+#[derive(Clone, Copy, Drop)]
+pub struct RuleStop {
+    pub rule: usize,
+    pub walk: TourWalk,
+}
+
+// The stop of a walk at a part of a node, and what is left of a number there.
 #[derive(Clone, Copy, Drop)]
 struct FoundPart {
-    key: Key,
+    walk: TourWalk,
     label: Label,
-    part: usize,
     offset: u64,
 }
 
@@ -92,17 +100,38 @@ impl Descent {
         ensures inside { IsInside grammar.now.rules self.new }
         ensures steps { steps.new + steps_of grammar.now.rules self.new ≤ steps.old + steps_of grammar.now.rules self.old }
     {
+        let stop = self.next_stop(grammar, counts, steps)?;
+        Some(Level {
+            rule: stop.rule,
+            key: stop.walk.key,
+        })
+    }
+
+    /// The next level as the stop of its rule's tour into which the number falls, and None where all were given. It takes the steps
+    /// of `next`.
+    pub fn next_stop<L: Ledger>(
+        &mut self,
+        grammar: &Grammar,
+        counts: &Counts,
+        steps: &mut Steps<L>,
+    ) -> Option<RuleStop>
+        requires counts { AreCountsOf (rules_of grammar.now.rules) counts.now }
+        requires inside { IsInside grammar.now.rules self.old }
+        ensures levels { Given (option_map level_of result) (levels_of grammar.now.rules self.old) (levels_of grammar.now.rules self.new) }
+        ensures through { GoesThrough grammar.now.rules result self.old self.new }
+        ensures inside { IsInside grammar.now.rules self.new }
+        ensures steps { steps.new + steps_of grammar.now.rules self.new ≤ steps.old + steps_of grammar.now.rules self.old }
+    {
         // The call tells what is true of every grammar.
         let _limit = grammar.limit();
         let by = self.by;
         let wanted = self.next?;
         let found = find_part(grammar, counts, by, wanted, steps);
-        let level = Level {
+        self.next = next_wanted(counts, by, &found);
+        Some(RuleStop {
             rule: wanted.rule,
-            key: found.key,
-        };
-        self.next = next_wanted(counts, by, found);
-        Some(level)
+            walk: found.walk,
+        })
     }
 }
 
@@ -119,8 +148,10 @@ fn find_part<L: Ledger>(
     requires rule { wanted.rule < length grammar.now.rules }
     requires number { wanted.number < sum_by (weigh_by by) (preorder (rules_of grammar.now.rules) wanted.rule) }
     ensures part { (kids : ℕ) × (sought (stop_weight (weigh_by by) grammar.now.rules) (node_tour grammar.now.rules wanted.rule) wanted.number
-        ≡ Some (record { at = stop (record { key = result.key; label = result.label; kids = kids }) result.part; offset = result.offset })) }
-    ensures weight { result.offset < sum_by (weigh_by by) (part_of (rules_of grammar.now.rules) result.label result.part) }
+        ≡ Some (record { at = stop (record { key = result.walk.key; label = result.label; kids = kids }) result.walk.part; offset = result.offset })) }
+    ensures falls { (kids : ℕ) × FallsAt (weigh_by by) grammar.now.rules wanted.rule wanted.number result.walk
+        (stop (record { key = result.walk.key; label = result.label; kids = kids }) result.walk.part) result.offset }
+    ensures weight { result.offset < sum_by (weigh_by by) (part_of (rules_of grammar.now.rules) result.label result.walk.part) }
     ensures calls { CallsBelow wanted.rule (result.label ∷ []) }
     ensures steps { steps.new ≤ steps.old + 2 * length (node_tour grammar.now.rules wanted.rule) }
 {
@@ -131,9 +162,8 @@ fn find_part<L: Ledger>(
         let weight = by.weight(counts, item.label, walk.part);
         if number < weight {
             return FoundPart {
-                key: walk.key,
+                walk,
                 label: item.label,
-                part: walk.part,
                 offset: number,
             };
         }
@@ -145,14 +175,14 @@ fn find_part<L: Ledger>(
 }
 
 // Where a descent goes on from a part of a node.
-fn next_wanted(counts: &Counts, by: Numbering, found: FoundPart) -> Option<Wanted>
-    requires { IsSmallNext by counts.now found.label found.part found.offset }
-    ensures { result ≡ told_next by counts.now found.label found.part found.offset }
+fn next_wanted(counts: &Counts, by: Numbering, found: &FoundPart) -> Option<Wanted>
+    requires { IsSmallNext by counts.now found.now.label found.now.walk.part found.now.offset }
+    ensures { result ≡ told_next by counts.now found.now.label found.now.walk.part found.now.offset }
 {
     match found.label {
         Label::Call(rule) => Some(Wanted {
             rule,
-            number: counts.before(by.measure(), rule, found.part) + found.offset,
+            number: counts.before(by.measure(), rule, found.walk.part) + found.offset,
         }),
         _ => None,
     }

@@ -7,8 +7,12 @@
 
 mod descent;
 mod laws;
+mod nodes;
 mod numbering;
+mod site;
+mod weigher;
 
-pub use descent::{Descent, locate, locate_place};
+pub use descent::{Descent, RuleStop, locate, locate_place};
 pub use laws::descents_arrive;
+pub use nodes::{extent, kind_of, text_rank};
 pub use numbering::Numbering;

@@ -14,7 +14,8 @@ use borrow.Author.Tests.{ltb-true, ltb-false}
 use Rattle.plain_tree.specs.declared.kind.Kind.TheVariants as kind
 use Rattle.plain_tree.specs.Tree.{Tree, node, Trees, none, more}
 use Rattle.xml_nodes.proofs.CharacterLemmas.{chars_text, chars_lawful, target_name, and_true}
-use Rattle.xml_nodes.proofs.NameBytes.{encode_bytes, names_are_safe, is_high, high_high}
+use Rattle.xml_nodes.proofs.NameBytes.{names_are_safe, is_high, high_high}
+use Rattle.xml_tokens.proofs.Texts.{encode_bytes}
 use Rattle.xml_nodes.proofs.Place.{safe_no_return}
 use Rattle.xml_nodes.proofs.LineEnds.{no_return_stays}
 use Rattle.xml_nodes.proofs.Saving.{saved-is_document}

@@ -10,7 +10,8 @@ use lib.Utf8.{encodes, encode}
 use lib.Dec.{ltb}
 use borrow.Author.Tests.{ltb-true, ltb-false}
 use Rattle.xml_nodes.proofs.CharacterLemmas.{and_true, chars_text, chars_lawful, no_chars, more_chars, one_char, chars-encode}
-use Rattle.xml_nodes.proofs.NameBytes.{encode_bytes, is_high, high_high}
+use Rattle.xml_nodes.proofs.NameBytes.{is_high, high_high}
+use Rattle.xml_tokens.proofs.Texts.{encode_bytes}
 use Rattle.xml_nodes.proofs.ReferenceLemmas.{is_low, referred_is}
 use Rattle.plain_tree.specs.XmlNames.{is_char, is_space}
 use Rattle.plain_tree.specs.Lawful.{AreChars}

@@ -169,8 +169,6 @@ module _ {State : Type 0} (step : State → Token → Option State) where
         omega (arith, r.begins, ap length parts.whole, length-append (encodes r.before) inside, ap length b.whole, length-append b.text left)
 
 -- where nothing is held, a token of the bytes themselves
-pub unheld : (held text : List ℕ) → held ≡ [] → text ≡ held ++ text
-unheld held text e = sym (ap (λ z. z ++ text) e)
 
 -- an error that is handed on is the error that came
 pub err_same : {A E : Type 0} (r : Result A E) (B : Type 0) (a b : E) → r ≡ Err a → (let x : Result B E = Err a in let y : Result B E = Err b in x ≡ y) → r ≡ Err b

@@ -232,7 +232,7 @@ impl Tokenizer {
         ensures place { result ≡ Err TokenError.Bad → Breaks S.step self.old self.new.start (S.state sink.old) rest.now }
     {
         if !self.held.is_empty() {
-            return self.take_held(alloc, rest, sink);
+            return self.take_token(alloc, rest, sink);
         }
         let left = skip_run(rest);
         if left.len() < rest.len() {
@@ -274,7 +274,7 @@ impl Tokenizer {
         }
     }
 
-    // Where nothing is held, a token of the bytes themselves.
+    // The token that the bytes held begin and these go on, or what there is of it.
     fn take_token<'a, S: TokenSink>(
         &mut self,
         alloc: Global,
@@ -283,7 +283,6 @@ impl Tokenizer {
     ) -> Result<&'a [u8], TokenError>
         requires some { 0 < length rest.now }
         requires ready { S.IsReady (S.state sink.old) }
-        requires none_held { self.old.held.items ≡ [] }
         requires count { self.old.count + length rest.now < 2 ^ 64 }
         ensures ready { OnOk result (S.IsReady (S.state sink.new)) }
         ensures lenders { S.lenders sink.new ≡ S.lenders sink.old }
@@ -294,7 +293,7 @@ impl Tokenizer {
         match end_in(self.scan, rest) {
             Ended::Whole(after) => {
                 let n = rest.len() - after.len();
-                match give(alloc, &rest[..n], sink) {
+                match self.give_whole(alloc, &rest[..n], sink) {
                     Ok(()) => {
                         self.pass(n);
                         Ok(after)
@@ -310,40 +309,33 @@ impl Tokenizer {
         }
     }
 
-    // The token whose front is held.
-    fn take_held<'a, S: TokenSink>(
+    // The token that the bytes held and these are goes to the sink. One that lies whole in a piece isn't copied.
+    fn give_whole<S: TokenSink>(
         &mut self,
         alloc: Global,
-        rest: &'a [u8],
+        bytes: &[u8],
         sink: &mut S,
-    ) -> Result<&'a [u8], TokenError>
-        requires some { 0 < length rest.now }
-        requires ready { S.IsReady (S.state sink.old) }
-        requires count { self.old.count + length rest.now < 2 ^ 64 }
+    ) -> Result<(), TokenError>
+        requires { S.IsReady (S.state sink.old) }
         ensures ready { OnOk result (S.IsReady (S.state sink.new)) }
         ensures lenders { S.lenders sink.new ≡ S.lenders sink.old }
-        ensures ok { IfOk result (λ after. Advances S.step self.old self.new (S.state sink.old) (S.state sink.new) rest.now after.now) }
-        ensures shorter { IfOk result (λ after. length after.now < length rest.now) }
-        ensures place { result ≡ Err TokenError.Bad → Breaks S.step self.old self.new.start (S.state sink.old) rest.now }
+        ensures ok { OnOk result (Takes S.step (S.state sink.old) (S.state sink.new) (self.old.held.items ++ bytes.now)) }
+        ensures held { OnOk result (self.new.held.items ≡ []) }
+        ensures bad { result ≡ Err TokenError.Bad → (t : Token) → IsToken t (self.old.held.items ++ bytes.now) → S.step (S.state sink.old) t ≡ None }
+        ensures after_return { self.new.after_return ≡ self.old.after_return }
+        ensures count { self.new.count ≡ self.old.count }
+        ensures start { self.new.start ≡ self.old.start }
     {
-        match end_in(self.scan, rest) {
-            Ended::Whole(after) => {
-                let n = rest.len() - after.len();
-                self.held.extend_from_slice(&rest[..n])?;
-                match give(alloc, self.held.as_slice(), sink) {
-                    Ok(()) => {
-                        self.held.clear();
-                        self.pass(n);
-                        Ok(after)
-                    }
-                    Err(e) => Err(e),
-                }
+        if is_none(self.held.as_slice()) {
+            return give(alloc, bytes, sink);
+        }
+        self.held.extend_from_slice(bytes)?;
+        match give(alloc, self.held.as_slice(), sink) {
+            Ok(()) => {
+                self.held.clear();
+                Ok(())
             }
-            Ended::On(scan) => {
-                self.hold(rest, scan)?;
-                Ok(&[])
-            }
-            Ended::Dead(_) => Err(TokenError::Bad),
+            Err(e) => Err(e),
         }
     }
 

@@ -5,7 +5,7 @@ use Rattle.preorder_address.specs.Routes.{stop_weight}
 use Rattle.preorder_address.specs.Numberings.{weigh_by}
 use Rattle.preorder_address.proofs.Seeking.{seeks-start}
 use Rattle.preorder_address.proofs.Weighing.{weight-tour}
-use Rattle.preorder_address.proofs.Finding.{there, found, found-inside, found-calls, never-last, seeks-more}
+use Rattle.preorder_address.proofs.Finding.{there, found, found-inside, falls-here, found-calls, never-last, seeks-more}
 use Rattle.preorder_address.proofs.descent.find_part.Goals as goal
 
 pub loop-number-init : goal.loop-number-init
@@ -24,6 +24,12 @@ returns-then-number-weight-clause-part g c =
     let a = c.args in
     let x : Node = record { key = c.loop-number.walk.key; label = c.item-item.result.label; kids = length c.item-item.result.kids } in
     (length c.item-item.result.kids, found a.grammar.now c.requires.keyed a.counts.now c.requires.counts a.wanted.rule c.requires.rule a.by a.wanted.number c.loop-number.walk c.loop-number.number a.steps.now c.loop-number.steps c.loop-number.invariant x c.item-item.ensures.node c.weight-weight.result c.weight-weight.ensures c.if-number-weight.true)
+
+pub returns-then-number-weight-clause-falls : goal.returns-then-number-weight-clause-falls
+returns-then-number-weight-clause-falls g c =
+    let a = c.args in
+    let x : Node = record { key = c.loop-number.walk.key; label = c.item-item.result.label; kids = length c.item-item.result.kids } in
+    (length c.item-item.result.kids, falls-here a.grammar.now c.requires.keyed a.counts.now c.requires.counts a.wanted.rule c.requires.rule a.by a.wanted.number c.loop-number.walk c.loop-number.number a.steps.now c.loop-number.steps c.loop-number.invariant x c.item-item.ensures.node c.weight-weight.result c.weight-weight.ensures c.if-number-weight.true)
 
 pub returns-then-number-weight-clause-weight : goal.returns-then-number-weight-clause-weight
 returns-then-number-weight-clause-weight g c =

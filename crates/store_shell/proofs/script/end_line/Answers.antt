@@ -1,8 +1,7 @@
 use Rattle.std.proofs.Common.{ℕ, List, codes, refl}
 use Rattle.std.proofs.lemmas.Result.{err_from_is_err_and}
-use Rattle.store_core.specs.CommandOf.{act_of}
 use Rattle.store_core.specs.Worlds.{World, world}
-use Rattle.store_shell.specs.Forms.{Long, Bad, Command}
+use Rattle.store_shell.specs.Forms.{Long}
 use Rattle.store_shell.proofs.Runs.{Goes-as}
 use Rattle.store_shell.proofs.script.end_line.Goals as goal
 

@@ -1,0 +1,10 @@
+pub mod Once
+pub mod StopSteps
+pub mod CallLemmas
+pub mod Working
+pub mod Leaving
+pub mod SegmentStarts
+pub mod Going
+pub mod Telling
+pub mod Beginning
+pub mod Subtrees

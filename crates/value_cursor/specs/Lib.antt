@@ -1,0 +1,5 @@
+pub mod Stops
+pub mod Tokens
+pub mod Cursors
+pub mod Work
+pub mod Laws

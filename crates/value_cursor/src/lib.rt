@@ -1,0 +1,13 @@
+//! The tokens of a subtree in document order, over the rules of a grammar and without unfolding them.
+//!
+//! `Cursor::new` goes down to a node by its number, and `Cursor::next` gives one `Token` after another. A cursor keeps one stop for
+//! each rule of the chain of calls in which it stands, so its memory depends on the number of rules alone, and all of it is taken in
+//! `new`. `laws` says that the tokens are those of the tree for which the grammar stands.
+#![tactic(auto)]
+
+mod cursor;
+mod entering;
+mod laws;
+
+pub use cursor::{Cursor, Token};
+pub use laws::cursors_tell_subtrees;

@@ -13,6 +13,8 @@ mod code;
 #[cfg(test)]
 mod counts;
 #[cfg(test)]
+mod cursors;
+#[cfg(test)]
 mod grammar;
 #[cfg(test)]
 mod grammar_bytes;

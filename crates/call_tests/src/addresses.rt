@@ -16,7 +16,7 @@ use std::sync::ledger::{Blank, Ledger};
 use std::test::Fail;
 
 // A rule, and a place in its body.
-type Place = (usize, usize);
+pub(super) type Place = (usize, usize);
 
 // By number: the document, `a`, and the two elements of rule 0 three times.
 static NODES: [&[Place]; 8] = [
@@ -38,7 +38,7 @@ static PLACES: [(u64, &[Place]); 4] = [
     (16, &[(1, 7)]),
 ];
 
-// The place of a node in a body of at most eight nodes.
+// The place of a node in a body of at most ten nodes.
 fn place_of<L: Ledger>(
     grammar: &Grammar,
     rule: usize,
@@ -48,7 +48,7 @@ fn place_of<L: Ledger>(
     requires { rule < length grammar.now.rules }
 {
     let mut key = grammar.root(rule);
-    for place in 0..8 {
+    for place in 0..10 {
         if key == node {
             return Some(place);
         }
@@ -58,7 +58,7 @@ fn place_of<L: Ledger>(
 }
 
 // The rules and places of a descent's levels, read with a counter of their own.
-fn places_of<L: Ledger>(
+pub(super) fn places_of<L: Ledger>(
     alloc: Global,
     grammar: &Grammar,
     counts: &Counts,

@@ -59,7 +59,7 @@ fn walk<L: Ledger>(
     let mut labels = Vec::new(alloc);
     let mut at = root;
     for _i in 0..arena.limit() {
-        labels.push(arena.item(at, steps).label)?;
+        labels.push(arena.label(at, steps))?;
         let Some(next) = arena.next_in_preorder(at, steps) else {
             return Ok(labels);
         };
@@ -84,6 +84,37 @@ fn relabel_root(arena: &mut Arena, root: Key, label: Label)
 {
     let _limit = arena.limit();
     arena.relabel(root, label);
+}
+
+// Dissolves the first node below a root, where its children have room there.
+fn dissolve_first<L: Ledger>(arena: &mut Arena, root: Key, steps: &mut Steps<L>) -> Option<Key>
+    requires { IsRoot arena.old root }
+    ensures root { IfSome result (λ k. IsRoot arena.new root) }
+    ensures freed { IfSome result (λ k. IsRoot arena.new k) }
+{
+    let _limit = arena.limit();
+    let first = first_below(arena, root, steps)?;
+    let own = arena.item(first, steps);
+    let above = arena.item(root, steps);
+    let (up, _place) = own.parent?;
+    if up != root || own.kids.len() + above.kids.len() > 9 {
+        return None;
+    }
+    arena.dissolve(first);
+    Some(first)
+}
+
+// Detaches the first node below a root.
+fn detach_first<L: Ledger>(arena: &mut Arena, root: Key, steps: &mut Steps<L>) -> Option<Key>
+    requires { IsRoot arena.old root }
+    ensures root { IfSome result (λ k. IsRoot arena.new root) }
+    ensures freed { IfSome result (λ k. IsRoot arena.new k) }
+{
+    let _limit = arena.limit();
+    let first = first_below(arena, root, steps)?;
+    let _parent = arena.item(first, steps).parent?;
+    arena.detach(first);
+    Some(first)
 }
 
 static BUILT: [Label; 4] = [Call(3), Symbol(0), Symbol(1), Symbol(2)];
@@ -113,6 +144,49 @@ fn edits<L: Ledger>(rt: &impl Abort, alloc: Global, blank: Blank) -> Result<(), 
     } else {
         assert!(rt; false, "a root with three kids is no leaf");
     }
+    Ok(())
+}
+
+static NESTED: [Label; 5] = [Call(7), Call(3), Symbol(0), Symbol(1), Symbol(2)];
+
+static DISSOLVED: [Label; 4] = [Call(7), Symbol(0), Symbol(1), Symbol(2)];
+
+static DETACHED: [Label; 3] = [Call(7), Symbol(1), Symbol(2)];
+
+// A root over a node with three leaves. The node is dissolved, and then the first leaf is detached.
+fn takings<L: Ledger>(rt: &impl Abort, alloc: Global, blank: Blank) -> Result<(), AllocError>
+    requires name { blank.name ≡ L.name }
+    requires parts { blank.parts ≡ L.parts }
+    requires some { 0 < blank.parts }
+{
+    let mut steps: Steps<L> = Steps::new(blank);
+    let mut arena = Arena::new(alloc);
+    arena.reserve(5)?;
+    let mut kids = [Key::default(); 3];
+    leaves(&mut arena, &mut kids);
+    let low = arena.add(Call(3), &kids);
+    let root = arena.add(Call(7), &[low]);
+    assert!(rt; walk(alloc, &arena, root, &mut steps)?.as_slice() == NESTED.as_slice());
+    if let Some(low) = dissolve_first(&mut arena, root, &mut steps) {
+        assert!(rt; walk(alloc, &arena, root, &mut steps)?.as_slice() == DISSOLVED.as_slice());
+        assert!(rt; walk(alloc, &arena, low, &mut steps)?.as_slice() == [Call(3)].as_slice());
+        if let Some(leaf) = detach_first(&mut arena, root, &mut steps) {
+            assert!(rt; walk(alloc, &arena, root, &mut steps)?.as_slice() == DETACHED.as_slice());
+            assert!(rt;
+                walk(alloc, &arena, leaf, &mut steps)?.as_slice() == [Symbol(0)].as_slice()
+            );
+        } else {
+            assert!(rt; false, "a root with three kids is no leaf");
+        }
+    } else {
+        assert!(rt; false, "there is room for three kids in the place of one");
+    }
+    Ok(())
+}
+
+#[test]
+fn nodes_are_taken_out(rt: HostRuntime) -> Result<(), Fail> {
+    takings::<Brand>(&rt, rt.alloc(), Blank::new(1))?;
     Ok(())
 }
 

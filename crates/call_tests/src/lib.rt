@@ -21,6 +21,8 @@ mod grammar_bytes;
 #[cfg(test)]
 mod nodes;
 #[cfg(test)]
+mod numbers;
+#[cfg(test)]
 mod outside;
 #[cfg(test)]
 mod scripts;

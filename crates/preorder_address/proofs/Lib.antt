@@ -3,6 +3,9 @@ pub mod Routing
 pub mod Weighing
 pub mod Descending
 pub mod Finding
+pub mod Told
+pub mod ToldRoutes
+pub mod ToldLevels
 pub mod Arriving
 pub mod Locating
 pub mod TreePlaces

@@ -60,7 +60,7 @@ pub sought-in : (P : Stop Node → Type 0) (W : Stop Node → ℕ) (ms : List (S
 sought-in P W [] n f a e = cc
 sought-in P W (m ∷ ms) n f a e = chosen-in P (past n (W m)) (record { at = m; offset = n }) f (λ k. sought W ms k) a.0 (λ k d. sought-in P W ms k f a.1 d) e
 
-calls-each : (k : ℕ) (ns : List Node) → CallsBelow k (labels_of ns) → Each (λ (x : Node). CallsBelow k (x.label ∷ [])) ns
+pub calls-each : (k : ℕ) (ns : List Node) → CallsBelow k (labels_of ns) → Each (λ (x : Node). CallsBelow k (x.label ∷ [])) ns
 calls-each k [] c = tt
 calls-each k (x ∷ ns) c = let h = head k x.label (labels_of ns) c in (h.0, calls-each k ns h.1)
   where

@@ -6,28 +6,27 @@ use Rattle.std.proofs.lemmas.List.Sums.{sum_by-cons}
 use Rattle.rule_arena.specs.Terms.{Node}
 use Rattle.rule_arena.specs.declared.label.Label.{Label}
 use Rattle.rule_arena.specs.declared.label.Label.TheVariants.{Bottom, Symbol, Call, Param}
-use Rattle.slt_grammar.specs.Bodies.{CallsBelow, params}
+use Rattle.slt_grammar.specs.Bodies.{params}
 use Rattle.slt_grammar.specs.Grammars.{whole}
-use Rattle.slt_grammar.specs.Keyed.{Keyed, KeyedRule, IsKeyed, key_at, nodes_at, rules_of}
+use Rattle.slt_grammar.specs.Keyed.{Keyed, IsKeyed, key_at, nodes_at, rules_of}
 use Rattle.slt_grammar.specs.Segments.{preorder}
 use Rattle.slt_grammar.specs.declared.level.Level.{Level}
 use Rattle.slt_grammar.specs.declared.rules.Rule.{Rule}
 use Rattle.slt_grammar.proofs.KeyedLemmas.{key_at-within, nodes-are-term}
 use Rattle.slt_grammar.proofs.Spreads.{IsPlain}
-use Rattle.slt_grammar.proofs.StopLemmas.{call-below}
 use Rattle.slt_grammar.proofs.TourLemmas.{spread_nodes}
 use Rattle.slt_grammar.proofs.TourWalking.{node-key}
 use Rattle.segment_counts.specs.Weights.{count, count_before, node_weight}
 use Rattle.preorder_address.specs.Chains.{BeginsAt, EndsAt, HasLabel, LeadsTo, LeadsToNumber}
-use Rattle.preorder_address.specs.Descents.{IsInside, levels_of, steps_of, nodes_up_to}
+use Rattle.preorder_address.specs.Descents.{IsInside, levels_of, steps_of}
 use Rattle.preorder_address.specs.Sites.{laden, weight_before, weight_below, labels_before, term_weights}
 use Rattle.preorder_address.specs.declared.descent.Descent.{Descent}
 use Rattle.preorder_address.specs.declared.numbering.Numbering.TheVariants.{Nodes}
-use Rattle.preorder_address.proofs.Descending.{nodes-within, nodes-below}
 use Rattle.preorder_address.proofs.KidWeighing.{no_weights, zeros}
 use Rattle.preorder_address.proofs.Lading.{Alike, laden-alike, before-alike, below-alike}
 use Rattle.preorder_address.proofs.Listings.{fronts, before_place, kids_from, placed-in-tour}
-use Rattle.preorder_address.proofs.Locating.{nodes-few}
+use Rattle.preorder_address.specs.Told.{level_nodes}
+use Rattle.preorder_address.proofs.Locating.{chain-nodes, nodes-few}
 use Rattle.preorder_address.proofs.Naming.{symbol-of}
 use Rattle.preorder_address.proofs.Siting.{kid_args, kid-args, kids-within, call-within, before-call, below-call, before-symbol, below-symbol}
 use Rattle.preorder_address.proofs.Weighing.{weight-nodes}
@@ -41,10 +40,6 @@ laden-alone w z (Call q ∷ ls) = omega (arith, laden-alone w z ls, sum_by-cons 
 
 zeros-none : Alike no_weights []
 zeros-none j = zeros j
-
--- how many nodes the bodies of levels have
-abbrev pub level_nodes : List KeyedRule → List Level → ℕ
-level_nodes G ls = sum_by (λ l. length (nodes_at G l.rule)) ls
 
 module _ (g : Keyed) (w : Label → ℕ) (n : ℕ) where
   -- the levels lead on to the wanted node, or it was the last one: what stands before it in all is what was added up and what stands
@@ -70,26 +65,11 @@ module _ (g : Keyed) (K : IsKeyed g) (w : Label → ℕ) (zero_param : w Param �
   abbrev T : List Label
   T = preorder (rules_of g.rules) (length g.rules - 1)
 
-  chain-nodes : (r : ℕ) (ls : List Level) (f : Label) → LeadsTo g.rules r ls f → level_nodes g.rules ls ≤ nodes_up_to g.rules r
-  chain-nodes r [] f c = absurd c
-  chain-nodes r (l ∷ []) f c = omega (arith, sum_by-cons (λ (l : Level). length (nodes_at g.rules l.rule)) l [], nodes-within g.rules l.rule, ap (nodes_up_to g.rules) c.0)
-  chain-nodes r (l ∷ k ∷ ls) f c =
-      let h = c.1 in
-      let there = key_at-within g.rules l.rule h.place h.node.key (node-key (nodes_at g.rules l.rule) h.place h.node h.there) in
-      let b = subst (λ (l : Label). CallsBelow _ (l ∷ [])) h.label (call-below g K l.rule h.place h.node there.0 h.there) in
-      omega (
-        arith,
-        sum_by-cons (λ (l : Level). length (nodes_at g.rules l.rule)) l (k ∷ ls),
-        chain-nodes k.rule (k ∷ ls) f c.2,
-        nodes-below g.rules k.rule l.rule b.0,
-        ap (nodes_up_to g.rules) c.0,
-      )
-
   pub siting-start : (d : Descent) (steps : ℕ) → LeadsToNumber Nodes g.rules n d → Siting g w n d 0 no_weights steps steps
   siting-start d steps l = record {
     inside = l.inside;
     sited = by_levels (levels_of g.rules d) l.arrives.chain l.arrives.ends;
-    few = omega (arith, l.few, chain-nodes (length g.rules - 1) (levels_of g.rules d) l.arrives.label l.arrives.chain, nodes-few g.rules (length g.rules - 1));
+    few = omega (arith, l.few, chain-nodes g K (length g.rules - 1) (levels_of g.rules d) l.arrives.label l.arrives.chain, nodes-few g.rules (length g.rules - 1));
   }
     where
       by_levels : (ls : List Level) → LeadsTo g.rules (length g.rules - 1) ls l.arrives.label → EndsAt node_weight g.rules (length g.rules - 1) n ls → SitedBy g w n ls 0 no_weights

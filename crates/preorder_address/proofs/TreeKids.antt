@@ -18,6 +18,7 @@ use Rattle.segment_counts.specs.Weights.{node_weight, all_weight}
 use Rattle.segment_counts.specs.declared.counts.Measure.TheVariants as measure
 use Rattle.segment_counts.proofs.Telling.{total-told}
 use Rattle.preorder_address.specs.Chains.{IsAt, LeadsToNumber, LeadsToPlace}
+use Rattle.preorder_address.specs.Descents.{IsInside}
 use Rattle.preorder_address.specs.Numberings.{AreCountsOf}
 use Rattle.preorder_address.specs.Sites.{laden, weight_before, weight_below, terms_weight, is_symbol}
 use Rattle.preorder_address.specs.TreeNumbers.{placed, siblings_behind, end_at, after_attributes_at, attribute_places, kids_of, next_sibling_at, number_of_first}
@@ -97,6 +98,10 @@ pub no-place : (G : List KeyedRule) (o : Option Descent) (told_at : Option ℕ) 
 no-place G None None e d = tt
 no-place G None (Some place) e d = cc
 no-place G (Some l) told_at e d = cc
+
+pub leads-inside : (G : List KeyedRule) (place : ℕ) (o : Option Descent) → IfSome o (LeadsToNumber All G place) → IfSome o (IsInside G)
+leads-inside G place None l = l
+leads-inside G place (Some d) l = l.inside
 
 -- at one number stands one label
 label-once : (w : Label → ℕ) (xs ys us vs : List Label) (f k : Label) → xs ++ f ∷ ys ≡ us ++ k ∷ vs → sum_by w xs ≡ sum_by w us → 0 < w f → 0 < w k → f ≡ k

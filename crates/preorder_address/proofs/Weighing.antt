@@ -3,13 +3,10 @@ use Rattle.std.proofs.Common.{◌≡◌, ℕ, ◌^◌, ◌<◌, List, [], ◌∷
 use Rattle.std.proofs.lemmas.List.Sums.{sum_by-cons, sum_by-append}
 use Rattle.rule_arena.specs.Terms.{Node}
 use Rattle.rule_arena.specs.declared.label.Label.{Label}
-use Rattle.slt_grammar.specs.Bodies.{CallsBelow}
 use Rattle.slt_grammar.specs.Keyed.{Keyed, KeyedRule, IsKeyed, rules_of}
 use Rattle.slt_grammar.specs.Segments.{preorder, part_of, node_tour}
-use Rattle.slt_grammar.specs.Tours.{Stop, stop}
+use Rattle.slt_grammar.specs.Tours.{Stop}
 use Rattle.slt_grammar.specs.declared.rules.Rule.{Rule}
-use Rattle.slt_grammar.proofs.CallCounts.{below-more}
-use Rattle.slt_grammar.proofs.KeyedLemmas.{length-rules_of}
 use Rattle.slt_grammar.proofs.TourLemmas.{spread_nodes, preorder-nodes}
 use Rattle.segment_counts.specs.Counting.{CountTable, told, told_before}
 use Rattle.segment_counts.specs.Weights.{count, count_before}
@@ -39,10 +36,3 @@ weight-nodes w G (m ∷ ms) =
 -- the stops of a rule weigh what its value does
 pub weight-tour : (w : Label → ℕ) (g : Keyed) → IsKeyed g → (r : ℕ) → r < length g.rules → sum_by (stop_weight w g.rules) (node_tour g.rules r) ≡ sum_by w (preorder (rules_of g.rules) r)
 weight-tour w g k r h = sym (ap (sum_by w) (preorder-nodes g k r h) ∙ weight-nodes w g.rules (node_tour g.rules r))
-
--- what the stop at which a walk stands weighs
-pub weighed : (g : Keyed) (k : IsKeyed g) (C : CountTable) → AreCountsOf (rules_of g.rules) C → (r : ℕ) → r < length g.rules → (here : Stop Node) (x : Node) (part : ℕ) → here ≡ stop x part → CallsBelow r (x.label ∷ [])
-    → (by : Numbering) (n : ℕ) → ((H : List Rule) → AreCountsOf H C → CallsBelow (length H) (x.label ∷ []) → n ≡ sum_by (weigh_by by) (part_of H x.label part)) → n ≡ stop_weight (weigh_by by) g.rules here
-weighed g k C a r h here x part e c by n law =
-    law (rules_of g.rules) a (below-more r (length (rules_of g.rules)) (x.label ∷ []) (omega (arith, length-rules_of g.rules)) c)
-    ∙ sym (ap (stop_weight (weigh_by by) g.rules) e)

@@ -4,5 +4,7 @@ pub mod Descents
 pub mod Chains
 pub mod Stops
 pub mod TreeNumbers
+pub mod Told
+pub mod Staying
 pub mod Sites
 pub mod Weighing

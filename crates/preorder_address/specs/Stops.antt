@@ -21,14 +21,17 @@ use Rattle.preorder_address.specs.declared.descent.Wanted.{Wanted}
 abbrev pub level_of : RuleStop → Level
 level_of s = record { rule = s.rule; key = s.walk.key }
 
--- number n of a rule falls into this stop of its tour, where the walk stands, and the offset is left of it there
-pub record FallsAt (w : Label → ℕ) (G : List KeyedRule) (r n : ℕ) (walk : TourWalk) (here : Stop Node) (offset : ℕ) : Type 0 where
+-- number n of a rule falls into this stop of its tour, by such weights of stops, where the walk stands, and the offset is left there
+pub record FallsBy (W : Stop Node → ℕ) (G : List KeyedRule) (r n : ℕ) (walk : TourWalk) (here : Stop Node) (offset : ℕ) : Type 0 where
   pub passed : List (Stop Node)
   pub rest : List (Stop Node)
   pub split : node_tour G r ≡ passed ++ here ∷ rest
   pub stands : StandsBefore G r walk (here ∷ rest)
-  pub number : n ≡ sum_by (stop_weight w G) passed + offset
-  pub inside : offset < stop_weight w G here
+  pub number : n ≡ sum_by W passed + offset
+  pub inside : offset < W here
+
+abbrev pub FallsAt : (Label → ℕ) → List KeyedRule → ℕ → ℕ → TourWalk → Stop Node → ℕ → Type 0
+FallsAt w G r n walk here offset = FallsBy (stop_weight w G) G r n walk here offset
 
 -- what is wanted of a rule that is called, where a number falls into a part of the call with this offset
 abbrev pub wanted_below : (Label → ℕ) → List KeyedRule → Label → ℕ → ℕ → Option Wanted

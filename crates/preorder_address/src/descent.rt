@@ -11,7 +11,8 @@ ghost use Rattle.preorder_address.specs.Chains.{LeadsToNumber};
 ghost use Rattle.preorder_address.specs.Descents.{Given, IsInside, IsSmallNext, descent_to, levels_of, steps_of, told_next};
 ghost use Rattle.preorder_address.specs.Numberings.{AreCountsOf, weigh_by};
 ghost use Rattle.preorder_address.specs.Routes.{sought, stop_weight};
-ghost use Rattle.preorder_address.specs.Stops.{FallsAt, GoesThrough, level_of};
+ghost use Rattle.preorder_address.specs.Stops.{FallsBy, GoesThrough, level_of};
+ghost use Rattle.preorder_address.specs.Told.{told_weight};
 ghost use Rattle.preorder_address.specs.declared.numbering.Numbering.TheVariants as by;
 
 use crate::numbering::Numbering;
@@ -43,10 +44,10 @@ pub struct RuleStop {
 
 // The stop of a walk at a part of a node, and what is left of a number there.
 #[derive(Clone, Copy, Drop)]
-struct FoundPart {
-    walk: TourWalk,
-    label: Label,
-    offset: u64,
+pub(crate) struct FoundPart {
+    pub(crate) walk: TourWalk,
+    pub(crate) label: Label,
+    pub(crate) offset: u64,
 }
 
 /// A descent to the node with this number, and None exactly where the number isn't below the total.
@@ -136,7 +137,7 @@ impl Descent {
 }
 
 // The part of a node of a rule's body into which a number falls.
-fn find_part<L: Ledger>(
+pub(crate) fn find_part<L: Ledger>(
     grammar: &Grammar,
     counts: &Counts,
     by: Numbering,
@@ -144,14 +145,10 @@ fn find_part<L: Ledger>(
     steps: &mut Steps<L>,
 ) -> FoundPart
     requires keyed { IsKeyed grammar.now }
-    requires counts { AreCountsOf (rules_of grammar.now.rules) counts.now }
     requires rule { wanted.rule < length grammar.now.rules }
-    requires number { wanted.number < sum_by (weigh_by by) (preorder (rules_of grammar.now.rules) wanted.rule) }
-    ensures part { (kids : ℕ) × (sought (stop_weight (weigh_by by) grammar.now.rules) (node_tour grammar.now.rules wanted.rule) wanted.number
-        ≡ Some (record { at = stop (record { key = result.walk.key; label = result.label; kids = kids }) result.walk.part; offset = result.offset })) }
-    ensures falls { (kids : ℕ) × FallsAt (weigh_by by) grammar.now.rules wanted.rule wanted.number result.walk
+    requires number { wanted.number < sum_by (told_weight by counts.now) (node_tour grammar.now.rules wanted.rule) }
+    ensures falls { (kids : ℕ) × FallsBy (told_weight by counts.now) grammar.now.rules wanted.rule wanted.number result.walk
         (stop (record { key = result.walk.key; label = result.label; kids = kids }) result.walk.part) result.offset }
-    ensures weight { result.offset < sum_by (weigh_by by) (part_of (rules_of grammar.now.rules) result.label result.walk.part) }
     ensures calls { CallsBelow wanted.rule (result.label ∷ []) }
     ensures steps { steps.new ≤ steps.old + 2 * length (node_tour grammar.now.rules wanted.rule) }
 {
@@ -175,7 +172,7 @@ fn find_part<L: Ledger>(
 }
 
 // Where a descent goes on from a part of a node.
-fn next_wanted(counts: &Counts, by: Numbering, found: &FoundPart) -> Option<Wanted>
+pub(crate) fn next_wanted(counts: &Counts, by: Numbering, found: &FoundPart) -> Option<Wanted>
     requires { IsSmallNext by counts.now found.now.label found.now.walk.part found.now.offset }
     ensures { result ≡ told_next by counts.now found.now.label found.now.walk.part found.now.offset }
 {

@@ -13,6 +13,7 @@ ghost use Rattle.segment_counts.specs.Counting.{told};
 ghost use Rattle.segment_counts.specs.Weights.{all_weight};
 ghost use Rattle.segment_counts.specs.declared.counts.Measure.TheVariants.{Nodes, All};
 ghost use Rattle.preorder_address.specs.Chains.{IsAt, LeadsToPlace};
+ghost use Rattle.preorder_address.specs.Descents.{IsInside};
 ghost use Rattle.preorder_address.specs.Numberings.{AreCountsOf};
 ghost use Rattle.preorder_address.specs.Sites.{is_symbol};
 ghost use Rattle.preorder_address.specs.TreeNumbers.{after_attributes_at, attributes_in, end_at, next_sibling_at};
@@ -38,6 +39,8 @@ pub fn end_of_kids<L: Ledger>(
     requires counts { AreCountsOf (rules_of grammar.now.rules) counts.now }
     ensures end { (names : List (Kind × List ℕ)) (t : Tree) → Codes names (more t none) (value (rules_of grammar.now.rules))
         → LeadsToPlace grammar.now.rules result (end_at t number) }
+    ensures some { IsSome result ↔ number < told Nodes counts.now.rows (counts.now.rules - 1) 0 }
+    ensures inside { IfSome result (IsInside grammar.now.rules) }
     ensures steps { steps.new ≤ steps.old + 10 * whole (rules_of grammar.now.rules) }
 {
     // The call tells what is true of every grammar.
@@ -109,6 +112,7 @@ pub fn after_attributes<L: Ledger>(
     requires counts { AreCountsOf (rules_of grammar.now.rules) counts.now }
     ensures after { (values : List (List ℕ)) (t : Tree) → StandsFor (rules_of grammar.now.rules) names.now values t
         → LeadsToPlace grammar.now.rules result (after_attributes_at t number) }
+    ensures inside { IfSome result (IsInside grammar.now.rules) }
 {
     // The call tells what is true of every grammar.
     let _limit = grammar.limit();

@@ -11,6 +11,7 @@ mod laws;
 mod nodes;
 mod numbering;
 mod site;
+mod way;
 mod weigher;
 
 pub use descent::{Descent, RuleStop, locate, locate_place};
@@ -18,3 +19,4 @@ pub use kids::{after_attributes, end_of_kids, next_sibling};
 pub use laws::descents_arrive;
 pub use nodes::{extent, kind_of, text_rank};
 pub use numbering::Numbering;
+pub use way::CountedDescent;

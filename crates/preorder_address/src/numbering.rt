@@ -3,7 +3,8 @@ ghost use Rattle.std.specs.Prelude.{◌≡◌, List, [], ◌∷◌, length, sum_
 ghost use Rattle.slt_grammar.specs.Bodies.{CallsBelow};
 ghost use Rattle.slt_grammar.specs.Segments.{part_of};
 ghost use Rattle.slt_grammar.specs.declared.rules.Rule.{Rule};
-ghost use Rattle.preorder_address.specs.Numberings.{AreCountsOf, measure_of, weigh_by};
+ghost use Rattle.preorder_address.specs.Numberings.{measure_of};
+ghost use Rattle.preorder_address.specs.Told.{told_part};
 
 use segment_counts::{Counts, Measure};
 use slt_grammar::Label;
@@ -29,7 +30,7 @@ impl Numbering {
 
     // How many numbers fall into a part of a node.
     pub(crate) fn weight(self, counts: &Counts, label: Label, part: usize) -> u64
-        ensures { (G : List Rule) → AreCountsOf G counts.now → CallsBelow (length G) (label ∷ []) → result ≡ sum_by (weigh_by self) (part_of G label part) }
+        ensures { result ≡ told_part self counts.now label part }
     {
         match (label, part) {
             (Label::Call(rule), _) => counts.get(self.measure(), rule, part),

@@ -1,4 +1,5 @@
 pub mod CellLemmas
+pub mod ListLemmas
 pub mod PreorderLemmas
 pub mod RoomLemmas
 pub mod ChangeLemmas
@@ -18,6 +19,8 @@ pub mod AddLemmas
 pub mod Added
 pub mod FreeLemmas
 pub mod CutLemmas
+pub mod FitLemmas
+pub mod NodeCounts
 pub mod Rises
 pub mod Climbs
 pub mod Puts

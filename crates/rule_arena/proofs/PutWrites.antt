@@ -1,5 +1,5 @@
 -- The writes that put other children in a node's place.
-use Rattle.std.proofs.Common.{◌≡◌, ◌≢◌, ◌⊎◌, inl, inr, ℕ, zero, suc, ◌+◌, ◌-◌, ◌<◌, ◌≤◌, List, [], ◌∷◌, ◌++◌, length, take, drop, Option, Some, None, slice_get, refl, sym, ap, ◌∙◌, subst, arith}
+use Rattle.std.proofs.Common.{◌≡◌, ◌≢◌, ◌⊎◌, inl, inr, ℕ, suc, ◌+◌, ◌-◌, ◌<◌, List, [], ◌++◌, length, take, drop, Option, Some, None, slice_get, refl, sym, ap, ◌∙◌, subst, arith}
 use Rattle.slab.specs.Slab.{Slab, get}
 use Rattle.rule_arena.specs.Changing.{changed, adopted, with_kids}
 use Rattle.rule_arena.specs.declared.key.Key.{Key}
@@ -8,37 +8,12 @@ use Rattle.rule_arena.specs.Terms.{Apart, AreDistinctKeys}
 use Rattle.rule_arena.specs.Cutting.{Lacks}
 use Rattle.rule_arena.specs.Slots.{Forest, tops, flatten, Lies}
 use Rattle.rule_arena.specs.Slots.Forest.{End}
+use Rattle.rule_arena.proofs.ListLemmas.{get-append, get-take, get-drop, length-take-within}
 use Rattle.rule_arena.proofs.ChangeLemmas.{changed-same, changed-other}
 use Rattle.rule_arena.proofs.AddLemmas.{adopted-other, adopted-kid}
 use Rattle.rule_arena.proofs.CellLemmas.{same_cell, same_place}
 use Rattle.rule_arena.proofs.Puts.{Puts}
 use Rattle.rule_arena.proofs.Families.{Family, Above, child_slot}
-
--- which list an item is from
-get-append : (xs ys : List Key) (j : ℕ) (k : Key) → slice_get (xs ++ ys) j ≡ Some k → ((j < length xs) × (slice_get xs j ≡ Some k)) ⊎ ((length xs ≤ j) × (slice_get ys (j - length xs) ≡ Some k))
-get-append [] ys j k e = let z : j - 0 ≡ j = omega arith in inr (omega arith, rw z e)
-get-append (x ∷ xs) ys zero k e = inl (omega arith, e)
-get-append (x ∷ xs) ys (suc j) k e = elim (get-append xs ys j k e) [
-  | inl h ↦ inl (omega (arith, h.0), h.1)
-  | inr h ↦ inr (omega (arith, h.0), let z : suc j - suc (length xs) ≡ j - length xs = omega arith in rw z h.1)
-]
-
-get-take : (n : ℕ) (xs : List Key) (j : ℕ) (k : Key) → slice_get (take n xs) j ≡ Some k → (j < n) × (slice_get xs j ≡ Some k)
-get-take zero xs j k e = absurd (cc)
-get-take (suc n) [] j k e = absurd (cc)
-get-take (suc n) (x ∷ xs) zero k e = (omega arith, e)
-get-take (suc n) (x ∷ xs) (suc j) k e = let h = get-take n xs j k e in (omega (arith, h.0), h.1)
-
-get-drop : (n : ℕ) (xs : List Key) (j : ℕ) (k : Key) → slice_get (drop n xs) j ≡ Some k → slice_get xs (n + j) ≡ Some k
-get-drop zero [] j k e = absurd (cc)
-get-drop zero (x ∷ xs) j k e = let z : 0 + j ≡ j = omega arith in rw z e
-get-drop (suc n) [] j k e = absurd (cc)
-get-drop (suc n) (x ∷ xs) j k e = let z : suc n + j ≡ suc (n + j) = omega arith in rw z (get-drop n xs j k e)
-
-length-take-within : (n : ℕ) (xs : List Key) (k : Key) → slice_get xs n ≡ Some k → length (take n xs) ≡ n
-length-take-within zero xs k e = refl
-length-take-within (suc n) [] k e = absurd (cc)
-length-take-within (suc n) (x ∷ xs) k e = ap suc (length-take-within n xs k e)
 
 -- what stands in a node's place afterwards, and what stays below it: one of the two is nothing
 pub record Share (H : ℕ → Option Cell) (x up : Key) : Type 0 where

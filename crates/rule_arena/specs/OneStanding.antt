@@ -1,5 +1,5 @@
 -- Terms lie in slots in one way alone: what the toolchain asks of the ghost field by which an arena is seen.
-use Rattle.std.specs.Prelude.{◌≡◌, ℕ, zero, suc, List, [], ◌∷◌, length, Option, Some, None, refl}
+use Rattle.std.specs.Prelude.{◌≡◌, ℕ, zero, suc, List, Option, Some, None, refl}
 use Rattle.std.proofs.Common.{sym, ◌∙◌, subst, ap}
 use Rattle.std.specs.Coded.{×_prop, Unit-prop, Π_prop, Coded, Coded-set, code_by, coded_ℕ, coded_list, coded_option, coded×}
 use Rattle.slab.specs.Slab.{Slab, get}

@@ -1,5 +1,6 @@
 -- Terms whose nodes carry their keys, in preorder.
-use Rattle.std.specs.Prelude.{◌≡◌, ◌≢◌, ◌<◌, ℕ, zero, suc, List, [], ◌∷◌, ◌++◌, map, Option, Some, None, IsSome, slice_get, get_or}
+use Rattle.std.specs.Prelude.{◌≡◌, ◌≢◌, ◌<◌, ℕ, zero, suc, List, [], ◌∷◌, ◌++◌, map, length, Option, Some, None, IsSome, slice_get, get_or}
+use Rattle.std.specs.List.{sum_by}
 use Rattle.rule_arena.specs.Preorder.{AreTerms, roots, parents}
 use Rattle.rule_arena.specs.declared.label.Label.{Label}
 use Rattle.rule_arena.specs.declared.key.Key.{Key}
@@ -78,6 +79,10 @@ kids_in (n ∷ ns) (suc p) = kids_in ns p
 abbrev pub or_nothing : Option (List Node) → List Node
 or_nothing None = []
 or_nothing (Some ns) = ns
+
+-- how many nodes all terms have together
+abbrev pub node_count : Terms → ℕ
+node_count a = sum_by (λ term. length (or_nothing term)) a.terms
 
 -- the terms of these roots, one after another
 abbrev pub joined : Terms → List Key → List Node

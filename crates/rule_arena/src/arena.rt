@@ -2,7 +2,7 @@
 ghost use Rattle.std.specs.Prelude.{◌≡◌, ◌≢◌, ◌+◌, ◌^◌, ◌<◌, ◌≤◌, ℕ, None, Some, length, OnOk, IsOk, List, slice_get, [], ◌∷◌};
 ghost use Rattle.rule_arena.specs.declared.key.Key.{Key};
 ghost use Rattle.rule_arena.specs.OneStanding.{Standing-prop};
-ghost use Rattle.rule_arena.specs.Slots.{Standing, room};
+ghost use Rattle.rule_arena.specs.Slots.{KeysFit, Standing, room};
 
 use crate::cell::Cell;
 use crate::item::Item;
@@ -29,6 +29,7 @@ pub struct Arena {
     alloc: Global,
     slots: Slab<Cell>,
     ghost standing: { Standing slots } by { Standing-prop slots },
+    ghost fitting: { KeysFit slots },
 }
 
 impl Model for Arena {
@@ -43,7 +44,7 @@ impl Model for Arena {
 
 impl Arena {
     ghost use Rattle.rule_arena.specs.Preorder.{with_subterm, subterm};
-    ghost use Rattle.rule_arena.specs.Terms.{Node, Apart, AreDistinctKeys, AreRoots, At, IsRoot, IsSound, kids_of, joined, key_in, kids_in, labelled, parent_in, term_at};
+    ghost use Rattle.rule_arena.specs.Terms.{Node, Apart, AreDistinctKeys, AreRoots, At, IsRoot, IsSound, kids_of, joined, key_in, kids_in, labelled, node_count, parent_in, term_at};
     ghost use Rattle.rule_arena.specs.Taking.{IsInner, FitsItsParent, without_term, without_node};
 
     /// An arena with no term. It takes no memory.
@@ -87,10 +88,13 @@ impl Arena {
         }
     }
 
-    /// Above the number of every node, and of every node that the adds make for which there is room.
+    /// Above the number of every node, and of every node that the adds make for which there is room. All terms together have at most
+    /// so many nodes, and at most 2^32.
     pub fn limit(&self) -> usize
         ensures value { result ≡ self.now.limit }
         ensures sound { IsSound self.now }
+        ensures within { node_count self.now ≤ result }
+        ensures few { node_count self.now ≤ 2 ^ 32 }
     {
         self.slots.capacity()
     }

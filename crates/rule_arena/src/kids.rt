@@ -49,9 +49,9 @@ impl Kids {
         ensures { result ≡ take at self.now ++ drop (suc at) self.now }
     {
         let keys = self.keys.as_slice();
-        let mut kids = SmallVec::from_slice(alloc, &keys[..at]).unwrap();
-        kids.extend_from_slice(&keys[at + 1..]).unwrap();
-        Kids { keys: kids }
+        let mut rest = SmallVec::from_slice(alloc, &keys[..at]).unwrap();
+        rest.extend_from_slice(&keys[at + 1..]).unwrap();
+        Kids { keys: rest }
     }
 
     // The same list with others in the place of one, at most eight in all.

@@ -13,6 +13,7 @@ pub mod Laws
 pub mod Keyed
 pub mod BodyWalks
 pub mod TourWalks
+pub mod Ways
 pub mod Holding
 pub mod Listing
 pub mod Building

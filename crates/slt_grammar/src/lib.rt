@@ -17,6 +17,7 @@ mod laws;
 mod level;
 mod rules;
 mod tour_walk;
+mod way;
 
 pub use body_walk::BodyWalk;
 pub use checking::{GrammarError, check};
@@ -29,3 +30,4 @@ pub use level::Level;
 pub use rule_arena::{Item, Key, Kids, Label};
 pub use rules::{Body, Rule, RuleList};
 pub use tour_walk::TourWalk;
+pub use way::Way;

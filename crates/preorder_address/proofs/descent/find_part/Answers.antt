@@ -1,65 +1,50 @@
 use Rattle.std.proofs.Common.{arith, length}
 use Rattle.rule_arena.specs.Terms.{Node}
 use Rattle.slt_grammar.proofs.TourWalking.{node-here}
-use Rattle.preorder_address.specs.Routes.{stop_weight}
-use Rattle.preorder_address.specs.Numberings.{weigh_by}
+use Rattle.preorder_address.specs.Told.{told_weight}
 use Rattle.preorder_address.proofs.Seeking.{seeks-start}
-use Rattle.preorder_address.proofs.Weighing.{weight-tour}
-use Rattle.preorder_address.proofs.Finding.{there, found, found-inside, falls-here, found-calls, never-last, seeks-more}
+use Rattle.preorder_address.proofs.Finding.{there, falls-here, found-calls, never-last, seeks-more}
 use Rattle.preorder_address.proofs.descent.find_part.Goals as goal
 
 pub loop-number-init : goal.loop-number-init
 loop-number-init g c =
     let a = c.args in
-    seeks-start a.grammar.now.rules (stop_weight (weigh_by a.by) a.grammar.now.rules) a.wanted.rule a.wanted.number c.new-walk.result a.steps.now c.new-walk.ensures.stands
-    (omega (arith, weight-tour (weigh_by a.by) a.grammar.now c.requires.keyed a.wanted.rule c.requires.rule, c.requires.number))
+    seeks-start a.grammar.now.rules (told_weight a.by a.counts.now) a.wanted.rule a.wanted.number c.new-walk.result a.steps.now c.new-walk.ensures.stands c.requires.number
 
 pub item-item-requires : goal.item-item-requires
 item-item-requires g c =
     let s = c.loop-number.invariant in
     (c.args.wanted.rule, s.stands.place, node-here c.args.grammar.now.rules c.args.wanted.rule c.loop-number.walk s.ms s.stands)
 
-pub returns-then-number-weight-clause-part : goal.returns-then-number-weight-clause-part
-returns-then-number-weight-clause-part g c =
-    let a = c.args in
-    let x : Node = record { key = c.loop-number.walk.key; label = c.item-item.result.label; kids = length c.item-item.result.kids } in
-    (length c.item-item.result.kids, found a.grammar.now c.requires.keyed a.counts.now c.requires.counts a.wanted.rule c.requires.rule a.by a.wanted.number c.loop-number.walk c.loop-number.number a.steps.now c.loop-number.steps c.loop-number.invariant x c.item-item.ensures.node c.weight-weight.result c.weight-weight.ensures c.if-number-weight.true)
-
 pub returns-then-number-weight-clause-falls : goal.returns-then-number-weight-clause-falls
 returns-then-number-weight-clause-falls g c =
     let a = c.args in
     let x : Node = record { key = c.loop-number.walk.key; label = c.item-item.result.label; kids = length c.item-item.result.kids } in
-    (length c.item-item.result.kids, falls-here a.grammar.now c.requires.keyed a.counts.now c.requires.counts a.wanted.rule c.requires.rule a.by a.wanted.number c.loop-number.walk c.loop-number.number a.steps.now c.loop-number.steps c.loop-number.invariant x c.item-item.ensures.node c.weight-weight.result c.weight-weight.ensures c.if-number-weight.true)
-
-pub returns-then-number-weight-clause-weight : goal.returns-then-number-weight-clause-weight
-returns-then-number-weight-clause-weight g c =
-    let a = c.args in
-    let x : Node = record { key = c.loop-number.walk.key; label = c.item-item.result.label; kids = length c.item-item.result.kids } in
-    found-inside a.grammar.now c.requires.keyed a.counts.now c.requires.counts a.wanted.rule c.requires.rule a.by a.wanted.number c.loop-number.walk c.loop-number.number a.steps.now c.loop-number.steps c.loop-number.invariant x c.item-item.ensures.node c.weight-weight.result c.weight-weight.ensures c.if-number-weight.true
+    (length c.item-item.result.kids, falls-here a.grammar.now c.requires.keyed (told_weight a.by a.counts.now) a.wanted.rule c.requires.rule a.wanted.number c.loop-number.walk c.loop-number.number a.steps.now c.loop-number.steps c.loop-number.invariant x c.item-item.ensures.node c.weight-weight.result c.weight-weight.ensures c.if-number-weight.true)
 
 pub returns-then-number-weight-clause-calls : goal.returns-then-number-weight-clause-calls
 returns-then-number-weight-clause-calls g c =
     let a = c.args in
     let x : Node = record { key = c.loop-number.walk.key; label = c.item-item.result.label; kids = length c.item-item.result.kids } in
-    found-calls a.grammar.now c.requires.keyed a.counts.now c.requires.counts a.wanted.rule c.requires.rule a.by a.wanted.number c.loop-number.walk c.loop-number.number a.steps.now c.loop-number.steps c.loop-number.invariant x c.item-item.ensures.node c.weight-weight.result c.weight-weight.ensures
+    found-calls a.grammar.now c.requires.keyed (told_weight a.by a.counts.now) a.wanted.rule c.requires.rule a.wanted.number c.loop-number.walk c.loop-number.number a.steps.now c.loop-number.steps c.loop-number.invariant x c.item-item.ensures.node c.weight-weight.result c.weight-weight.ensures
 
 pub unreachable-requires : goal.unreachable-requires
 unreachable-requires g c =
     let a = c.args in
     let x : Node = record { key = c.loop-number.walk.key; label = c.item-item.result.label; kids = length c.item-item.result.kids } in
-    let t = there a.grammar.now c.requires.keyed a.counts.now c.requires.counts a.wanted.rule c.requires.rule a.by a.wanted.number c.loop-number.walk c.loop-number.number a.steps.now c.loop-number.steps c.loop-number.invariant x c.item-item.ensures.node c.weight-weight.result c.weight-weight.ensures in
-    never-last a.grammar.now c.requires.keyed a.counts.now c.requires.counts a.wanted.rule c.requires.rule a.by a.wanted.number c.loop-number.walk c.loop-number.number a.steps.now c.loop-number.steps c.loop-number.invariant x c.item-item.ensures.node c.weight-weight.result c.weight-weight.ensures (omega (arith, c.if-number-weight.false)) (c.if-not-advance.ensures.next a.wanted.rule t.here t.others t.stands)
+    let t = there a.grammar.now c.requires.keyed (told_weight a.by a.counts.now) a.wanted.rule c.requires.rule a.wanted.number c.loop-number.walk c.loop-number.number a.steps.now c.loop-number.steps c.loop-number.invariant x c.item-item.ensures.node c.weight-weight.result c.weight-weight.ensures in
+    never-last a.grammar.now c.requires.keyed (told_weight a.by a.counts.now) a.wanted.rule c.requires.rule a.wanted.number c.loop-number.walk c.loop-number.number a.steps.now c.loop-number.steps c.loop-number.invariant x c.item-item.ensures.node c.weight-weight.result c.weight-weight.ensures (omega (arith, c.if-number-weight.false)) (c.if-not-advance.ensures.next a.wanted.rule t.here t.others t.stands)
 
 pub loop-number-preserved-else-not-advance : goal.loop-number-preserved-else-not-advance
 loop-number-preserved-else-not-advance g c =
     let a = c.args in
     let x : Node = record { key = c.loop-number.walk.key; label = c.item-item.result.label; kids = length c.item-item.result.kids } in
-    let t = there a.grammar.now c.requires.keyed a.counts.now c.requires.counts a.wanted.rule c.requires.rule a.by a.wanted.number c.loop-number.walk c.loop-number.number a.steps.now c.loop-number.steps c.loop-number.invariant x c.item-item.ensures.node c.weight-weight.result c.weight-weight.ensures in
-    seeks-more a.grammar.now c.requires.keyed a.counts.now c.requires.counts a.wanted.rule c.requires.rule a.by a.wanted.number c.loop-number.walk c.loop-number.number a.steps.now c.loop-number.steps c.loop-number.invariant x c.item-item.ensures.node c.weight-weight.result c.weight-weight.ensures (omega (arith, c.if-number-weight.false)) c.advance.new.self c.advance.new.steps (c.if-not-advance.ensures.next a.wanted.rule t.here t.others t.stands) (omega (arith, c.item-item.ensures.step, c.advance.ensures.step))
+    let t = there a.grammar.now c.requires.keyed (told_weight a.by a.counts.now) a.wanted.rule c.requires.rule a.wanted.number c.loop-number.walk c.loop-number.number a.steps.now c.loop-number.steps c.loop-number.invariant x c.item-item.ensures.node c.weight-weight.result c.weight-weight.ensures in
+    seeks-more a.grammar.now c.requires.keyed (told_weight a.by a.counts.now) a.wanted.rule c.requires.rule a.wanted.number c.loop-number.walk c.loop-number.number a.steps.now c.loop-number.steps c.loop-number.invariant x c.item-item.ensures.node c.weight-weight.result c.weight-weight.ensures (omega (arith, c.if-number-weight.false)) c.advance.new.self c.advance.new.steps (c.if-not-advance.ensures.next a.wanted.rule t.here t.others t.stands) (omega (arith, c.item-item.ensures.step, c.advance.ensures.step))
 
 pub loop-number-preserved : goal.loop-number-preserved
 loop-number-preserved g c =
     let a = c.args in
     let x : Node = record { key = c.loop-number.walk.key; label = c.item-item.result.label; kids = length c.item-item.result.kids } in
-    let t = there a.grammar.now c.requires.keyed a.counts.now c.requires.counts a.wanted.rule c.requires.rule a.by a.wanted.number c.loop-number.walk c.loop-number.number a.steps.now c.loop-number.steps c.loop-number.invariant x c.item-item.ensures.node c.weight-weight.result c.weight-weight.ensures in
-    seeks-more a.grammar.now c.requires.keyed a.counts.now c.requires.counts a.wanted.rule c.requires.rule a.by a.wanted.number c.loop-number.walk c.loop-number.number a.steps.now c.loop-number.steps c.loop-number.invariant x c.item-item.ensures.node c.weight-weight.result c.weight-weight.ensures (omega (arith, c.if-number-weight.false)) c.advance.new.self c.advance.new.steps (c.if-not-advance.ensures.next a.wanted.rule t.here t.others t.stands) (omega (arith, c.item-item.ensures.step, c.advance.ensures.step))
+    let t = there a.grammar.now c.requires.keyed (told_weight a.by a.counts.now) a.wanted.rule c.requires.rule a.wanted.number c.loop-number.walk c.loop-number.number a.steps.now c.loop-number.steps c.loop-number.invariant x c.item-item.ensures.node c.weight-weight.result c.weight-weight.ensures in
+    seeks-more a.grammar.now c.requires.keyed (told_weight a.by a.counts.now) a.wanted.rule c.requires.rule a.wanted.number c.loop-number.walk c.loop-number.number a.steps.now c.loop-number.steps c.loop-number.invariant x c.item-item.ensures.node c.weight-weight.result c.weight-weight.ensures (omega (arith, c.if-number-weight.false)) c.advance.new.self c.advance.new.steps (c.if-not-advance.ensures.next a.wanted.rule t.here t.others t.stands) (omega (arith, c.item-item.ensures.step, c.advance.ensures.step))

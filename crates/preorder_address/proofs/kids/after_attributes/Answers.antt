@@ -1,16 +1,14 @@
-use Rattle.std.proofs.Common.{◌/◌, refl, arith}
+use Rattle.std.proofs.Common.{◌/◌, refl, arith, ◌+◌, ◌*◌}
 use Rattle.preorder_address.proofs.Naming.{total-count}
-use Rattle.preorder_address.proofs.TreeKids.{all-fits, nodes-fit, site-fits, no-after, after-is, below-is, leads-place, no-place}
+use Rattle.preorder_address.proofs.TreeKids.{all-fits, nodes-fit, site-fits, no-after, after-is, below-is, leads-inside, leads-place, no-place}
 use Rattle.preorder_address.proofs.TreeSites.{tree-node}
 use Rattle.preorder_address.proofs.kids.after_attributes.Goals as goal
 
-pub returns-in_err-site : goal.returns-in_err-site
-returns-in_err-site g c = record {
-  after = λ values t stands.
-      let a = c.args in
-      let n = total-count a.names.now a.grammar.now.rules t stands.code a.counts.now c.requires.counts c.limit-limit.ensures.keyed.grammar in
-      no-place a.grammar.now.rules c.from_residual.result _ c.from_residual.ensures (no-after a.names.now a.grammar.now.rules t stands.code a.number (grind (arith, n, c.in_err-site.ensures.some)));
-}
+pub returns-in_err-site-clause-after : goal.returns-in_err-site-clause-after
+returns-in_err-site-clause-after g c = λ values t stands.
+    let a = c.args in
+    let n = total-count a.names.now a.grammar.now.rules t stands.code a.counts.now c.requires.counts c.limit-limit.ensures.keyed.grammar in
+    no-place a.grammar.now.rules c.from_residual.result _ c.from_residual.ensures (no-after a.names.now a.grammar.now.rules t stands.code a.number (grind (arith, n, c.in_err-site.ensures.some)))
 
 pub overflow_add-number : goal.overflow_add-number
 overflow_add-number g c =
@@ -39,20 +37,23 @@ overflow_add-site-2 g c =
     let m = c.leading_attributes-attributes.ensures.few in
     omega (arith, f, l, m)
 
-pub returns : goal.returns
-returns g c = record {
-  after = λ values t stands.
-      let a = c.args in
-      let G = c.limit-limit.ensures.keyed.grammar in
-      let s = c.in_ok-site.site in
-      let h = c.in_ok-site.ensures.some.0 refl in
-      let f = site-fits a.grammar.now.rules a.counts.now c.requires.counts G a.number s.before s.below h c.in_ok-site.ensures.before c.in_ok-site.ensures.below in
-      let l = all-fits a.grammar.now.rules a.counts.now c.requires.counts G in
-      let m = c.leading_attributes-attributes.ensures.few in
-      let n = total-count a.names.now a.grammar.now.rules t stands.code a.counts.now c.requires.counts G in
-      let x = tree-node a.names.now a.grammar.now.rules t stands.code a.number (omega (arith, n, h)) in
-      let e = after-is a.names.now a.grammar.now.rules t stands.code a.number x.0 x.1 s.before s.below c.in_ok-site.ensures.before c.in_ok-site.ensures.below stands.document.lawful (s.below / 2) c.leading_attributes-attributes.result refl
-      (c.leading_attributes-attributes.ensures.attributes t stands.code) in
-      let k = below-is a.names.now a.grammar.now.rules t stands.code a.number x.0 x.1 s.before s.below c.in_ok-site.ensures.before c.in_ok-site.ensures.below in
-      leads-place a.grammar.now.rules c.locate_place.result _ _ e (c.locate_place.ensures.some.1 (omega (arith, f, m, k))) (c.locate_place.ensures.leads a.grammar.now c.limit-limit.ensures.keyed c.requires.counts);
-}
+pub returns-clause-after : goal.returns-clause-after
+returns-clause-after g c = λ values t stands.
+    let a = c.args in
+    let G = c.limit-limit.ensures.keyed.grammar in
+    let s = c.in_ok-site.site in
+    let h = c.in_ok-site.ensures.some.0 refl in
+    let f = site-fits a.grammar.now.rules a.counts.now c.requires.counts G a.number s.before s.below h c.in_ok-site.ensures.before c.in_ok-site.ensures.below in
+    let l = all-fits a.grammar.now.rules a.counts.now c.requires.counts G in
+    let m = c.leading_attributes-attributes.ensures.few in
+    let n = total-count a.names.now a.grammar.now.rules t stands.code a.counts.now c.requires.counts G in
+    let x = tree-node a.names.now a.grammar.now.rules t stands.code a.number (omega (arith, n, h)) in
+    let e = after-is a.names.now a.grammar.now.rules t stands.code a.number x.0 x.1 s.before s.below c.in_ok-site.ensures.before c.in_ok-site.ensures.below stands.document.lawful (s.below / 2) c.leading_attributes-attributes.result refl
+    (c.leading_attributes-attributes.ensures.attributes t stands.code) in
+    let k = below-is a.names.now a.grammar.now.rules t stands.code a.number x.0 x.1 s.before s.below c.in_ok-site.ensures.before c.in_ok-site.ensures.below in
+    leads-place a.grammar.now.rules c.locate_place.result _ _ e (c.locate_place.ensures.some.1 (omega (arith, f, m, k))) (c.locate_place.ensures.leads a.grammar.now c.limit-limit.ensures.keyed c.requires.counts)
+
+pub returns-clause-inside : goal.returns-clause-inside
+returns-clause-inside g c =
+    let a = c.args in
+    leads-inside a.grammar.now.rules (c.in_ok-site.site.before + 1 + 2 * c.leading_attributes-attributes.result) c.locate_place.result (c.locate_place.ensures.leads a.grammar.now c.limit-limit.ensures.keyed c.requires.counts)

@@ -1,6 +1,8 @@
-use Rattle.std.proofs.Common.{◌∙◌, sym}
+use Rattle.std.proofs.Common.{◌∙◌, None, sym}
+use Rattle.rule_arena.specs.Changing.{hung}
 use Rattle.rule_arena.proofs.TakenOut as taken
 use Rattle.rule_arena.proofs.Detached.{kids_there, at_still, stands, moved, freed, others, same_room, same_limit}
+use Rattle.rule_arena.proofs.FitLemmas.{fit-changed, fit-kids}
 use Rattle.rule_arena.proofs.arena.Arena.detach.Goals as goal
 
 pub cell_of-requires : goal.cell_of-requires
@@ -38,7 +40,11 @@ invariant_of-self-inside c = (
   stands c.self.inside.slots c.self.inside.standing c.args.self.now c.self.view_is c.args.at c.requires c.cell_of.result.now c.cell_of.ensures c.unwrap-up.result (sym c.parent.ensures.value ∙ c.unwrap-up.ensures)
       c.cell_of-above.result.now c.cell_of-above.ensures c.kids.result.now c.kids.ensures c.without-kids.result c.without-kids.ensures
       c.set_kids.new.slots c.set_kids.ensures c.set_parent.new.slots c.set_parent.ensures,
-  tt,
+  (
+    fit-changed c.set_kids.new.slots c.set_parent.new.slots c.args.at.number (hung None) c.set_parent.ensures
+        (fit-kids c.self.inside.slots c.set_kids.new.slots c.unwrap-up.result.0 c.without-kids.result c.set_kids.ensures c.self.inside.fitting),
+    tt,
+  ),
 )
 
 pub returns-clause-moved : goal.returns-clause-moved

@@ -1,6 +1,8 @@
 use Rattle.std.proofs.Common.{◌∙◌, sym}
+use Rattle.rule_arena.specs.Changing.{bare}
 use Rattle.rule_arena.proofs.TakenOut as taken
 use Rattle.rule_arena.proofs.Dissolved.{is_inner, are_few, kids_there, at_still, stands, moved, freed, others, same_room, same_limit}
+use Rattle.rule_arena.proofs.FitLemmas.{fit-changed, fit-kids}
 use Rattle.rule_arena.proofs.arena.Arena.dissolve.Goals as goal
 
 pub cell_of-cell-requires : goal.cell_of-cell-requires
@@ -45,7 +47,11 @@ invariant_of-self-inside c = (
   stands c.self.inside.slots c.self.inside.standing c.args.self.now c.self.view_is c.args.at (is_inner c.args.self.now c.args.at c.requires) c.cell_of-cell.result.now c.cell_of-cell.ensures c.unwrap-up.result (sym c.parent.ensures.value ∙ c.unwrap-up.ensures)
       c.cell_of-above.result.now c.cell_of-above.ensures c.kids.result.now c.kids.ensures c.kids-2.result.now c.kids-2.ensures c.with_others-kids.result c.with_others-kids.ensures
       c.set_kids.new.slots c.set_kids.ensures c.strip.new.slots c.strip.ensures,
-  tt,
+  (
+    fit-changed c.set_kids.new.slots c.strip.new.slots c.args.at.number bare c.strip.ensures
+        (fit-kids c.self.inside.slots c.set_kids.new.slots c.unwrap-up.result.0 c.with_others-kids.result c.set_kids.ensures c.self.inside.fitting),
+    tt,
+  ),
 )
 
 pub returns-clause-moved : goal.returns-clause-moved

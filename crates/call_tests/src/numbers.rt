@@ -1,0 +1,175 @@
+// What is told of the nodes of small documents by their numbers, over grammars of two rules.
+ghost use Rattle.std.specs.Prelude.{◌≡◌, ◌<◌, IfSome};
+ghost use Rattle.segment_counts.specs.Counting.{AreCounts};
+ghost use Rattle.preorder_address.specs.Descents.{IsInside};
+ghost use Rattle.preorder_address.specs.Numberings.{AreCountsOf};
+ghost use Rattle.slt_grammar.specs.Keyed.{rules_of};
+
+use super::addresses::{Place, places_of};
+use super::counts::small_names;
+use super::grammar::{Row, START, TWICE, rules_of};
+use plain_tree::{Kind, Names};
+use preorder_address::{
+    Descent, after_attributes, end_of_kids, extent, kind_of, next_sibling, text_rank,
+};
+use read_steps::Steps;
+use segment_counts::Counts;
+use slt_grammar::Label::{Bottom, Call, Param, Symbol};
+use slt_grammar::{Grammar, check};
+use std::alloc::{AllocError, Global};
+use std::marker::Brand;
+use std::sync::ledger::{Blank, Ledger};
+use std::test::Fail;
+
+// <a x=".." y=".."><b/>..</a>, where rule 0 is x(bottom, y(bottom, y1)).
+static ATTRIBUTES: [Row; 2] = [
+    (1, &[Symbol(4), Bottom, Symbol(5), Bottom, Param]),
+    (
+        0,
+        &[
+            Symbol(0),
+            Symbol(1),
+            Call(0),
+            Symbol(2),
+            Bottom,
+            Symbol(3),
+            Bottom,
+            Bottom,
+            Bottom,
+            Bottom,
+        ],
+    ),
+];
+
+// A node's kind, how many nodes are below it, how many texts belong to those before it, and its next sibling.
+type Told = (Kind, u64, u64, Option<u64>);
+
+static ATTRIBUTES_TOLD: [Told; 6] = [
+    (Kind::Document, 5, 0, None),
+    (Kind::Element, 4, 0, None),
+    (Kind::Attribute, 0, 0, Some(3)),
+    (Kind::Attribute, 0, 1, Some(4)),
+    (Kind::Element, 0, 2, Some(5)),
+    (Kind::Text, 0, 2, None),
+];
+
+static ELEMENTS_TOLD: [Told; 8] = [
+    (Kind::Document, 7, 0, None),
+    (Kind::Element, 6, 0, None),
+    (Kind::Element, 0, 0, Some(3)),
+    (Kind::Element, 0, 0, Some(4)),
+    (Kind::Element, 0, 0, Some(5)),
+    (Kind::Element, 0, 0, Some(6)),
+    (Kind::Element, 0, 0, Some(7)),
+    (Kind::Element, 0, 0, None),
+];
+
+// The names of the grammars above: those of small grammars, and two attributes.
+fn names(alloc: Global) -> Result<Names, AllocError> {
+    let mut names = small_names(alloc)?;
+    names.intern(alloc, Kind::Attribute, b"x")?;
+    names.intern(alloc, Kind::Attribute, b"y")?;
+    Ok(names)
+}
+
+// What each call tells of a number, read with a counter of its own.
+fn tell<L: Ledger>(
+    grammar: &Grammar,
+    counts: &Counts,
+    names: &Names,
+    number: u64,
+    blank: Blank,
+) -> Option<Told>
+    requires counts { AreCounts names.now (rules_of grammar.now.rules) counts.now }
+    requires name { blank.name ≡ L.name }
+    requires parts { blank.parts ≡ L.parts }
+    requires some { 0 < blank.parts }
+{
+    let mut steps: Steps<L> = Steps::new(blank);
+    Some((
+        kind_of(grammar, counts, names, number, &mut steps)?,
+        extent(grammar, counts, number, &mut steps)?,
+        text_rank(grammar, counts, names, number, &mut steps)?,
+        next_sibling(grammar, counts, number, &mut steps)?,
+    ))
+}
+
+#[test]
+fn numbers_tell_of_their_nodes(rt: HostRuntime) -> Result<(), Fail> {
+    let alloc = rt.alloc();
+    let names = names(alloc)?;
+    let tables: [(&[Row], &[Told]); 2] = [
+        (&ATTRIBUTES, &ATTRIBUTES_TOLD),
+        (&[TWICE, START], &ELEMENTS_TOLD),
+    ];
+    for (rules, wanted) in tables {
+        let grammar = check(alloc, rules_of(alloc, rules)?)?;
+        let counts = Counts::new(alloc, &grammar, &names)?;
+        for (number, row) in wanted.iter().enumerate() {
+            let answer = tell::<Brand>(&grammar, &counts, &names, number as u64, Blank::new(1));
+            assert!(rt; answer == Some(*row), "number {number}");
+        }
+        let past = tell::<Brand>(
+            &grammar,
+            &counts,
+            &names,
+            wanted.len() as u64,
+            Blank::new(1),
+        );
+        assert!(rt; past.is_none());
+    }
+    Ok(())
+}
+
+// The descents to the end of a node's kids, and to what is behind its attributes.
+fn descents<L: Ledger>(
+    grammar: &Grammar,
+    counts: &Counts,
+    names: &Names,
+    number: u64,
+    blank: Blank,
+) -> Option<(Descent, Descent)>
+    requires counts { AreCountsOf (rules_of grammar.now.rules) counts.now }
+    requires name { blank.name ≡ L.name }
+    requires parts { blank.parts ≡ L.parts }
+    requires some { 0 < blank.parts }
+    ensures { IfSome result (λ both. IsInside grammar.now.rules both.0 × IsInside grammar.now.rules both.1) }
+{
+    let mut steps: Steps<L> = Steps::new(blank);
+    let end = end_of_kids(grammar, counts, number, &mut steps)?;
+    let after = after_attributes(grammar, counts, names, number, &mut steps)?;
+    Some((end, after))
+}
+
+// By number: where the kids end, and where those that are no attributes begin.
+static KID_PLACES: [(&[Place], &[Place]); 6] = [
+    (&[(1, 8)], &[(1, 1)]),
+    (&[(1, 7)], &[(1, 3)]),
+    (&[(1, 2), (0, 1)], &[(1, 2), (0, 1)]),
+    (&[(1, 2), (0, 3)], &[(1, 2), (0, 3)]),
+    (&[(1, 4)], &[(1, 4)]),
+    (&[(1, 6)], &[(1, 6)]),
+];
+
+#[test]
+fn descents_lead_into_lists_of_kids(rt: HostRuntime) -> Result<(), Fail> {
+    let alloc = rt.alloc();
+    let names = names(alloc)?;
+    let grammar = check(alloc, rules_of(alloc, &ATTRIBUTES)?)?;
+    let counts = Counts::new(alloc, &grammar, &names)?;
+    for (number, &(end_wanted, after_wanted)) in KID_PLACES.iter().enumerate() {
+        let (end, after) = descents::<Brand>(
+            &grammar,
+            &counts,
+            &names,
+            number as u64,
+            Blank::new(1),
+        ).expect(&rt, "a node");
+        let places = places_of::<Brand>(alloc, &grammar, &counts, end, Blank::new(1))?;
+        assert!(rt; places.as_slice() == end_wanted, "end, number {number}");
+        let places = places_of::<Brand>(alloc, &grammar, &counts, after, Blank::new(1))?;
+        assert!(rt; places.as_slice() == after_wanted, "after, number {number}");
+    }
+    assert!(rt; descents::<Brand>(&grammar, &counts, &names, 6, Blank::new(1)).is_none());
+    Ok(())
+}

@@ -43,6 +43,7 @@ Loses-after j k a b c (Err e) x kept got lost = by j.lender kept.lender where
   told : (o : Option (List ℕ)) → Gets o b x → IfSome b (λ _. c ≡ None) → IfSome o (λ _. c ≡ None)
   told None g l = tt
   told (Some bytes) g l = rw g at l
+
   by : (lender : Option ℕ) → k.lender ≡ lender → IfSome lender (λ _. IfSome a (λ _. c ≡ None))
   by None same = tt
   by (Some n) same = told a got (rw same at lost)

@@ -28,8 +28,6 @@ pub record AreLawfulParts (parts : Parts) : Type 0 where
   pub small : node_count tree < 2 ^ 63
   pub grammar : IsGrammar parts.rules
   pub swept : IsSwept parts.rules
-  -- as yet the start is the only rule
-  pub one : length parts.rules ≡ 1
 
 -- nothing, or what is held of the document that is loaded
 abbrev pub State : Type 0

@@ -1,5 +1,5 @@
 // The session and its commands.
-ghost use Rattle.std.specs.Prelude.{◌≡◌, ◌≤◌, List, ℕ, None};
+ghost use Rattle.std.specs.Prelude.{◌≡◌, ◌≤◌, List, ℕ, None, IfSome};
 ghost use Rattle.tree_outside.specs.Outside.{HasCause, Writes};
 ghost use Rattle.tree_outside.specs.Shelf.{Keeps};
 
@@ -39,11 +39,12 @@ impl Model for Session {
 
     ghost use Rattle.std.specs.Option.{option_map};
     ghost use Rattle.store_core.specs.Worlds.{IsLawfulState};
-    ghost use Rattle.store_core.specs.StoreOf.{parts_of};
+    ghost use Rattle.std.specs.Prelude.{IfSome};
+    ghost use Rattle.store_core.specs.StoreOf.{IsCounted, parts_of};
 
     ghost view = { λ a. option_map parts_of a.store };
 
-    ghost invariant = { λ a. IsLawfulState (option_map parts_of a.store) };
+    ghost invariant = { λ a. IsLawfulState (option_map parts_of a.store) × IfSome a.store IsCounted };
 }
 
 impl Session {
@@ -51,7 +52,7 @@ impl Session {
     ghost use Rattle.store_core.specs.CommandOf.{act_of};
     ghost use Rattle.store_core.specs.Machine.{Step, Comes};
     ghost use Rattle.store_core.specs.Worlds.{IsLawfulState, world};
-    ghost use Rattle.store_core.specs.StoreOf.{parts_of};
+    ghost use Rattle.store_core.specs.StoreOf.{IsCounted, parts_of};
     ghost use Rattle.std.specs.Option.{option_map};
 
     /// A session without a document. It takes no memory.
@@ -65,6 +66,7 @@ impl Session {
     pub fn document(&self) -> Option<&Store>
         ensures sees { option_map (λ s. parts_of s.now) result ≡ self.now }
         ensures held { IsLawfulState self.now }
+        ensures counted { IfSome result (λ s. IsCounted s.now) }
     {
         self.store.as_ref()
     }

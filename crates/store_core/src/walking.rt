@@ -1,0 +1,95 @@
+// The walk over the tokens of a node.
+ghost use Rattle.std.specs.Prelude.{◌≡◌, ◌↔◌, ◌<◌, ◌≤◌, ◌^◌, [], sum_by, IsSome, IfSome, IfOk};
+ghost use Rattle.slt_grammar.specs.Grammars.{value};
+ghost use Rattle.slt_grammar.specs.Keyed.{rules_of};
+ghost use Rattle.slt_grammar.specs.Segments.{listed};
+ghost use Rattle.segment_counts.specs.Weights.{node_weight};
+ghost use Rattle.value_cursor.specs.Cursors.{BeginsAtNode, IsInside, tokens_of};
+ghost use Rattle.store_core.specs.StoreOf.{IsCounted};
+ghost use Rattle.store_core.specs.Walking.{HasRoom, IsReady, open_after};
+
+use crate::store::Store;
+use read_steps::Steps;
+use slt_grammar::Grammar;
+use std::alloc::{AllocError, Global};
+use std::sync::ledger::Ledger;
+use value_cursor::{Cursor, Token};
+
+// Where a walk along tokens stands: the symbols of the nodes that are open, the innermost last, and how many texts were used.
+#[derive(Drop)]
+pub(crate) struct TokenPlace {
+    pub(crate) outer: Vec<usize>,
+    pub(crate) used: u64,
+}
+
+/// A walk over a node and the nodes below it. It holds all the memory that their writing takes.
+#[derive(Drop)]
+pub(crate) struct NodeWalk {
+    pub(crate) cursor: Cursor,
+    pub(crate) place: TokenPlace,
+}
+
+impl NodeWalk {
+    /// A walk that begins at the node with this number, whose texts begin at the place `first_text`, and None exactly where the
+    /// number isn't below the count of nodes. It is refused only for want of memory.
+    pub(crate) fn new<L: Ledger>(
+        alloc: Global,
+        store: &Store,
+        number: u64,
+        first_text: u64,
+        steps: &mut Steps<L>,
+    ) -> Result<Option<NodeWalk>, AllocError>
+        requires { IsCounted store.now }
+        ensures some { IfOk result (λ found. IsSome found ↔ number < sum_by node_weight (listed (value (rules_of store.now.grammar.rules)) [])) }
+        ensures ready { IfOk result (λ found. IfSome found (IsReady store.now)) }
+        ensures begins { IfOk result (λ found. IfSome found (λ w. BeginsAtNode store.now.grammar.rules number w.cursor)) }
+        ensures texts { IfOk result (λ found. IfSome found (λ w. w.place.used ≡ first_text)) }
+    {
+        let Some(ahead) = Cursor::new(alloc, &store.grammar, &store.counts, number, steps)? else {
+            return Ok(None);
+        };
+        let depth = deepest(&store.grammar, ahead, steps);
+        let outer = Vec::with_capacity(alloc, depth)?;
+        let Some(cursor) = Cursor::new(alloc, &store.grammar, &store.counts, number, steps)? else {
+            return Ok(None);
+        };
+        let place = TokenPlace {
+            outer,
+            used: first_text,
+        };
+        Ok(Some(NodeWalk { cursor, place }))
+    }
+}
+
+// How many nodes are open at once at most while the cursor gives its tokens.
+fn deepest<L: Ledger>(grammar: &Grammar, mut cursor: Cursor, steps: &mut Steps<L>) -> usize
+    requires { IsInside grammar.now.rules cursor }
+    ensures { HasRoom result 0 (tokens_of grammar.now.rules cursor) }
+{
+    let mut depth = 0;
+    let mut most = 0;
+    while let Some(token) = cursor.next(grammar, steps) {
+        depth = depth_behind(depth, token);
+        most = larger(most, depth);
+    }
+    most
+}
+
+// The larger of two depths.
+fn larger(first: usize, second: usize) -> usize
+    ensures first { first ≤ result }
+    ensures second { second ≤ result }
+{
+    if first < second { second } else { first }
+}
+
+// How many nodes are open behind a token.
+fn depth_behind(depth: usize, token: Token) -> usize
+    requires { open_after depth token < 2 ^ 64 }
+    ensures { result ≡ open_after depth token }
+{
+    match token {
+        Token::Open { .. } => depth + 1,
+        Token::Close => depth.saturating_sub(1),
+    }
+}

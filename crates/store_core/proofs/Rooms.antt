@@ -1,5 +1,5 @@
 -- Room for what is written, and for the nodes that are open.
-use Rattle.std.proofs.Common.{◌≡◌, ℕ, suc, ◌+◌, ◌-◌, ◌*◌, ◌<◌, ◌≤◌, ◌^◌, List, [], ◌∷◌, Bool, true, false, length, drop, sum_by, Option, Some, None, slice_get, refl, arith}
+use Rattle.std.proofs.Common.{ℕ, suc, ◌+◌, ◌-◌, ◌*◌, ◌≤◌, ◌^◌, List, [], ◌∷◌, Bool, true, false, length, drop, sum_by, Some, None, slice_get, arith}
 use Rattle.std.specs.Prelude.{nat_lt, if◌then◌else◌}
 use Rattle.std.specs.Option.{option_map}
 use Rattle.std.proofs.lemmas.List.Sums.{sum_by-cons}
@@ -95,3 +95,9 @@ open-few n Close rest = omega arith
 pub place-behind : (room n : ℕ) (t : Token) → open_after n t ≤ room → HasPlace room n t
 place-behind room n (Open f) h = omega arith
 place-behind room n Close h = tt
+
+-- a place for each node is enough
+pub room-for-each : (room n : ℕ) (ts : List Token) → n + opens ts ≤ room → HasRoom room n ts
+room-for-each room n [] h = tt
+room-for-each room n (Open f ∷ ts) h = (omega arith, room-for-each room (n + 1) ts (omega arith))
+room-for-each room n (Close ∷ ts) h = (tt, room-for-each room (n - 1) ts (omega arith))

@@ -1,11 +1,10 @@
 -- Writing a node from its tokens.
-use Rattle.std.proofs.Common.{◌≡◌, ℕ, true, ◌+◌, ◌*◌, ◌<◌, ◌≤◌, ◌^◌, List, [], ◌∷◌, ◌++◌, length, Option, Some, None, refl, sym, ap, ◌∙◌, append_assoc, append-nil, length-append, arith, subst}
+use Rattle.std.proofs.Common.{◌≡◌, ℕ, true, ◌+◌, ◌<◌, ◌≤◌, ◌^◌, List, [], ◌∷◌, ◌++◌, length, Option, Some, None, refl, sym, ap, ◌∙◌, append_assoc, append-nil, length-append, arith, subst}
 use Rattle.tree_outside.specs.Outside.{Gets, GetsFront}
 use Rattle.plain_tree.specs.declared.kind.Kind.{Kind}
 use Rattle.value_cursor.specs.declared.cursor.Token.{Token}
 use Rattle.xml_nodes.specs.Pen.{Call, Pen, call_text, calls_text, new_pen}
 use Rattle.store_core.specs.Saving.{Place, start_place, call_at, place_after, with_call, token_calls, tokens_text, depth_of, text_at, most_text, pen_past, count_past}
-use Rattle.store_core.specs.Walking.{opens}
 use Rattle.store_core.proofs.Rooms.{reserved, token_room}
 use Rattle.store_core.proofs.Sinks.{Gets-nil, Gets-append, GetsFront-first, GetsFront-after}
 

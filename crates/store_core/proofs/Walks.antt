@@ -1,8 +1,8 @@
 -- Where a walk begins, and what is written of a document's.
-use Rattle.std.proofs.Common.{◌≡◌, ℕ, ◌+◌, ◌<◌, ◌≤◌, ◌^◌, List, [], ◌∷◌, ◌++◌, sum_by, Some, slice_get, refl, ap, sym, ◌∙◌, subst, arith}
+use Rattle.std.proofs.Common.{◌≡◌, ℕ, ◌<◌, ◌≤◌, List, [], ◌∷◌, ◌++◌, sum_by, Some, slice_get, ap, sym, ◌∙◌, subst, arith}
 use Rattle.std.proofs.lemmas.List.Sums.{sum_by-cons, sum_by-append}
 use Rattle.plain_tree.specs.declared.kind.Kind.{Kind}
-use Rattle.plain_tree.specs.Numbers.{nodes, texts}
+use Rattle.plain_tree.specs.Numbers.{nodes}
 use Rattle.plain_tree.specs.Tree.{Tree, node, none, more, node_count}
 use Rattle.preorder_address.proofs.TreePlaces.{nodes-coded}
 use Rattle.rule_arena.specs.declared.label.Label.{Label}
@@ -18,10 +18,9 @@ use Rattle.value_cursor.specs.Tokens.{Tells, tokens}
 use Rattle.value_cursor.specs.declared.cursor.Cursor.{Cursor}
 use Rattle.value_cursor.proofs.Subtrees.{cursors-tell-subtrees}
 use Rattle.xml_nodes.specs.Saved.{saved_bytes}
-use Rattle.store_core.specs.Saving.{tokens_text}
 use Rattle.store_core.specs.StoreOf.{parts_of}
 use Rattle.store_core.specs.Walking.{opens, walk_text}
-use Rattle.store_core.specs.Worlds.{PartsStandFor, AreLawfulParts}
+use Rattle.store_core.specs.Worlds.{PartsStandFor}
 use Rattle.store_core.specs.declared.store.Store.{Store}
 use Rattle.store_core.specs.declared.walking.NodeWalk.{NodeWalk}
 use Rattle.store_core.proofs.NodeCalls.{document_saves}
@@ -53,14 +52,13 @@ same-tokens G number c d b e =
     let w : left_of G c ≡ left_of G d = b.begins ∙ v ∙ sym e.begins in
     ap (λ n. tokens n (left_of G c)) (b.none_open ∙ sym e.none_open) ∙ ap (tokens d.opened) w
 
+-- no more nodes begin than the value has
+pub walk-opens : (G : List KeyedRule) (number : ℕ) (c : Cursor) → BeginsAtNode G number c → opens (tokens_of G c) ≤ sum_by node_weight (listed (value (rules_of G)) [])
+walk-opens G number c b = omega (arith, opens-few c.opened (left_of G c), ap (sum_by node_weight) b.split ∙ sum_by-append node_weight b.before (left_of G c))
+
 -- as many nodes begin as the document has at most
 pub walk-few : (s : Store) (number : ℕ) (c : Cursor) (t : Tree) → PartsStandFor (parts_of s) t → BeginsAtNode s.grammar.rules number c → opens (tokens_of s.grammar.rules c) ≤ node_count t
-walk-few s number c t stand b =
-    let left = left_of s.grammar.rules c in
-    let few = opens-few c.opened left in
-    let all = weight-coded s.names t (value (rules_of s.grammar.rules)) stand.code in
-    let split = ap (sum_by node_weight) b.split ∙ sum_by-append node_weight b.before left in
-    omega (arith, few, all, split)
+walk-few s number c t stand b = omega (arith, walk-opens s.grammar.rules number c b, weight-coded s.names t (value (rules_of s.grammar.rules)) stand.code)
 
 first_node : (t s : Tree) → slice_get (nodes t) 0 ≡ Some s → t ≡ s
 first_node (node k n v ks) s e = cc

@@ -1,6 +1,7 @@
 -- A walk over the tokens of a node, with its memory.
 use Rattle.std.specs.Prelude.{◌≡◌, ◌<◌, ◌^◌, ◌+◌, ◌-◌, ℕ, List, [], ◌∷◌, drop, length, reverse, vec_capacity}
-use Rattle.value_cursor.specs.Cursors.{IsInside, tokens_of}
+use Rattle.value_cursor.specs.Cursors.{BeginsAtNode, IsInside, tokens_of}
+use Rattle.value_cursor.specs.declared.cursor.Cursor.{Cursor}
 use Rattle.value_cursor.specs.declared.cursor.Token.{Token}
 use Rattle.value_cursor.specs.declared.cursor.Token.TheVariants.{Open, Close}
 use Rattle.store_core.specs.Saving.{Place, tokens_text}
@@ -22,6 +23,10 @@ open_after n Close = n - 1
 abbrev pub HasRoom : ℕ → ℕ → List Token → Type 0
 HasRoom room n [] = Unit {0}
 HasRoom room n (t ∷ ts) = HasPlace room n t × HasRoom room (open_after n t) ts
+
+-- so many places are enough for the nodes that are open while a cursor gives the tokens from the node with this number on
+abbrev pub AreEnough : Store → ℕ → ℕ → Type 0
+AreEnough s number places = (c : Cursor) → BeginsAtNode s.grammar.rules number c → HasRoom places 0 (tokens_of s.grammar.rules c)
 
 -- how many nodes begin
 abbrev pub opens : List Token → ℕ

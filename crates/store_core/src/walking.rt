@@ -6,7 +6,7 @@ ghost use Rattle.slt_grammar.specs.Segments.{listed};
 ghost use Rattle.segment_counts.specs.Weights.{node_weight};
 ghost use Rattle.value_cursor.specs.Cursors.{BeginsAtNode, IsInside, tokens_of};
 ghost use Rattle.store_core.specs.StoreOf.{IsCounted};
-ghost use Rattle.store_core.specs.Walking.{HasRoom, IsReady, open_after};
+ghost use Rattle.store_core.specs.Walking.{AreEnough, HasRoom, IsReady, open_after};
 
 use crate::store::Store;
 use read_steps::Steps;
@@ -45,19 +45,43 @@ impl NodeWalk {
         ensures begins { IfOk result (λ found. IfSome found (λ w. BeginsAtNode store.now.grammar.rules number w.cursor)) }
         ensures texts { IfOk result (λ found. IfSome found (λ w. w.place.used ≡ first_text)) }
     {
-        let Some(ahead) = Cursor::new(alloc, &store.grammar, &store.counts, number, steps)? else {
-            return Ok(None);
-        };
-        let depth = deepest(&store.grammar, ahead, steps);
-        let outer = Vec::with_capacity(alloc, depth)?;
         let Some(cursor) = Cursor::new(alloc, &store.grammar, &store.counts, number, steps)? else {
             return Ok(None);
         };
+        let places = enough_places(alloc, store, number, steps)?;
+        let outer = Vec::with_capacity(alloc, places)?;
         let place = TokenPlace {
             outer,
             used: first_text,
         };
         Ok(Some(NodeWalk { cursor, place }))
+    }
+}
+
+// So many places for open nodes are enough for a walk from the node with this number. It is refused only for want of memory.
+//
+// Where the value has no more nodes than the rules, as it has after a loading, each gets a place: that takes fewer bytes than the
+// rules do, and a walk ahead would double the time. Else there may be far more nodes than memory, so a walk ahead finds how many
+// are open at once.
+fn enough_places<L: Ledger>(
+    alloc: Global,
+    store: &Store,
+    number: u64,
+    steps: &mut Steps<L>,
+) -> Result<usize, AllocError>
+    requires { IsCounted store.now }
+    ensures { IfOk result (AreEnough store.now number) }
+{
+    // The call tells what is true of every grammar.
+    let _limit = store.grammar.limit();
+    let nodes = store.counts.total();
+    if nodes <= store.grammar.size() {
+        return Ok(nodes as usize);
+    }
+    match Cursor::new(alloc, &store.grammar, &store.counts, number, steps)? {
+        Some(ahead) => Ok(deepest(&store.grammar, ahead, steps)),
+        // No node has this number.
+        None => Ok(0),
     }
 }
 

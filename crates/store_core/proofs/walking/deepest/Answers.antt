@@ -1,5 +1,4 @@
-use Rattle.std.proofs.Common.{◌≡◌, ℕ, ◌+◌, ◌<◌, ◌≤◌, ◌^◌, ◌∷◌, List, length, ap, sym, subst, arith}
-use Rattle.segment_counts.specs.Weights.{node_weight}
+use Rattle.std.proofs.Common.{ℕ, ◌≤◌, List, ap, sym, subst, arith}
 use Rattle.value_cursor.specs.Cursors.{left_of, tokens_of}
 use Rattle.value_cursor.specs.declared.cursor.Token.{Token}
 use Rattle.store_core.specs.Walking.{HasRoom, open_after, opens}

@@ -1,5 +1,6 @@
-use Rattle.std.proofs.Common.{◌≡◌, ℕ, ◌<◌, ◌≤◌, ◌*◌, ◌+◌, ◌-◌, ◌^◌, List, drop, length, length-drop, refl, sym, subst, ◌∙◌, ap, arith}
+use Rattle.std.proofs.Common.{◌≡◌, ℕ, drop, length, length-drop, refl, sym, subst, ◌∙◌, ap, arith}
 use Rattle.std.specs.Prelude.{vec_capacity, vec_len}
+use Rattle.std.proofs.lemmas.Result.{err_from_is_err_and}
 use Rattle.tree_outside.proofs.Beside.{Keeps-refl, Keeps-trans}
 use Rattle.value_cursor.specs.Cursors.{tokens_of}
 use Rattle.xml_nodes.specs.Pen.{Pen}
@@ -51,4 +52,6 @@ returns-clause-count g c = λ countable.
     (omega (arith, countable.nodes, countable.texts, length-drop c.args.walk.place.used c.args.store.now.texts.texts))
 
 pub returns-in_err-write_token-clause-written : goal.returns-in_err-write_token-clause-written
-returns-in_err-write_token-clause-written g c = writing_fails _ _ _ _ _ _ c.in-Some.token _ _ _ _ _ c.loop-token.invariant.writing c.in-Some.ensures.token c.in_err-write_token.ensures.makes.written
+returns-in_err-write_token-clause-written g c =
+    let failed = err_from_is_err_and c.from_residual.result c.from_residual.ensures.1 in
+    rw failed.1 (writing_fails _ _ _ _ _ _ c.in-Some.token _ _ _ _ _ c.loop-token.invariant.writing c.in-Some.ensures.token c.in_err-write_token.ensures.makes.written)

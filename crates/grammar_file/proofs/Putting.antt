@@ -3,8 +3,8 @@ use Rattle.std.proofs.Common.{◌≡◌, ℕ, ◌+◌, ◌≤◌, ◌<◌, ◌^�
 use Rattle.std.specs.Prelude.{Option, Some, None, Result, Ok, Err, OnOk, MatchResult}
 use Rattle.tree_outside.specs.declared.traits.Failed.{Failed}
 use Rattle.tree_outside.specs.Outside.{Gets, GetsFront, HasCause, Writes}
-use Rattle.tree_outside.specs.Shelf.{Keeps}
-use Rattle.tree_outside.proofs.Beside.{Keeps-refl, Keeps-trans}
+use Rattle.tree_outside.specs.Shelf.{Keeps, Loses}
+use Rattle.tree_outside.proofs.Beside.{Keeps-refl, Keeps-trans, Loses-after}
 use Rattle.grammar_file.specs.Buffers.{Seen, Adds, Puts}
 
 Gets-nil : (a : Option (List ℕ)) → Gets a a []
@@ -51,6 +51,7 @@ puts_nothing a = record {
   content = record { written = []; got = Gets-nil a.got; whole = sym (append-nil a.held) };
   count = λ _. omega arith;
   kept = Keeps-refl a.kept;
+  lost = tt;
   cause = record { later = omega arith; failed = tt };
   same_reference = refl;
 }
@@ -80,6 +81,7 @@ puts_then a b c r xs ys h k = record {
   content = content-then a b c r xs ys h.content k.content;
   count = count-then a b c r xs ys h.count k.count;
   kept = Keeps-trans _ _ _ h.kept k.kept;
+  lost = Loses-after a.kept b.kept a.got b.got c.got r h.content.written h.kept h.content.got k.lost;
   cause = HasCause-after a.faults b.faults c.faults r h.cause.later k.cause;
   same_reference = k.same_reference ∙ h.same_reference;
 }
@@ -90,6 +92,7 @@ puts_failed a b e xs ys h = record {
   content = subst (λ z. GetsFront a.got b.got z) (append_assoc a.held xs ys) (GetsFront-more a.got b.got (a.held ++ xs) ys h.content);
   count = tt;
   kept = h.kept;
+  lost = h.lost;
   cause = record { later = h.cause.later; failed = h.cause.failed };
   same_reference = h.same_reference;
 }
@@ -128,11 +131,13 @@ content-written a b (Err e) bytes h k w = rw h w
 
 -- where nothing is held, bytes are put when they are written
 pub puts_written : (a b : Seen) (r : Result (Unit {0}) Failed) (bytes : List ℕ) → a.held ≡ [] → b.held ≡ [] → Writes a.got b.got r bytes
-    → (a.count + length bytes < 2 ^ 128 → b.count ≡ a.count + length bytes) → Keeps a.kept b.kept → HasCause a.faults b.faults r → b.sink ≡ a.sink → Puts a b r bytes
-puts_written a b r bytes h k w n kept cause same = record {
+    → (a.count + length bytes < 2 ^ 128 → b.count ≡ a.count + length bytes) → Keeps a.kept b.kept → Loses a.kept a.got b.got r → HasCause a.faults b.faults r → b.sink ≡ a.sink
+    → Puts a b r bytes
+puts_written a b r bytes h k w n kept lost cause same = record {
   content = content-written a b r bytes h k w;
   count = on_ok r n;
   kept = kept;
+  lost = lost;
   cause = cause;
   same_reference = same;
 }

@@ -2,7 +2,7 @@
 ghost use Rattle.std.specs.Prelude.{◌≡◌, ◌≢◌, ◌+◌, ◌*◌, ◌^◌, ◌<◌, ◌≤◌, [], ◌∷◌, length, OnOk, OnErr, IfOk};
 ghost use Rattle.std.specs.List.{flat_map};
 ghost use Rattle.tree_outside.specs.Outside.{Gets, GetsFront, HasCause};
-ghost use Rattle.tree_outside.specs.Shelf.{Keeps};
+ghost use Rattle.tree_outside.specs.Shelf.{Keeps, Loses};
 ghost use Rattle.slt_grammar.specs.Grammars.{body_at, rank_at};
 ghost use Rattle.slt_grammar.specs.Keyed.{rules_of};
 ghost use Rattle.grammar_file.specs.Numbers.{number_bytes};
@@ -46,6 +46,7 @@ pub fn write<K: Sink>(
     ensures count { IfOk result (λ count. count ≡ length (file_bytes names.now (rules_of grammar.now.rules) texts.now.texts)) }
     ensures front { OnErr result (GetsFront (K.got sink.old) (K.got sink.new) (file_bytes names.now (rules_of grammar.now.rules) texts.now.texts)) }
     ensures kept { Keeps (K.kept sink.old) (K.kept sink.new) }
+    ensures lost { Loses (K.kept sink.old) (K.got sink.old) (K.got sink.new) result }
     ensures cause { HasCause (K.faults sink.old) (K.faults sink.new) result }
     ensures no_memory { result ≢ Err WriteError.Memory }
 {

@@ -1,5 +1,5 @@
 -- What the calls of a shelf do to what it tells.
-use Rattle.std.specs.Prelude.{◌≡◌, ℕ, List, [], ◌++◌, take, Bool, is_some, unwrap_or, Option, Some, None, Result, IfSome, MatchResult}
+use Rattle.std.specs.Prelude.{◌≡◌, ℕ, List, [], ◌++◌, take, Bool, is_some, unwrap_or, Option, Some, None, Result, IfSome, OnErr, MatchResult}
 use Rattle.std.specs.FinMap.{get, insert}
 use Rattle.std.specs.Option.{option_map, option_map_or, option_and_then}
 use Rattle.tree_outside.specs.Files.{Files, Told}
@@ -63,6 +63,10 @@ pub record Kept : Type 0 where
 pub record Keeps (old new : Kept) : Type 0 where
   pub lender : new.lender ≡ old.lender
   pub beside : Stays old.beside new.beside
+
+-- a failed write to a shelf that told the pending bytes leaves none pending
+abbrev pub Loses : {T E : Type 0} → Kept → Option (List ℕ) → Option (List ℕ) → Result T E → Type 0
+Loses kept old new result = OnErr result (IfSome kept.lender (λ _. IfSome old (λ _. new ≡ None)))
 
 -- a sink that writes to no shelf
 abbrev pub alone : Kept

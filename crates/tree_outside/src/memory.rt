@@ -1,6 +1,6 @@
 // A source and a sink in memory, which fail at given calls.
 ghost use Rattle.std.specs.Prelude.{◌≡◌, ◌≤◌, ◌<◌, Some, [], length, IfOk, OnErr};
-ghost use Rattle.tree_outside.specs.Shelf.{alone, Keeps};
+ghost use Rattle.tree_outside.specs.Shelf.{alone, Keeps, Loses};
 ghost use Rattle.tree_outside.specs.Calls.{IsCounted};
 ghost use Rattle.tree_outside.specs.Outside.{HasCause, Reads, Writes};
 
@@ -110,6 +110,7 @@ impl Sink for MemorySink {
     fn write(&mut self, bytes: &[u8]) -> Result<(), Failed>
         ensures content { Writes (Some self.old.got) (Some self.new.got) result bytes.now }
         ensures kept { Keeps alone alone }
+        ensures lost { Loses alone (Some self.old.got) (Some self.new.got) result }
         ensures cause { HasCause self.old.calls.faults self.new.calls.faults result }
         ensures nothing { OnErr result (self.new.got ≡ self.old.got) }
         ensures calls { IsCounted self.old.calls self.new.calls result (0 < length bytes.now) }

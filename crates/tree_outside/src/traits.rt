@@ -2,7 +2,7 @@
 ghost use Rattle.std.specs.Prelude.{◌≡◌, ◌<◌, ◌≤◌, ℕ, List, [], length, Option, IfOk};
 ghost use Rattle.tree_outside.specs.Outside.{HasCause, Reads, Writes};
 ghost use Rattle.tree_outside.specs.Files.{Files, Told};
-ghost use Rattle.tree_outside.specs.Shelf.{Kept, Keeps, Opens, Becomes, ReadsFile, Changes, nothing_open, created, appended, sealed};
+ghost use Rattle.tree_outside.specs.Shelf.{Kept, Keeps, Loses, Opens, Becomes, ReadsFile, Changes, nothing_open, created, appended, sealed};
 
 /// A call failed. It comes only where the object's count of faults rose in that call, or stood at its last value.
 #[derive(Clone, Copy, Debug, PartialEq, Eq)]
@@ -37,10 +37,11 @@ pub trait Sink {
     /// How often it has failed; at 2^64 - 1 the count stands still.
     ghost faults: { Self → ℕ };
 
-    /// Adds all the bytes, or fails and has added a front of them.
+    /// Adds all the bytes, or fails and has added a front of them; a pending file that it writes to is then given up.
     fn write(&mut self, bytes: &[u8]) -> Result<(), Failed>
         ensures content { Writes (got self.old) (got self.new) result bytes.now }
         ensures kept { Keeps (kept self.old) (kept self.new) }
+        ensures lost { Loses (kept self.old) (got self.old) (got self.new) result }
         ensures cause { HasCause (faults self.old) (faults self.new) result };
 }
 

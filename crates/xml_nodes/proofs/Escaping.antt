@@ -5,7 +5,7 @@ use Rattle.std.specs.List.{flat_map}
 use Rattle.std.proofs.lemmas.Grind.{flat_map-append}
 use Rattle.tree_outside.specs.declared.traits.Failed.{Failed}
 use Rattle.tree_outside.specs.Outside.{Gets, GetsFront, Writes, HasCause}
-use Rattle.tree_outside.proofs.Beside.{Keeps-refl, Keeps-trans}
+use Rattle.tree_outside.proofs.Beside.{Keeps-refl, Keeps-trans, Loses-after}
 use Rattle.xml_nodes.specs.Escapes.{escaped, IsCut}
 use Rattle.xml_nodes.specs.Sending.{Seen, Sends}
 use Rattle.tree_outside.specs.ByteCounts.{counted}
@@ -49,6 +49,7 @@ sends_then a b c r x y h k = record {
   content = Writes-append a.got b.got c.got r x y h.content k.content;
   count = count-append a.count b.count c.count r x y h.count k.count;
   kept = Keeps-trans _ _ _ h.kept k.kept;
+  lost = Loses-after a.kept b.kept a.got b.got c.got r x h.kept h.content k.lost;
   cause = cause-after a.faults b.faults c.faults r h.cause.later k.cause;
   same_reference = k.same_reference ∙ h.same_reference;
 }
@@ -59,6 +60,7 @@ sends_front a b e r x y h is = rw is (record {
   content = GetsFront-more a.got b.got x y h.content;
   count = tt;
   kept = h.kept;
+  lost = h.lost;
   cause = record { later = h.cause.later; failed = h.cause.failed };
   same_reference = h.same_reference;
 })
@@ -68,6 +70,7 @@ sends_nothing a h = record {
   content = Gets-nil a.got;
   count = omega arith;
   kept = Keeps-refl a.kept;
+  lost = tt;
   cause = record { later = omega arith; failed = tt };
   same_reference = refl;
 }

@@ -2,7 +2,7 @@
 use Rattle.std.specs.Prelude.{◌≡◌, ℕ, List, length, Option, Result, OnOk}
 use Rattle.tree_outside.specs.ByteCounts.{counted}
 use Rattle.tree_outside.specs.Outside.{Writes, HasCause}
-use Rattle.tree_outside.specs.Shelf.{Kept, Keeps}
+use Rattle.tree_outside.specs.Shelf.{Kept, Keeps, Loses}
 use Rattle.tree_outside.specs.declared.traits.Sink.{Ghosts}
 use Rattle.xml_nodes.specs.declared.output.Output.{Output}
 
@@ -19,6 +19,7 @@ pub record Sends {E : Type 0} (old new : Seen) (result : Result (Unit {0}) E) (b
   pub content : Writes old.got new.got result bytes
   pub count : OnOk result (new.count ≡ counted old.count (length bytes))
   pub kept : Keeps old.kept new.kept
+  pub lost : Loses old.kept old.got new.got result
   pub cause : HasCause old.faults new.faults result
   pub same_reference : new.sink ≡ old.sink
 

@@ -3,7 +3,7 @@ ghost use Rattle.std.specs.Prelude.{◌≡◌, ◌<◌, ◌+◌, ◌^◌, true, 
 ghost use Rattle.plain_tree.specs.Numbers.{has_value};
 ghost use Rattle.tree_outside.specs.ByteCounts.{counted};
 ghost use Rattle.tree_outside.specs.Outside.{HasCause, Writes};
-ghost use Rattle.tree_outside.specs.Shelf.{Keeps};
+ghost use Rattle.tree_outside.specs.Shelf.{Keeps, Loses};
 ghost use Rattle.xml_nodes.specs.Pen.{Open, Leaf, Close, call_text, pen_after, new_pen, before_leaf, line_end};
 ghost use Rattle.xml_nodes.specs.Saved.{leaf_text, attribute_text, instruction_text, element_end};
 ghost use Rattle.xml_nodes.specs.Sending.{Sends, seen};
@@ -64,6 +64,7 @@ impl<'a, K: Sink> Writer<'a, K> {
         ensures failed_pen { OnErr result (pen_of self.new ≡ pen_of self.old) }
         ensures failed_count { OnErr result (count_of self.new ≡ count_of self.old) }
         ensures kept { Keeps (K.kept (sink_of self.old)) (K.kept (sink_of self.new)) }
+        ensures lost { Loses (K.kept (sink_of self.old)) (K.got (sink_of self.old)) (K.got (sink_of self.new)) result }
         ensures cause { HasCause (K.faults (sink_of self.old)) (K.faults (sink_of self.new)) result }
         ensures same_reference { sink_name self.new ≡ sink_name self.old }
     {
@@ -85,6 +86,7 @@ impl<'a, K: Sink> Writer<'a, K> {
         ensures failed_pen { OnErr result (pen_of self.new ≡ pen_of self.old) }
         ensures failed_count { OnErr result (count_of self.new ≡ count_of self.old) }
         ensures kept { Keeps (K.kept (sink_of self.old)) (K.kept (sink_of self.new)) }
+        ensures lost { Loses (K.kept (sink_of self.old)) (K.got (sink_of self.old)) (K.got (sink_of self.new)) result }
         ensures cause { HasCause (K.faults (sink_of self.old)) (K.faults (sink_of self.new)) result }
         ensures same_reference { sink_name self.new ≡ sink_name self.old }
     {
@@ -107,6 +109,7 @@ impl<'a, K: Sink> Writer<'a, K> {
         ensures failed_pen { OnErr result (pen_of self.new ≡ pen_of self.old) }
         ensures failed_count { OnErr result (count_of self.new ≡ count_of self.old) }
         ensures kept { Keeps (K.kept (sink_of self.old)) (K.kept (sink_of self.new)) }
+        ensures lost { Loses (K.kept (sink_of self.old)) (K.got (sink_of self.old)) (K.got (sink_of self.new)) result }
         ensures cause { HasCause (K.faults (sink_of self.old)) (K.faults (sink_of self.new)) result }
         ensures same_reference { sink_name self.new ≡ sink_name self.old }
     {

@@ -23,4 +23,4 @@ returns-in-Err g c =
     ] in
     puts_then a (seen g.K.Sink now) _ c.write.result [] c.args.bytes.now room
     (puts_written (seen g.K.Sink now) _ c.write.result c.args.bytes.now empty (ap (λ (v : ArrayVec _). v.items) c.in-Err.ensures.err ∙ empty) c.write.ensures.content
-    (λ fits. omega (arith, c.add.ensures)) c.write.ensures.kept c.write.ensures.cause refl)
+    (λ fits. omega (arith, c.add.ensures)) c.write.ensures.kept c.write.ensures.lost c.write.ensures.cause refl)

@@ -1,7 +1,7 @@
 -- What making a call does to a writer and to its sink.
 use Rattle.std.specs.Prelude.{◌≡◌, ◌≤◌, ℕ, List, length, Option, Result, OnOk}
 use Rattle.tree_outside.specs.Outside.{Writes}
-use Rattle.tree_outside.specs.Shelf.{Kept, Keeps}
+use Rattle.tree_outside.specs.Shelf.{Kept, Keeps, Loses}
 use Rattle.tree_outside.specs.declared.traits.Sink.{Ghosts}
 use Rattle.xml_nodes.specs.Pen.{Call, Pen}
 use Rattle.xml_nodes.specs.WriterOf.{pen_of, sink_of, sink_name, count_of}
@@ -27,5 +27,6 @@ pub record Makes {E : Type 0} (old new : Seen) (result : Result (Unit {0}) E) (c
   pub count : OnOk result (new.count ≡ count_past old.count old.pen call)
   pub short : OnOk result (length (text_at old.pen call) ≤ most_text call)
   pub kept : Keeps old.kept new.kept
+  pub lost : Loses old.kept old.got new.got result
   pub later : old.faults ≤ new.faults
   pub same_reference : new.sink ≡ old.sink

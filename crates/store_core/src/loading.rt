@@ -10,7 +10,7 @@ ghost use Rattle.slt_grammar.specs.Segments.{listed};
 ghost use Rattle.segment_counts.specs.Counting.{AreCounts};
 ghost use Rattle.segment_counts.specs.Weights.{node_weight};
 ghost use Rattle.store_core.specs.Acts as act;
-ghost use Rattle.store_core.specs.Worlds.{State, AreLawfulParts, told_files, world};
+ghost use Rattle.store_core.specs.Worlds.{State, AreLawfulParts, IsIdle, told_files, world};
 ghost use Rattle.store_core.specs.StoreOf.{IsCounted, parts_of};
 ghost use Rattle.store_core.specs.Refusals.{Cause};
 ghost use Rattle.store_core.specs.Machine.{Encodes, HoldsDocument, Loads};
@@ -42,6 +42,7 @@ pub(crate) fn load_document<F: Shelf>(
 ) -> Result<ReadDocument, Refusal>
     ensures later { F.faults shelf.old ≤ F.faults shelf.new }
     ensures files { Stays (told_files (F.told shelf.old)) (told_files (F.told shelf.new)) }
+    ensures idle { IsIdle (F.told shelf.old) → IsIdle (F.told shelf.new) }
     ensures loads { IfOk result (λ l. (state : State)
         → Loads name.now (world state (F.told shelf.old) (F.faults shelf.old)) (answer_line (Answer.Nodes l.count)) (world (Some (parts_of l.store)) (F.told shelf.new) (F.faults shelf.new))) }
     ensures held { IfOk result (λ l. AreLawfulParts (parts_of l.store)) }
@@ -59,6 +60,7 @@ pub(crate) fn load_document<F: Shelf>(
 fn read_file<F: Shelf>(alloc: Global, name: &str, shelf: &mut F) -> Result<Node, Refusal>
     ensures later { F.faults shelf.old ≤ F.faults shelf.new }
     ensures files { Stays (told_files (F.told shelf.old)) (told_files (F.told shelf.new)) }
+    ensures idle { IsIdle (F.told shelf.old) → IsIdle (F.told shelf.new) }
     ensures document { IfOk result (λ document. (state : State)
         → HoldsDocument name.now (world state (F.told shelf.old) (F.faults shelf.old)) (tree_of document)) }
     ensures lawful { IfOk result (λ document. IsDocument (tree_of document)) }

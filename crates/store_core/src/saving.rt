@@ -1,5 +1,5 @@
 // Writing a document, or what is held of it, to the shelf.
-ghost use Rattle.std.specs.Prelude.{◌≡◌, ◌≤◌, Some, Err, IfOk, IfErr, OnOk, OnErr, length};
+ghost use Rattle.std.specs.Prelude.{◌≡◌, ◌≤◌, Some, None, Err, IfOk, IfErr, IfSome, OnOk, OnErr, length};
 ghost use Rattle.tree_outside.specs.Outside.{Gets, Rose, Stays};
 ghost use Rattle.tree_outside.specs.Shelf.{beside_of, pending_bytes};
 ghost use Rattle.slt_grammar.specs.Keyed.{rules_of};
@@ -7,11 +7,10 @@ ghost use Rattle.grammar_file.specs.FileBytes.{file_bytes};
 ghost use Rattle.store_core.specs.Acts as act;
 ghost use Rattle.plain_tree.specs.Tree.{Tree};
 ghost use Rattle.xml_nodes.specs.Saved.{saved_bytes};
-ghost use Rattle.store_core.specs.Worlds.{AreLawfulParts, PartsStandFor, told_files, world};
+ghost use Rattle.store_core.specs.Worlds.{AreLawfulParts, IsIdle, PartsStandFor, told_files, world};
 ghost use Rattle.store_core.specs.StoreOf.{IsCounted, parts_of};
 ghost use Rattle.store_core.specs.Walking.{IsCountable, IsReady, walk_text};
 ghost use Rattle.store_core.specs.Refusals.{Cause};
-ghost use Rattle.store_core.specs.Stopping.{StopsWriting};
 ghost use Rattle.store_core.specs.Machine.{Saves, SavesGrammar};
 ghost use Rattle.store_core.specs.Texts.{answer_line};
 
@@ -44,6 +43,7 @@ pub(crate) fn save_document<F: Shelf, L: Ledger>(
     ensures refused { IfErr result (λ refusal. let state = Some (parts_of store.now) in
         Cause refusal (act.Save name.now) (world state (F.told shelf.old) (F.faults shelf.old)) (world state (F.told shelf.new) (F.faults shelf.new))) }
     ensures files { OnErr result (Stays (told_files (F.told shelf.old)) (told_files (F.told shelf.new))) }
+    ensures idle { IsIdle (F.told shelf.old) → IsIdle (F.told shelf.new) }
     ensures memory { result ≡ Err Refusal.Memory → F.told shelf.new ≡ F.told shelf.old }
 {
     let walk = document_walk(alloc, store, steps)?;
@@ -89,6 +89,7 @@ fn write_pending<F: Shelf, L: Ledger>(
     ensures written { OnOk result (Gets (pending_bytes (F.told shelf.old)) (pending_bytes (F.told shelf.new)) (walk_text store.now walk)) }
     ensures count { IfOk result (λ count. count ≡ length (walk_text store.now walk)) }
     ensures beside { Stays (beside_of (F.told shelf.old)) (beside_of (F.told shelf.new)) }
+    ensures lost { OnErr result (IfSome (pending_bytes (F.told shelf.old)) (λ _. pending_bytes (F.told shelf.new) ≡ None)) }
     ensures later { F.faults shelf.old ≤ F.faults shelf.new }
     ensures refused { IfErr result (λ refusal. (refusal ≡ Refusal.WriteFault) × Rose (F.faults shelf.old) (F.faults shelf.new)) }
 {
@@ -111,6 +112,7 @@ pub(crate) fn save_grammar<F: Shelf>(
     ensures refused { IfErr result (λ refusal. let state = Some (parts_of store.now) in
         Cause refusal (act.SaveGrammar name.now) (world state (F.told shelf.old) (F.faults shelf.old)) (world state (F.told shelf.new) (F.faults shelf.new))) }
     ensures files { OnErr result (Stays (told_files (F.told shelf.old)) (told_files (F.told shelf.new))) }
+    ensures idle { IsIdle (F.told shelf.old) → IsIdle (F.told shelf.new) }
 {
     written(shelf.create(name))?;
     let bytes = write_grammar(store, shelf)?;
@@ -127,13 +129,15 @@ fn write_grammar<F: Shelf>(store: &Store, shelf: &mut F) -> Result<u128, Refusal
     ensures written { OnOk result (Gets (pending_bytes (F.told shelf.old)) (pending_bytes (F.told shelf.new)) (file_bytes store.now.names (rules_of store.now.grammar.rules) store.now.texts.texts)) }
     ensures count { IfOk result (λ count. count ≡ length (file_bytes store.now.names (rules_of store.now.grammar.rules) store.now.texts.texts)) }
     ensures beside { Stays (beside_of (F.told shelf.old)) (beside_of (F.told shelf.new)) }
+    ensures lost { OnErr result (IfSome (pending_bytes (F.told shelf.old)) (λ _. pending_bytes (F.told shelf.new) ≡ None)) }
     ensures later { F.faults shelf.old ≤ F.faults shelf.new }
-    ensures refused { IfErr result (λ refusal. StopsWriting refusal (F.faults shelf.old) (F.faults shelf.new)) }
+    ensures refused { IfErr result (λ refusal. (refusal ≡ Refusal.WriteFault) × Rose (F.faults shelf.old) (F.faults shelf.new)) }
 {
     let mut pending = Pending::new(shelf);
     match grammar_file::write(&store.grammar, &store.names, &store.texts, &mut pending) {
         Ok(bytes) => Ok(bytes),
         Err(WriteError::Failed) => Err(Refusal::WriteFault),
-        Err(WriteError::Memory) => Err(Refusal::Memory),
+        // The writing takes no memory.
+        Err(WriteError::Memory) => unreachable!(),
     }
 }

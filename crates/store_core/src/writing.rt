@@ -1,7 +1,7 @@
 // Writing a node to a sink, token by token.
 ghost use Rattle.std.specs.Prelude.{◌≡◌, ◌≤◌, ◌<◌, ◌^◌, true, Ok, Err, IfOk, OnOk, OnErr, MatchResult, drop, length, slice_get, vec_capacity, vec_len};
 ghost use Rattle.tree_outside.specs.Outside.{Gets, GetsFront, Rose, Writes};
-ghost use Rattle.tree_outside.specs.Shelf.{Keeps};
+ghost use Rattle.tree_outside.specs.Shelf.{Keeps, Loses};
 ghost use Rattle.xml_nodes.specs.Pen.{new_pen};
 ghost use Rattle.xml_nodes.specs.WriterOf.{pen_of, sink_of, sink_name, count_of};
 ghost use Rattle.store_core.specs.Making.{Makes, seen};
@@ -31,6 +31,7 @@ pub(crate) fn write_node<K: Sink, L: Ledger>(
     ensures written { MatchResult result (λ _. Gets (K.got sink.old) (K.got sink.new) (walk_text store.now walk)) (λ _. GetsFront (K.got sink.old) (K.got sink.new) (walk_text store.now walk)) }
     ensures count { IsCountable store.now walk → IfOk result (λ count. count ≡ length (walk_text store.now walk)) }
     ensures kept { Keeps (K.kept sink.old) (K.kept sink.new) }
+    ensures lost { Loses (K.kept sink.old) (K.got sink.old) (K.got sink.new) result }
     ensures later { K.faults sink.old ≤ K.faults sink.new }
     ensures failed { OnErr result (Rose (K.faults sink.old) (K.faults sink.new)) }
 {
@@ -56,6 +57,7 @@ fn write_tokens<K: Sink, L: Ledger>(
     ensures written { Writes (K.got (sink_of writer.old)) (K.got (sink_of writer.new)) result (walk_text store.now walk) }
     ensures count { IsCountable store.now walk → OnOk result (count_of writer.new ≡ length (walk_text store.now walk)) }
     ensures kept { Keeps (K.kept (sink_of writer.old)) (K.kept (sink_of writer.new)) }
+    ensures lost { Loses (K.kept (sink_of writer.old)) (K.got (sink_of writer.old)) (K.got (sink_of writer.new)) result }
     ensures later { K.faults (sink_of writer.old) ≤ K.faults (sink_of writer.new) }
     ensures failed { OnErr result (Rose (K.faults (sink_of writer.old)) (K.faults (sink_of writer.new))) }
     ensures same_reference { sink_name writer.new ≡ sink_name writer.old }

@@ -1,7 +1,8 @@
 use Rattle.std.proofs.Common.{◌≡◌, ℕ, drop, length, length-drop, refl, sym, subst, ◌∙◌, ap, arith}
-use Rattle.std.specs.Prelude.{vec_capacity, vec_len}
+use Rattle.std.specs.Prelude.{Result, Err, vec_capacity, vec_len}
 use Rattle.std.proofs.lemmas.Result.{err_from_is_err_and}
-use Rattle.tree_outside.proofs.Beside.{Keeps-refl, Keeps-trans}
+use Rattle.tree_outside.proofs.Beside.{Keeps-refl, Keeps-trans, Loses-after}
+use Rattle.tree_outside.specs.declared.traits.Failed.{Failed}
 use Rattle.value_cursor.specs.Cursors.{tokens_of}
 use Rattle.xml_nodes.specs.Pen.{Pen}
 use Rattle.xml_nodes.specs.WriterOf.{sink_of}
@@ -55,3 +56,12 @@ pub returns-in_err-write_token-clause-written : goal.returns-in_err-write_token-
 returns-in_err-write_token-clause-written g c =
     let failed = err_from_is_err_and c.from_residual.result c.from_residual.ensures.1 in
     rw failed.1 (writing_fails _ _ _ _ _ _ c.in-Some.token _ _ _ _ _ c.loop-token.invariant.writing c.in-Some.ensures.token c.in_err-write_token.ensures.makes.written)
+
+pub returns-in_err-write_token-clause-lost : goal.returns-in_err-write_token-clause-lost
+returns-in_err-write_token-clause-lost g c =
+    let failed = err_from_is_err_and c.from_residual.result c.from_residual.ensures.1 in
+    let w = c.loop-token.invariant.writing in
+    let e = c.in_err-write_token.ensures.makes in
+    let stopped : Result (Unit {0}) Failed = Err failed.0 in
+    rw failed.1
+    (Loses-after _ _ _ _ (g.K.Sink.got (sink_of c.write_token.new.writer)) stopped w.done c.loop-token.invariant.kept w.got e.lost)

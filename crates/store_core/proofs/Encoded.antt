@@ -1,11 +1,13 @@
 -- The grammar of a document's code.
-use Rattle.std.proofs.Common.{◌≡◌, List, [], refl, inl, inr, arith}
-use Rattle.plain_tree.specs.Tree.{Tree, none, more}
+use Rattle.std.proofs.Common.{◌≡◌, List, [], sum_by, refl, inl, inr, arith}
+use Rattle.plain_tree.specs.Tree.{Tree, none, more, node_count}
 use Rattle.plain_tree.specs.Numbers.{texts}
 use Rattle.plain_tree.specs.Lawful.{IsDocument}
 use Rattle.slt_grammar.specs.Terms.{Term}
 use Rattle.slt_grammar.specs.Coding.{Codes}
-use Rattle.slt_grammar.specs.Grammars.{IsGrammar, IsSwept}
+use Rattle.segment_counts.specs.Weights.{node_weight}
+use Rattle.slt_grammar.specs.Grammars.{IsGrammar, IsSwept, value}
+use Rattle.slt_grammar.specs.Segments.{listed}
 use Rattle.slt_grammar.specs.Standing.{StandsFor}
 use Rattle.slt_grammar.specs.Faults.{Shows}
 use Rattle.slt_grammar.specs.declared.rules.Rule.{Rule}
@@ -16,6 +18,7 @@ use Rattle.fcns_encoding.specs.Interning.{Pair, Interns, pairs_of_tree}
 use Rattle.fcns_encoding.proofs.InternLemmas.{Interns-distinct}
 use Rattle.fcns_encoding.proofs.LabelLemmas.{one-rule-stands}
 use Rattle.fcns_encoding.proofs.LawfulLemmas.{names-lawful}
+use Rattle.store_core.proofs.Walks.{weight-coded}
 
 -- the one rule of a document's code stands for it, with names that began as none
 pub encoded : (t : Tree) (names : List Pair) (term : Term) → IsDocument t → Interns [] (pairs_of_tree t) names → Codes names (more t none) term
@@ -31,3 +34,15 @@ no_fault G (Rank r) is swept other (inr e) = e.2 (is.each r e.0.there).shaped
 no_fault G (Linear r) is swept other shows = shows.3 (is.each r shows.0.there).linear
 no_fault G (Unused r) is swept other shows = absurd (omega (arith, swept r shows.there, shows.uncalled))
 no_fault G Memory is swept other shows = other refl
+
+-- what the rules of a document's code are
+pub record IsEncoded (t : Tree) (names : List Pair) (G : List Rule) : Type 0 where
+  pub grammar : IsGrammar G
+  pub swept : IsSwept G
+  pub stands : StandsFor G names (texts t) t
+  pub few : sum_by node_weight (listed (value G) []) ≡ node_count t
+
+pub encoded_rules : (t : Tree) (names : List Pair) (term : Term) (G : List Rule) → IsDocument t → Interns [] (pairs_of_tree t) names → Codes names (more t none) term → G ≡ one_rule term → IsEncoded t names G
+encoded_rules t names term G document interns code same =
+    let is = encoded t names term document interns code in
+    rw same (record { grammar = is.0; swept = is.1; stands = is.2; few = weight-coded names t (value (one_rule term)) is.2.code })

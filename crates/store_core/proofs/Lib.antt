@@ -1,11 +1,11 @@
 pub mod ReadSteps
 pub mod Feeds
 pub mod FoundFiles
-pub mod Walked
 pub mod Sinks
-pub mod Makings
 pub mod LeafTexts
+pub mod Rooms
+pub mod Walks
 pub mod Saves
 pub mod Shapes
-pub mod Bodies
+pub mod NodeCalls
 pub mod Encoded

@@ -1,8 +1,8 @@
 -- What a sink gets, over several writes.
-use Rattle.std.specs.Prelude.{ℕ, List, [], ◌++◌, Option, Some, None}
+use Rattle.std.specs.Prelude.{ℕ, List, [], ◌++◌, Option, Some, None, Result, Ok, Err}
 use Rattle.std.proofs.Common.{sym, ap, ◌∙◌, subst}
 use Rattle.std.proofs.lemmas.List.{append_assoc, append-nil}
-use Rattle.tree_outside.specs.Outside.{Gets}
+use Rattle.tree_outside.specs.Outside.{Gets, GetsFront, Writes}
 
 pub Gets-nil : (a : Option (List ℕ)) → Gets a a []
 Gets-nil None = tt
@@ -13,3 +13,22 @@ Gets-append None b c x y h k = tt
 Gets-append (Some got) b c x y h k =
     let P : Option (List ℕ) → Type 0 = λ o. Gets o c y in
     subst P h k ∙ ap Some (append_assoc got x y)
+
+-- a front of the first bytes is one of all
+pub GetsFront-first : (a b : Option (List ℕ)) (x y : List ℕ) → GetsFront a b x → GetsFront a b (x ++ y)
+GetsFront-first None b x y h = tt
+GetsFront-first (Some got) None x y h = tt
+GetsFront-first (Some got) (Some now) x y h = (h.0, (h.1.0 ++ y, ap (λ z. z ++ y) h.1.1 ∙ append_assoc h.0 h.1.0 y), h.2)
+
+pub GetsFront-after : (a b c : Option (List ℕ)) (x y : List ℕ) → Gets a b x → GetsFront b c y → GetsFront a c (x ++ y)
+GetsFront-after None b c x y h k = tt
+GetsFront-after (Some got) b None x y h k = tt
+GetsFront-after (Some got) b (Some now) x y h k =
+    let P : Option (List ℕ) → Type 0 = λ o. GetsFront o (Some now) y in
+    let r = subst P h k in
+    (x ++ r.0, (r.1.0, ap (λ z. x ++ z) r.1.1 ∙ sym (append_assoc x r.0 r.1.0)), r.2 ∙ append_assoc got x r.0)
+
+-- a write after these bytes
+pub Writes-after : {E : Type 0} (r : Result (Unit {0}) E) (a b c : Option (List ℕ)) (x y : List ℕ) → Gets a b x → Writes b c r y → Writes a c r (x ++ y)
+Writes-after (Ok u) a b c x y h k = Gets-append a b c x y h k
+Writes-after (Err e) a b c x y h k = GetsFront-after a b c x y h k

@@ -1,5 +1,5 @@
 -- What is known while the open file is fed to a reader of XML.
-use Rattle.std.specs.Prelude.{◌≡◌, ◌<◌, ◌^◌, ℕ, List, length, Option, IfSome, None}
+use Rattle.std.specs.Prelude.{◌≡◌, ◌<◌, ◌^◌, ℕ, List, length, Option, IfSome, Some, None}
 use Rattle.tree_outside.specs.Files.{Told}
 use Rattle.plain_tree.specs.Tree.{Tree}
 use Rattle.xml_nodes.specs.Machine.{Event}
@@ -21,6 +21,10 @@ pub record HasFed (reader : Reader) (built : Built) (bytes : List ℕ) : Type 0 
 pub record HasLeft (told : Option Told) (bytes : List ℕ) : Type 0 where
   pub short : length bytes < 2 ^ 30
   pub whole : IfSome told (λ t. t.left ≡ bytes)
+
+-- nothing changes but what is left of the open file
+abbrev pub OnlyReads : Option Told → Option Told → Type 0
+OnlyReads old new = IfSome old (λ t. (rest : List ℕ) × (new ≡ Some (record t { left = rest })))
 
 -- all that was left of the open file was fed
 pub record FeedsFile (told : Option Told) (reader : Reader) (built : Built) : Type 0 where

@@ -8,4 +8,5 @@ pub mod Saving
 pub mod Stopping
 pub mod StoreOf
 pub mod Texts
+pub mod Walking
 pub mod Worlds

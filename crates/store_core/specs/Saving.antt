@@ -1,25 +1,24 @@
--- The calls of a writer that the labels of a body ask for.
+-- The calls of a writer that the tokens of a node ask for.
 use Rattle.std.specs.Prelude.{ℕ, ◌+◌, ◌^◌, true, List, [], ◌∷◌, drop, length, Option, Some, None, slice_get, if◌then◌else◌}
 use Rattle.std.specs.Option.{option_map, option_and_then}
 use Rattle.tree_outside.specs.ByteCounts.{counted}
 use Rattle.plain_tree.specs.declared.kind.Kind.{Kind}
 use Rattle.plain_tree.specs.declared.kind.Kind.TheVariants.{Document, Element, Attribute, Text, Comment, Instruction}
 use Rattle.plain_tree.specs.Numbers.{has_value}
-use Rattle.rule_arena.specs.declared.label.Label.{Label}
-use Rattle.rule_arena.specs.declared.label.Label.TheVariants.{Bottom, Symbol, Call as CallOf, Param}
+use Rattle.value_cursor.specs.declared.cursor.Token.{Token}
+use Rattle.value_cursor.specs.declared.cursor.Token.TheVariants as token
 use Rattle.xml_nodes.specs.Pen.{Call, Open, Leaf, Close, Pen, call_text, pen_after, new_pen, calls_text}
 
 -- a kind and a name, where a symbol has one
 abbrev pub Named : Type 0
 Named = Option (Kind × List ℕ)
 
--- where a walk along a body stands: the symbols of the nodes whose kids are not at their end, the innermost first, and the texts
--- that are left
+-- where a walk along tokens stands: the symbols of the nodes that are open, the innermost first, and the texts that are left
 pub record Place : Type 0 where
   pub outer : List ℕ
   pub texts : List (List ℕ)
 
--- before the first label
+-- before the first token
 abbrev pub start_place : List (List ℕ) → Place
 start_place texts = record { outer = []; texts = texts }
 
@@ -43,33 +42,29 @@ abbrev pub end_call : Named → Option Call
 end_call (Some (Element, name)) = Some (Close name)
 end_call named = None
 
--- the call for a label, if one
-abbrev pub call_at : List (Kind × List ℕ) → Place → Label → Option Call
-call_at names place Bottom = option_and_then (λ f. end_call (slice_get names f)) (slice_get place.outer 0)
-call_at names place (Symbol f) = begin_call (slice_get names f) place.texts
-call_at names place (CallOf q) = None
-call_at names place Param = None
+-- the call for a token, if one
+abbrev pub call_at : List (Kind × List ℕ) → Place → Token → Option Call
+call_at names place token.Close = option_and_then (λ f. end_call (slice_get names f)) (slice_get place.outer 0)
+call_at names place (token.Open f) = begin_call (slice_get names f) place.texts
 
--- one label further
-abbrev pub place_after : List (Kind × List ℕ) → Place → Label → Place
-place_after names place Bottom = record { outer = drop 1 place.outer; texts = place.texts }
-place_after names place (Symbol f) = record { outer = f ∷ place.outer; texts = texts_past (slice_get names f) place.texts }
-place_after names place (CallOf q) = place
-place_after names place Param = place
+-- one token further
+abbrev pub place_after : List (Kind × List ℕ) → Place → Token → Place
+place_after names place token.Close = record { outer = drop 1 place.outer; texts = place.texts }
+place_after names place (token.Open f) = record { outer = f ∷ place.outer; texts = texts_past (slice_get names f) place.texts }
 
 -- the call, if there is one, and then the others
 abbrev pub with_call : Option Call → List Call → List Call
 with_call None cs = cs
 with_call (Some c) cs = c ∷ cs
 
--- the calls for labels in preorder
-abbrev pub body_calls : List (Kind × List ℕ) → Place → List Label → List Call
-body_calls names place [] = []
-body_calls names place (l ∷ ls) = with_call (call_at names place l) (body_calls names (place_after names place l) ls)
+-- the calls for tokens
+abbrev pub token_calls : List (Kind × List ℕ) → Place → List Token → List Call
+token_calls names place [] = []
+token_calls names place (t ∷ ts) = with_call (call_at names place t) (token_calls names (place_after names place t) ts)
 
--- what is written of a body, with these texts
-abbrev pub body_text : List (Kind × List ℕ) → List (List ℕ) → List Label → List ℕ
-body_text names texts body = calls_text (new_pen true) (body_calls names (start_place texts) body)
+-- what is written of tokens, with these texts
+abbrev pub tokens_text : List (Kind × List ℕ) → List (List ℕ) → List Token → List ℕ
+tokens_text names texts ts = calls_text (new_pen true) (token_calls names (start_place texts) ts)
 
 -- 1 for an element
 abbrev pub element_count : Named → ℕ
@@ -89,8 +84,8 @@ text_at pen (Some call) = call_text pen call
 -- at most so many bytes are that
 abbrev pub most_text : Option Call → ℕ
 most_text None = 0
-most_text (Some (Open name)) = 2 ^ 64
-most_text (Some (Close name)) = 2 ^ 64
+most_text (Some (Open name)) = 2 ^ 63 + 8
+most_text (Some (Close name)) = 2 ^ 63 + 8
 most_text (Some (Leaf kind name value)) = 2 ^ 66
 
 -- the pen after it

@@ -1,4 +1,4 @@
--- Why a reading or a writing is not done to its end.
+-- Why a reading is not done to its end.
 use Rattle.std.specs.Prelude.{◌≤◌, ◌^◌, ℕ, List, length, Option, IfSome}
 use Rattle.tree_outside.specs.Files.{Told}
 use Rattle.tree_outside.specs.Outside.{Rose}
@@ -16,12 +16,6 @@ StopsReading no.LongFile told before now = IfSome told (λ t. 2 ^ 30 ≤ length 
 StopsReading (no.BadXml at) told before now = (bytes : List ℕ) × HasLeft told bytes × IsBad bytes at
 StopsReading no.Memory told before now = Unit {0}
 StopsReading _ told before now = ⊥
-
--- why a pending file is not written to its end: a write failed, or there is no memory
-abbrev pub StopsWriting : Refusal → ℕ → ℕ → Type 0
-StopsWriting no.WriteFault before now = Rose before now
-StopsWriting no.Memory before now = Unit {0}
-StopsWriting _ before now = ⊥
 
 abbrev pub refusal_of : XmlError → Refusal
 refusal_of (xml.Bad at) = no.BadXml at

@@ -1,7 +1,7 @@
 -- What a command finds and leaves.
-use Rattle.std.specs.Prelude.{◌≡◌, ◌<◌, ◌^◌, ℕ, List, length, Option, IfSome, Some, None}
+use Rattle.std.specs.Prelude.{◌≡◌, ◌<◌, ◌^◌, ℕ, List, [], Option, IfSome, Some, None}
 use Rattle.std.specs.FinMap.{get}
-use Rattle.std.specs.Option.{option_map}
+use Rattle.std.specs.Option.{IsSomeAnd, option_map}
 use Rattle.plain_tree.specs.declared.kind.Kind.{Kind}
 use Rattle.plain_tree.specs.Tree.{Tree, node_count}
 use Rattle.slt_grammar.specs.declared.rules.Rule.{Rule}
@@ -28,8 +28,6 @@ pub record AreLawfulParts (parts : Parts) : Type 0 where
   pub small : node_count tree < 2 ^ 63
   pub grammar : IsGrammar parts.rules
   pub swept : IsSwept parts.rules
-  -- as yet the start is the only rule
-  pub one : length parts.rules ≡ 1
 
 -- nothing, or what is held of the document that is loaded
 abbrev pub State : Type 0
@@ -50,6 +48,10 @@ told_files told = option_map (λ t. t.files) told
 
 abbrev pub world : State → Option Told → ℕ → World
 world state told count = record { state = state; files = told_files told; count = count }
+
+-- the shelf tells that no file is open and none is pending
+abbrev pub IsIdle : Option Told → Type 0
+IsIdle told = IsSomeAnd told (λ t. (t.left ≡ []) × (t.pending ≡ None))
 
 -- state and files are as before
 pub record Same (old new : World) : Type 0 where

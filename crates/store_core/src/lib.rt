@@ -1,8 +1,8 @@
 //! The session: one document and the commands that read, change and write it.
 //!
 //! `Session::command` is one step of the plain tree machine (specs/Machine): what the command prints, what it leaves of the
-//! session and of the shelf's files. The document is held as a `Store`. Commands are in `loading` and `saving`, the walk that
-//! writes a document is in `writing`; `answer` has the lines that commands print.
+//! session and of the shelf's files. The document is held as a `Store`. Commands are in `loading` and `saving`, the walk over
+//! a node is in `walking`, and what it writes in `writing`; `answer` has the lines that commands print.
 #![tactic(auto)]
 
 mod answer;
@@ -12,6 +12,7 @@ mod reading;
 mod saving;
 mod session;
 mod store;
+mod walking;
 mod writing;
 
 pub use answer::{Answer, Refusal};

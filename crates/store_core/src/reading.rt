@@ -3,7 +3,7 @@ ghost use Rattle.std.specs.Prelude.{◌≡◌, ◌≤◌, [], IfOk, IfErr, OnOk}
 ghost use Rattle.tree_outside.specs.Outside.{Stays};
 ghost use Rattle.plain_tree.specs.NodeTree.{tree_of};
 ghost use Rattle.store_core.specs.Worlds.{told_files};
-ghost use Rattle.store_core.specs.Feeding.{HasFed, FeedsFile, ReadsDocument};
+ghost use Rattle.store_core.specs.Feeding.{HasFed, FeedsFile, OnlyReads, ReadsDocument};
 ghost use Rattle.store_core.specs.Stopping.{StopsReading};
 
 use crate::answer::Refusal;
@@ -22,6 +22,7 @@ const PIECE: usize = 1 << 16;
 pub(crate) fn read_document<F: Shelf>(alloc: Global, shelf: &mut F) -> Result<Node, Refusal>
     ensures later { F.faults shelf.old ≤ F.faults shelf.new }
     ensures files { Stays (told_files (F.told shelf.old)) (told_files (F.told shelf.new)) }
+    ensures only { OnlyReads (F.told shelf.old) (F.told shelf.new) }
     ensures document { IfOk result (λ document. ReadsDocument (F.told shelf.old) (tree_of document)) }
     ensures refused { IfErr result (λ refusal. StopsReading refusal (F.told shelf.old) (F.faults shelf.old) (F.faults shelf.new)) }
 {
@@ -43,6 +44,7 @@ fn feed_file<F: Shelf>(
     requires { HasFed reader.old builder.old [] }
     ensures later { F.faults shelf.old ≤ F.faults shelf.new }
     ensures files { Stays (told_files (F.told shelf.old)) (told_files (F.told shelf.new)) }
+    ensures only { OnlyReads (F.told shelf.old) (F.told shelf.new) }
     ensures feeds { OnOk result (FeedsFile (F.told shelf.old) reader.new builder.new) }
     ensures refused { IfErr result (λ refusal. StopsReading refusal (F.told shelf.old) (F.faults shelf.old) (F.faults shelf.new)) }
 {

@@ -1,25 +1,31 @@
 // Writing a document, or what is held of it, to the shelf.
-ghost use Rattle.std.specs.Prelude.{◌≡◌, ◌≤◌, Some, IfOk, IfErr, OnOk, OnErr, length};
-ghost use Rattle.tree_outside.specs.Outside.{Gets, Stays};
+ghost use Rattle.std.specs.Prelude.{◌≡◌, ◌≤◌, Some, None, Err, IfOk, IfErr, IfSome, OnOk, OnErr, length};
+ghost use Rattle.tree_outside.specs.Outside.{Gets, Rose, Stays};
 ghost use Rattle.tree_outside.specs.Shelf.{beside_of, pending_bytes};
 ghost use Rattle.slt_grammar.specs.Keyed.{rules_of};
 ghost use Rattle.grammar_file.specs.FileBytes.{file_bytes};
 ghost use Rattle.store_core.specs.Acts as act;
-ghost use Rattle.store_core.specs.Worlds.{AreLawfulParts, told_files, world};
-ghost use Rattle.store_core.specs.StoreOf.{parts_of, start_text};
+ghost use Rattle.plain_tree.specs.Tree.{Tree};
+ghost use Rattle.xml_nodes.specs.Saved.{saved_bytes};
+ghost use Rattle.store_core.specs.Worlds.{AreLawfulParts, IsIdle, PartsStandFor, told_files, world};
+ghost use Rattle.store_core.specs.StoreOf.{IsCounted, parts_of};
+ghost use Rattle.store_core.specs.Walking.{IsCountable, IsReady, walk_text};
 ghost use Rattle.store_core.specs.Refusals.{Cause};
-ghost use Rattle.store_core.specs.Stopping.{StopsWriting};
 ghost use Rattle.store_core.specs.Machine.{Saves, SavesGrammar};
 ghost use Rattle.store_core.specs.Texts.{answer_line};
 
 use crate::answer::{Answer, Refusal};
 use crate::store::Store;
-use crate::writing::{write_document, written};
+use crate::walking::NodeWalk;
+use crate::writing::{write_node, written};
 use grammar_file::WriteError;
 use read_steps::Steps;
-use std::alloc::Global;
+use std::alloc::{AllocError, Global};
 use std::sync::ledger::Ledger;
-use tree_outside::{Pending, Shelf};
+use tree_outside::{Failed, Pending, Shelf};
+
+// What is saved has fewer texts.
+const MOST_TEXTS: u64 = 1 << 60;
 
 /// Writes the document to the file with this name, and answers how many bytes that were.
 pub(crate) fn save_document<F: Shelf, L: Ledger>(
@@ -29,35 +35,69 @@ pub(crate) fn save_document<F: Shelf, L: Ledger>(
     shelf: &mut F,
     steps: &mut Steps<L>,
 ) -> Result<u128, Refusal>
-    requires { AreLawfulParts (parts_of store.now) }
+    requires held { AreLawfulParts (parts_of store.now) }
+    requires counted { IsCounted store.now }
     ensures later { F.faults shelf.old ≤ F.faults shelf.new }
     ensures saves { IfOk result (λ count. let state = Some (parts_of store.now) in
         Saves name.now (world state (F.told shelf.old) (F.faults shelf.old)) (answer_line (Answer.Bytes count)) (world state (F.told shelf.new) (F.faults shelf.new))) }
     ensures refused { IfErr result (λ refusal. let state = Some (parts_of store.now) in
         Cause refusal (act.Save name.now) (world state (F.told shelf.old) (F.faults shelf.old)) (world state (F.told shelf.new) (F.faults shelf.new))) }
     ensures files { OnErr result (Stays (told_files (F.told shelf.old)) (told_files (F.told shelf.new))) }
+    ensures idle { IsIdle (F.told shelf.old) → IsIdle (F.told shelf.new) }
+    ensures memory { result ≡ Err Refusal.Memory → F.told shelf.new ≡ F.told shelf.old }
 {
+    let walk = document_walk(alloc, store, steps)?;
     written(shelf.create(name))?;
-    let count = write_pending(alloc, store, shelf, steps)?;
+    let count = write_pending(store, walk, shelf, steps)?;
     written(shelf.seal())?;
     Ok(count)
 }
 
-// Adds the document to the pending file, and answers how many bytes that is.
-fn write_pending<F: Shelf, L: Ledger>(
+// The walk over the document, with all the memory that its saving takes.
+fn document_walk<L: Ledger>(
     alloc: Global,
     store: &Store,
+    steps: &mut Steps<L>,
+) -> Result<NodeWalk, AllocError>
+    requires held { AreLawfulParts (parts_of store.now) }
+    requires counted { IsCounted store.now }
+    ensures ready { IfOk result (IsReady store.now) }
+    ensures text { IfOk result (λ walk. (t : Tree) → PartsStandFor (parts_of store.now) t → walk_text store.now walk ≡ saved_bytes t) }
+    ensures countable { IfOk result (IsCountable store.now) }
+{
+    // No memory holds so many texts, and the count of the bytes of fewer fits.
+    if store.texts.len() >= MOST_TEXTS {
+        return Err(AllocError);
+    }
+    let found = NodeWalk::new(alloc, store, 0, 0, steps)?;
+    match found {
+        Some(walk) => Ok(walk),
+        // A document has a node.
+        None => unreachable!(),
+    }
+}
+
+// Adds the document to the pending file, and answers how many bytes that is.
+fn write_pending<F: Shelf, L: Ledger>(
+    store: &Store,
+    walk: NodeWalk,
     shelf: &mut F,
     steps: &mut Steps<L>,
 ) -> Result<u128, Refusal>
-    ensures written { OnOk result (Gets (pending_bytes (F.told shelf.old)) (pending_bytes (F.told shelf.new)) (start_text store.now)) }
-    ensures count { IfOk result (λ count. count ≡ length (start_text store.now)) }
+    requires ready { IsReady store.now walk }
+    requires countable { IsCountable store.now walk }
+    ensures written { OnOk result (Gets (pending_bytes (F.told shelf.old)) (pending_bytes (F.told shelf.new)) (walk_text store.now walk)) }
+    ensures count { IfOk result (λ count. count ≡ length (walk_text store.now walk)) }
     ensures beside { Stays (beside_of (F.told shelf.old)) (beside_of (F.told shelf.new)) }
+    ensures lost { OnErr result (IfSome (pending_bytes (F.told shelf.old)) (λ _. pending_bytes (F.told shelf.new) ≡ None)) }
     ensures later { F.faults shelf.old ≤ F.faults shelf.new }
-    ensures refused { IfErr result (λ refusal. StopsWriting refusal (F.faults shelf.old) (F.faults shelf.new)) }
+    ensures refused { IfErr result (λ refusal. (refusal ≡ Refusal.WriteFault) × Rose (F.faults shelf.old) (F.faults shelf.new)) }
 {
     let mut pending = Pending::new(shelf);
-    write_document(alloc, store, &mut pending, steps)
+    match write_node(store, walk, &mut pending, steps) {
+        Ok(count) => Ok(count),
+        Err(Failed) => Err(Refusal::WriteFault),
+    }
 }
 
 /// Writes the names, the grammar and the texts to the file with this name, and answers how much that was.
@@ -72,6 +112,7 @@ pub(crate) fn save_grammar<F: Shelf>(
     ensures refused { IfErr result (λ refusal. let state = Some (parts_of store.now) in
         Cause refusal (act.SaveGrammar name.now) (world state (F.told shelf.old) (F.faults shelf.old)) (world state (F.told shelf.new) (F.faults shelf.new))) }
     ensures files { OnErr result (Stays (told_files (F.told shelf.old)) (told_files (F.told shelf.new))) }
+    ensures idle { IsIdle (F.told shelf.old) → IsIdle (F.told shelf.new) }
 {
     written(shelf.create(name))?;
     let bytes = write_grammar(store, shelf)?;
@@ -88,13 +129,15 @@ fn write_grammar<F: Shelf>(store: &Store, shelf: &mut F) -> Result<u128, Refusal
     ensures written { OnOk result (Gets (pending_bytes (F.told shelf.old)) (pending_bytes (F.told shelf.new)) (file_bytes store.now.names (rules_of store.now.grammar.rules) store.now.texts.texts)) }
     ensures count { IfOk result (λ count. count ≡ length (file_bytes store.now.names (rules_of store.now.grammar.rules) store.now.texts.texts)) }
     ensures beside { Stays (beside_of (F.told shelf.old)) (beside_of (F.told shelf.new)) }
+    ensures lost { OnErr result (IfSome (pending_bytes (F.told shelf.old)) (λ _. pending_bytes (F.told shelf.new) ≡ None)) }
     ensures later { F.faults shelf.old ≤ F.faults shelf.new }
-    ensures refused { IfErr result (λ refusal. StopsWriting refusal (F.faults shelf.old) (F.faults shelf.new)) }
+    ensures refused { IfErr result (λ refusal. (refusal ≡ Refusal.WriteFault) × Rose (F.faults shelf.old) (F.faults shelf.new)) }
 {
     let mut pending = Pending::new(shelf);
     match grammar_file::write(&store.grammar, &store.names, &store.texts, &mut pending) {
         Ok(bytes) => Ok(bytes),
         Err(WriteError::Failed) => Err(Refusal::WriteFault),
-        Err(WriteError::Memory) => Err(Refusal::Memory),
+        // The writing takes no memory.
+        Err(WriteError::Memory) => unreachable!(),
     }
 }

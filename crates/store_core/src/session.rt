@@ -1,5 +1,5 @@
 // The session and its commands.
-ghost use Rattle.std.specs.Prelude.{◌≡◌, ◌≤◌, List, ℕ, None};
+ghost use Rattle.std.specs.Prelude.{◌≡◌, ◌≤◌, List, ℕ, None, IfSome};
 ghost use Rattle.tree_outside.specs.Outside.{HasCause, Writes};
 ghost use Rattle.tree_outside.specs.Shelf.{Keeps};
 
@@ -39,19 +39,20 @@ impl Model for Session {
 
     ghost use Rattle.std.specs.Option.{option_map};
     ghost use Rattle.store_core.specs.Worlds.{IsLawfulState};
-    ghost use Rattle.store_core.specs.StoreOf.{parts_of};
+    ghost use Rattle.std.specs.Prelude.{IfSome};
+    ghost use Rattle.store_core.specs.StoreOf.{IsCounted, parts_of};
 
     ghost view = { λ a. option_map parts_of a.store };
 
-    ghost invariant = { λ a. IsLawfulState (option_map parts_of a.store) };
+    ghost invariant = { λ a. IsLawfulState (option_map parts_of a.store) × IfSome a.store IsCounted };
 }
 
 impl Session {
     ghost use Rattle.store_core.specs.Acts as act;
     ghost use Rattle.store_core.specs.CommandOf.{act_of};
     ghost use Rattle.store_core.specs.Machine.{Step, Comes};
-    ghost use Rattle.store_core.specs.Worlds.{IsLawfulState, world};
-    ghost use Rattle.store_core.specs.StoreOf.{parts_of};
+    ghost use Rattle.store_core.specs.Worlds.{IsIdle, IsLawfulState, world};
+    ghost use Rattle.store_core.specs.StoreOf.{IsCounted, parts_of};
     ghost use Rattle.std.specs.Option.{option_map};
 
     /// A session without a document. It takes no memory.
@@ -65,12 +66,14 @@ impl Session {
     pub fn document(&self) -> Option<&Store>
         ensures sees { option_map (λ s. parts_of s.now) result ≡ self.now }
         ensures held { IsLawfulState self.now }
+        ensures counted { IfSome result (λ s. IsCounted s.now) }
     {
         self.store.as_ref()
     }
 
     /// Does one command and writes its line, with one write of the sink. `SinkFailed` comes only where the sink failed;
-    /// session and shelf are then as after the command, and the sink got a front of the line.
+    /// session and shelf are then as after the command, and the sink got a front of the line. Where the shelf tells that no file
+    /// was open and none pending, that is so after the command too.
     ///
     /// The counter counts the reads of `save`. The settings serve commands that change a grammar, of which there is none yet.
     pub fn command<K: Sink, F: Shelf, L: Ledger>(
@@ -89,6 +92,7 @@ impl Session {
             (world self.new (F.told shelf.new) (F.faults shelf.new))
             × Writes (K.got sink.old) (K.got sink.new) result out }
         ensures kept { Keeps (K.kept sink.old) (K.kept sink.new) }
+        ensures idle { IsIdle (F.told shelf.old) → IsIdle (F.told shelf.new) }
         ensures cause { HasCause (K.faults sink.old) (K.faults sink.new) result }
     {
         let outcome = self.outcome(alloc, command, shelf, steps);
@@ -106,6 +110,7 @@ impl Session {
     ) -> Result<Answer, Refusal>
         ensures lawful { IsLawfulState self.old × IsLawfulState self.new }
         ensures later { F.faults shelf.old ≤ F.faults shelf.new }
+        ensures idle { IsIdle (F.told shelf.old) → IsIdle (F.told shelf.new) }
         ensures comes { Comes (act_of command.entry) (world self.old (F.told shelf.old) (F.faults shelf.old)) result (world self.new (F.told shelf.new) (F.faults shelf.new)) }
     {
         match command {
@@ -123,6 +128,7 @@ impl Session {
     ) -> Result<Answer, Refusal>
         ensures lawful { IsLawfulState self.old × IsLawfulState self.new }
         ensures later { F.faults shelf.old ≤ F.faults shelf.new }
+        ensures idle { IsIdle (F.told shelf.old) → IsIdle (F.told shelf.new) }
         ensures comes { Comes (act.Load name.now) (world self.old (F.told shelf.old) (F.faults shelf.old)) result (world self.new (F.told shelf.new) (F.faults shelf.new)) }
     {
         // A look at the field tells that what was held is lawful, also where the loading is refused.
@@ -141,6 +147,7 @@ impl Session {
     ) -> Result<Answer, Refusal>
         ensures lawful { IsLawfulState self.now }
         ensures later { F.faults shelf.old ≤ F.faults shelf.new }
+        ensures idle { IsIdle (F.told shelf.old) → IsIdle (F.told shelf.new) }
         ensures comes { Comes (act.Save name.now) (world self.now (F.told shelf.old) (F.faults shelf.old)) result (world self.now (F.told shelf.new) (F.faults shelf.new)) }
     {
         match &self.store {
@@ -155,6 +162,7 @@ impl Session {
     fn save_grammar<F: Shelf>(&self, name: &str, shelf: &mut F) -> Result<Answer, Refusal>
         ensures lawful { IsLawfulState self.now }
         ensures later { F.faults shelf.old ≤ F.faults shelf.new }
+        ensures idle { IsIdle (F.told shelf.old) → IsIdle (F.told shelf.new) }
         ensures comes { Comes (act.SaveGrammar name.now) (world self.now (F.told shelf.old) (F.faults shelf.old)) result (world self.now (F.told shelf.new) (F.faults shelf.new)) }
     {
         match &self.store {

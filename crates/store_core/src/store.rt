@@ -1,12 +1,14 @@
 // What a session holds of a document.
 use plain_tree::Names;
+use segment_counts::Counts;
 use slt_grammar::Grammar;
 use text_list::TextList;
 
-/// A document, held as a grammar over a table of names beside its texts.
+/// A document, held as a grammar over a table of names beside its texts, with the counts of the grammar's segments.
 #[derive(Drop)]
 pub struct Store {
     pub grammar: Grammar,
     pub names: Names,
     pub texts: TextList,
+    pub counts: Counts,
 }

@@ -1,47 +1,42 @@
-// Writing a document to a sink, from the body of its grammar's start.
-ghost use Rattle.std.specs.Prelude.{◌≡◌, ◌≤◌, ◌<◌, ◌+◌, ◌^◌, true, Ok, Err, IfOk, IfErr, OnOk, OnErr, MatchResult, drop, length, slice_get};
-ghost use Rattle.tree_outside.specs.Outside.{Gets, Rose};
-ghost use Rattle.tree_outside.specs.Shelf.{Keeps};
+// Writing a node to a sink, token by token.
+ghost use Rattle.std.specs.Prelude.{◌≡◌, ◌≤◌, ◌<◌, ◌^◌, true, Ok, Err, IfOk, OnOk, OnErr, MatchResult, drop, length, slice_get, vec_capacity, vec_len};
+ghost use Rattle.tree_outside.specs.Outside.{Gets, GetsFront, Rose, Writes};
+ghost use Rattle.tree_outside.specs.Shelf.{Keeps, Loses};
 ghost use Rattle.xml_nodes.specs.Pen.{new_pen};
 ghost use Rattle.xml_nodes.specs.WriterOf.{pen_of, sink_of, sink_name, count_of};
 ghost use Rattle.store_core.specs.Making.{Makes, seen};
-ghost use Rattle.store_core.specs.Stopping.{StopsWriting};
-ghost use Rattle.store_core.specs.StoreOf.{place_of, start_text};
 ghost use Rattle.store_core.specs.Saving.{begin_call, end_call, texts_past, call_at, place_after, element_count, depth_of};
+ghost use Rattle.store_core.specs.Walking.{HasPlace, IsCountable, IsReady, open_after, place_of, walk_text};
 
 use crate::answer::Refusal;
 use crate::store::Store;
+use crate::walking::{NodeWalk, TokenPlace};
 use plain_tree::{Kind, Names};
 use read_steps::Steps;
-use slt_grammar::Label;
-use std::alloc::{AllocError, Global};
 use std::sync::ledger::Ledger;
 use tree_outside::{Failed, Sink};
+use value_cursor::Token;
 use xml_nodes::Writer;
 
-// Where a walk along a body stands: the symbols of the nodes whose kids are not at their end, the innermost last, and how
-// many texts were used.
-#[derive(Drop)]
-struct BodyPlace {
-    outer: Vec<usize>,
-    used: u64,
-}
-
-/// Writes what the start's body says of the document, and answers how many bytes that is.
-pub(crate) fn write_document<K: Sink, L: Ledger>(
-    alloc: Global,
+/// Writes the node of a walk with a line feed behind it, and of the document each of its kids so. It answers how many bytes that
+/// is; the count ends at 2^128 - 1. `Failed` comes only where the sink failed, and the sink then got a front of them. It takes no
+/// memory.
+pub(crate) fn write_node<K: Sink, L: Ledger>(
     store: &Store,
+    walk: NodeWalk,
     sink: &mut K,
     steps: &mut Steps<L>,
-) -> Result<u128, Refusal>
-    ensures written { OnOk result (Gets (K.got sink.old) (K.got sink.new) (start_text store.now)) }
-    ensures count { IfOk result (λ count. count ≡ length (start_text store.now)) }
+) -> Result<u128, Failed>
+    requires { IsReady store.now walk }
+    ensures written { MatchResult result (λ _. Gets (K.got sink.old) (K.got sink.new) (walk_text store.now walk)) (λ _. GetsFront (K.got sink.old) (K.got sink.new) (walk_text store.now walk)) }
+    ensures count { IsCountable store.now walk → IfOk result (λ count. count ≡ length (walk_text store.now walk)) }
     ensures kept { Keeps (K.kept sink.old) (K.kept sink.new) }
+    ensures lost { Loses (K.kept sink.old) (K.got sink.old) (K.got sink.new) result }
     ensures later { K.faults sink.old ≤ K.faults sink.new }
-    ensures refused { IfErr result (λ refusal. StopsWriting refusal (K.faults sink.old) (K.faults sink.new)) }
+    ensures failed { OnErr result (Rose (K.faults sink.old) (K.faults sink.new)) }
 {
     let mut writer = Writer::new(sink, true);
-    let done = write_labels(alloc, store, &mut writer, steps);
+    let done = write_tokens(store, walk, &mut writer, steps);
     let count = writer.count();
     // What the writer wrote is known of the sink that it gives back.
     let _sink = writer.into_sink();
@@ -49,61 +44,59 @@ pub(crate) fn write_document<K: Sink, L: Ledger>(
     Ok(count)
 }
 
-// Makes the calls of the writer for the labels of the start's body.
-fn write_labels<K: Sink, L: Ledger>(
-    alloc: Global,
+// Makes the calls of the writer for the tokens of a walk.
+fn write_tokens<K: Sink, L: Ledger>(
     store: &Store,
+    walk: NodeWalk,
     writer: &mut Writer<'_, K>,
     steps: &mut Steps<L>,
-) -> Result<(), Refusal>
+) -> Result<(), Failed>
+    requires ready { IsReady store.now walk }
     requires pen { pen_of writer.old ≡ new_pen true }
     requires count { count_of writer.old ≡ 0 }
-    ensures written { OnOk result (Gets (K.got (sink_of writer.old)) (K.got (sink_of writer.new)) (start_text store.now)) }
-    ensures count { OnOk result (count_of writer.new ≡ length (start_text store.now)) }
+    ensures written { Writes (K.got (sink_of writer.old)) (K.got (sink_of writer.new)) result (walk_text store.now walk) }
+    ensures count { IsCountable store.now walk → OnOk result (count_of writer.new ≡ length (walk_text store.now walk)) }
     ensures kept { Keeps (K.kept (sink_of writer.old)) (K.kept (sink_of writer.new)) }
+    ensures lost { Loses (K.kept (sink_of writer.old)) (K.got (sink_of writer.old)) (K.got (sink_of writer.new)) result }
     ensures later { K.faults (sink_of writer.old) ≤ K.faults (sink_of writer.new) }
-    ensures refused { IfErr result (λ refusal. StopsWriting refusal (K.faults (sink_of writer.old)) (K.faults (sink_of writer.new))) }
+    ensures failed { OnErr result (Rose (K.faults (sink_of writer.old)) (K.faults (sink_of writer.new))) }
     ensures same_reference { sink_name writer.new ≡ sink_name writer.old }
 {
-    // The call tells that the bodies have fewer than 2^63 nodes.
-    let _limit = store.grammar.limit();
-    let mut place = BodyPlace {
-        outer: Vec::new(alloc),
-        used: 0,
-    };
-    let mut labels = store.grammar.walk(store.grammar.rules() - 1);
-    while let Some(label) = labels.next(steps) {
-        write_label(writer, store, &mut place, label)?;
+    let NodeWalk {
+        mut cursor,
+        mut place,
+    } = walk;
+    while let Some(token) = cursor.next(&store.grammar, steps) {
+        write_token(writer, store, &mut place, token)?;
     }
     Ok(())
 }
 
-// Makes the call of the writer for a label, if there is one.
-fn write_label<K: Sink>(
+// Makes the call of the writer for a token, if there is one.
+fn write_token<K: Sink>(
     writer: &mut Writer<'_, K>,
     store: &Store,
-    place: &mut BodyPlace,
-    label: Label,
-) -> Result<(), Refusal>
+    place: &mut TokenPlace,
+    token: Token,
+) -> Result<(), Failed>
     requires depth { (pen_of writer.old).depth ≡ depth_of store.now.names (place_of store.now place.old).outer }
-    requires used { place.old.used + 1 < 2 ^ 64 }
-    ensures makes { Makes (seen K.Sink writer.old) (seen K.Sink writer.new) result (call_at store.now.names (place_of store.now place.old) label) }
-    ensures place { OnOk result (place_of store.now place.new ≡ place_after store.now.names (place_of store.now place.old) label) }
+    requires room { HasPlace (vec_capacity place.old.outer) (vec_len place.old.outer) token }
+    ensures makes { Makes (seen K.Sink writer.old) (seen K.Sink writer.new) result (call_at store.now.names (place_of store.now place.old) token) }
+    ensures place { OnOk result (place_of store.now place.new ≡ place_after store.now.names (place_of store.now place.old) token) }
     ensures depth { OnOk result ((pen_of writer.new).depth ≡ depth_of store.now.names (place_of store.now place.new).outer) }
-    ensures used { OnOk result (place.new.used ≤ place.old.used + 1) }
-    ensures refused { IfErr result (λ refusal. StopsWriting refusal (K.faults (sink_of writer.old)) (K.faults (sink_of writer.new))) }
+    ensures room { vec_capacity place.new.outer ≡ vec_capacity place.old.outer }
+    ensures opened { OnOk result (vec_len place.new.outer ≡ open_after (vec_len place.old.outer) token) }
+    ensures failed { OnErr result (Rose (K.faults (sink_of writer.old)) (K.faults (sink_of writer.new))) }
 {
-    match label {
-        Label::Symbol(symbol) => {
-            place.outer.push(symbol).map_err(AllocError::from)?;
-            written(begin_node(writer, store, &mut place.used, symbol))
+    match token {
+        Token::Open { symbol } => {
+            place.outer.push_reserved(symbol);
+            begin_node(writer, store, &mut place.used, symbol)
         }
-        Label::Bottom => match place.outer.pop() {
-            Some(symbol) => written(end_node(writer, &store.names, symbol)),
+        Token::Close => match place.outer.pop() {
+            Some(symbol) => end_node(writer, &store.names, symbol),
             None => Ok(()),
         },
-        // No grammar of one rule has a call or a parameter.
-        Label::Call(_) | Label::Param => Ok(()),
     }
 }
 
@@ -114,13 +107,13 @@ fn begin_node<K: Sink>(
     used: &mut u64,
     symbol: usize,
 ) -> Result<(), Failed>
-    requires depth { (pen_of writer.old).depth < 2 ^ 63 }
-    requires used { used.old + 1 < 2 ^ 64 }
+    requires { (pen_of writer.old).depth < 2 ^ 63 }
     ensures makes { Makes (seen K.Sink writer.old) (seen K.Sink writer.new) result (begin_call (slice_get store.now.names symbol) (drop used.old store.now.texts.texts)) }
     ensures texts { OnOk result (drop used.new store.now.texts.texts ≡ texts_past (slice_get store.now.names symbol) (drop used.old store.now.texts.texts)) }
-    ensures used { OnOk result (used.new ≤ used.old + 1) }
     ensures failed { OnErr result (Rose (K.faults (sink_of writer.old)) (K.faults (sink_of writer.new))) }
 {
+    // The call tells that the places of texts fit 64 bits.
+    let _count = store.texts.len();
     match store.names.at(symbol) {
         Some((Kind::Element, name)) => writer.open(name),
         Some((kind, name)) if kind.has_value() => match store.texts.get(*used) {

@@ -1,5 +1,6 @@
 use Rattle.std.proofs.Common.{◌≡◌, ◌≤◌, length, take, sym, ap, ◌∙◌, length-take, arith}
 use Rattle.store_core.proofs.Feeds.{feeding_goes, fed_on, read_front}
+use Rattle.store_core.proofs.ReadSteps.{OnlyReads-refl}
 use Rattle.store_core.proofs.reading.feed_file.Goals as goal
 
 pub loop-fed-preserved : goal.loop-fed-preserved
@@ -18,3 +19,6 @@ loop-fed-preserved g c =
       later = omega (arith, c.in-Ok.ensures.cause.later);
       room = c.loop-fed.invariant.room;
     }
+
+pub returns-in_err-resize-clause-only : goal.returns-in_err-resize-clause-only
+returns-in_err-resize-clause-only g c = OnlyReads-refl (g.F.Shelf.told c.args.shelf.now)

@@ -1,9 +1,13 @@
 use Rattle.std.proofs.Common.{Err, ap}
 use Rattle.std.proofs.lemmas.Result.{err_from_is_err_and}
 use Rattle.store_core.proofs.Feeds.{bad_stops}
+use Rattle.store_core.proofs.ReadSteps.{OnlyReads-refl}
 use Rattle.store_core.proofs.reading.read_document.Goals as goal
 
 pub returns-in_err-finish-clause-refused : goal.returns-in_err-finish-clause-refused
 returns-in_err-finish-clause-refused g c =
     let p = err_from_is_err_and c.from_residual-in_err-finish.result c.from_residual-in_err-finish.ensures.1 in
     rw (p.1, p.2) (bad_stops c.in_err-finish.field-0.0 _ _ _ _ _ c.in_ok-feed_file.ensures.feeds (λ at same. c.in_err-finish.ensures.bad at (ap Err same)))
+
+pub returns-in_err-reader-clause-only : goal.returns-in_err-reader-clause-only
+returns-in_err-reader-clause-only g c = OnlyReads-refl (g.F.Shelf.told c.args.shelf.now)

@@ -101,4 +101,5 @@ stops_loading no.WriteFault old opening name state count before now new finds op
 stops_loading no.LongFile old opening name state count before now new finds opens b n stops = long_file old opening name state count finds opens stops
 stops_loading (no.BadXml at) old opening name state count before now new finds opens b n (bytes, left, bad) =
     (bytes, record { name = name; reads = refl; file = found_file old opening name state count bytes finds opens left }, left.short, bad)
+stops_loading no.NoNode old opening name state count before now new finds opens b n stops = absurd stops
 stops_loading no.Memory old opening name state count before now new finds opens b n stops = found_to_load old name state count finds

@@ -9,3 +9,5 @@ pub mod Saves
 pub mod Shapes
 pub mod NodeCalls
 pub mod Encoded
+pub mod Shown
+pub mod Printing

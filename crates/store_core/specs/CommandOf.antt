@@ -1,5 +1,5 @@
 -- The act that a command of the program asks for.
-use Rattle.store_core.specs.Acts.{Act, Load, Save, SaveGrammar}
+use Rattle.store_core.specs.Acts.{Act, Load, Save, SaveGrammar, Show}
 use Rattle.store_core.specs.declared.command.Command.{Command}
 use Rattle.store_core.specs.declared.command.Command.TheVariants as c
 
@@ -7,3 +7,4 @@ abbrev pub act_of : Command → Act
 act_of (c.Load name) = Load name.now
 act_of (c.Save name) = Save name.now
 act_of (c.SaveGrammar name) = SaveGrammar name.now
+act_of (c.Show number) = Show number

@@ -1,14 +1,15 @@
 -- One step of the plain tree machine: what a command prints and what it leaves.
-use Rattle.std.specs.Prelude.{◌≡◌, ◌≤◌, ◌<◌, ◌⊎◌, ◌^◌, ℕ, List, [], length, Some, IfSome, Result, MatchResult}
+use Rattle.std.specs.Prelude.{◌≡◌, ◌≤◌, ◌<◌, ◌⊎◌, ◌^◌, ℕ, zero, suc, List, [], ◌∷◌, ◌++◌, length, Option, Some, IfSome, Result, MatchResult, slice_get}
 use Rattle.std.specs.FinMap.{insert}
-use Rattle.tree_outside.specs.Outside.{Stays}
+use Rattle.tree_outside.specs.Outside.{Gets, GetsFront, Stays}
+use Rattle.plain_tree.specs.Numbers.{nodes}
 use Rattle.plain_tree.specs.Tree.{Tree, node_count}
 use Rattle.xml_nodes.specs.Spelling.{Spells}
-use Rattle.xml_nodes.specs.Saved.{saved_bytes}
+use Rattle.xml_nodes.specs.Saved.{saved_bytes, spelling}
 use Rattle.slt_grammar.specs.Grammars.{size}
 use Rattle.fcns_encoding.specs.Interning.{Interns, pairs_of_tree}
 use Rattle.grammar_file.specs.FileBytes.{file_bytes}
-use Rattle.store_core.specs.Acts.{Act, Load, Save, SaveGrammar}
+use Rattle.store_core.specs.Acts.{Act, Load, Save, SaveGrammar, Show}
 use Rattle.store_core.specs.Worlds.{Parts, PartsStandFor, IsLawfulState, World, Same, HasFile}
 use Rattle.store_core.specs.Texts.{answer_line, refusal_line}
 use Rattle.store_core.specs.Refusals.{Cause}
@@ -60,15 +61,38 @@ pub record SavesGrammar (name : List ℕ) (old : World) (out : List ℕ) (new : 
   pub written : WritesFile name (file_bytes parts.names parts.rules parts.texts) old new
   pub printed : out ≡ answer_line (ok.Grammar (length parts.rules) (size parts.rules) (length (file_bytes parts.names parts.rules parts.texts)))
 
+-- the bytes show the node with this number: its spelling and a line feed, and of the document its saved bytes
+abbrev pub ShowsNode : Tree → ℕ → List ℕ → Type 0
+ShowsNode tree zero bytes = bytes ≡ saved_bytes tree
+ShowsNode tree (suc n) bytes = (s : Tree) × (slice_get (nodes tree) (suc n) ≡ Some s) × (bytes ≡ spelling s ++ 10 ∷ [])
+
+-- the node is printed, and nothing changes
+pub record Shows (number : ℕ) (old : World) (out : List ℕ) (new : World) : Type 0 where
+  pub parts : Parts
+  pub tree : Tree
+  pub held : old.state ≡ Some parts
+  pub stand : PartsStandFor parts tree
+  pub bytes : List ℕ
+  pub shown : ShowsNode tree number bytes
+  pub same : Same old new
+  pub printed : out ≡ bytes ++ answer_line ok.Shown
+
 -- the command is done
 abbrev pub Does : Act → World → List ℕ → World → Type 0
 Does (Load name) old out new = Loads name old out new
 Does (Save name) old out new = Saves name old out new
 Does (SaveGrammar name) old out new = SavesGrammar name old out new
+Does (Show number) old out new = Shows number old out new
 
--- what a command comes to: it is done, or it is refused for this cause and changes nothing
-abbrev pub Comes : Act → World → Result Answer Refusal → World → Type 0
-Comes act old outcome new = MatchResult outcome (λ answer. Does act old (answer_line answer) new) (λ refusal. Cause refusal act old new × Same old new)
+-- what a command comes to that printed this text: it is done, or it is refused for this cause, printed none and changes nothing
+abbrev pub Comes : Act → World → List ℕ → Result Answer Refusal → World → Type 0
+Comes act old text outcome new = MatchResult outcome (λ answer. Does act old (text ++ answer_line answer) new) (λ refusal. (text ≡ []) × Cause refusal act old new × Same old new)
+
+-- it printed the text before its line, or the sink failed and got a front of what it prints
+abbrev pub Prints : {E : Type 0} → Act → World → Option (List ℕ) → Option (List ℕ) → Result (Result Answer Refusal) E → World → Type 0
+Prints act old got now result new = MatchResult result
+    (λ outcome. (text : List ℕ) × Gets got now text × Comes act old text outcome new)
+    (λ _. (out : List ℕ) × GetsFront got now out × Does act old out new)
 
 -- the command is refused for this cause, and changes nothing
 pub record Refuses (act : Act) (old : World) (out : List ℕ) (new : World) : Type 0 where

@@ -11,6 +11,7 @@ answer_line (ok.Nodes n) = codes "ok nodes " ++ decimal n ++ codes "\n"
 answer_line (ok.Bytes n) = codes "ok bytes " ++ decimal n ++ codes "\n"
 answer_line (ok.Grammar rules size bytes) =
     codes "ok rules " ++ decimal rules ++ codes " size " ++ decimal size ++ codes " bytes " ++ decimal bytes ++ codes "\n"
+answer_line ok.Shown = codes "ok shown\n"
 
 abbrev pub refusal_line : Refusal → List ℕ
 refusal_line no.NoDocument = codes "! no-document\n"
@@ -19,6 +20,7 @@ refusal_line no.NoFile = codes "! no-file\n"
 refusal_line no.WriteFault = codes "! write-fault\n"
 refusal_line no.LongFile = codes "! long-file\n"
 refusal_line (no.BadXml at) = codes "! bad-xml " ++ decimal at ++ codes "\n"
+refusal_line no.NoNode = codes "! no-node\n"
 refusal_line no.Memory = codes "! memory\n"
 
 -- the line of what a command came to

@@ -1,5 +1,5 @@
 -- What a command finds and leaves.
-use Rattle.std.specs.Prelude.{◌≡◌, ◌<◌, ◌^◌, ℕ, List, [], Option, IfSome, Some, None}
+use Rattle.std.specs.Prelude.{◌≡◌, ◌≤◌, ◌<◌, ◌^◌, ℕ, List, [], length, Option, IfSome, Some, None}
 use Rattle.std.specs.FinMap.{get}
 use Rattle.std.specs.Option.{IsSomeAnd, option_map}
 use Rattle.plain_tree.specs.declared.kind.Kind.{Kind}
@@ -61,6 +61,14 @@ pub record Same (old new : World) : Type 0 where
 -- where the files are told, these are the bytes of the file with this name
 abbrev pub HasFile : World → List ℕ → List ℕ → Type 0
 HasFile w name bytes = IfSome w.files (λ files. get files name ≡ Some bytes)
+
+-- the document that is held has no node with this number
+pub record LacksNode (w : World) (number : ℕ) : Type 0 where
+  pub parts : Parts
+  pub tree : Tree
+  pub held : w.state ≡ Some parts
+  pub stand : PartsStandFor parts tree
+  pub past : node_count tree ≤ number
 
 -- where the files are told, there is none with this name
 abbrev pub HasNoFile : World → List ℕ → Type 0

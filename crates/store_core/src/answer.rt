@@ -24,6 +24,8 @@ pub enum Answer {
         size: u64,
         bytes: u128,
     },
+    /// The node was printed before the line.
+    Shown,
 }
 
 /// Why a command was not done.
@@ -36,6 +38,7 @@ pub enum Refusal {
     LongFile,
     /// The place, from 0 on, where the file's bytes go wrong.
     BadXml { at: u64 },
+    NoNode,
     Memory,
 }
 
@@ -77,6 +80,7 @@ pub(crate) fn write_line<K: Sink>(
         Ok(Answer::Nodes(count)) => write_count(b"ok nodes ", count, sink),
         Ok(Answer::Bytes(count)) => write_count(b"ok bytes ", count, sink),
         Ok(Answer::Grammar { rules, size, bytes }) => write_grammar(rules, size, bytes, sink),
+        Ok(Answer::Shown) => sink.write(b"ok shown\n"),
         Err(refusal) => write_refusal(refusal, sink),
     }
 }
@@ -93,6 +97,7 @@ fn write_refusal<K: Sink>(refusal: Refusal, sink: &mut K) -> Result<(), Failed>
         Refusal::WriteFault => sink.write(b"! write-fault\n"),
         Refusal::LongFile => sink.write(b"! long-file\n"),
         Refusal::BadXml { at } => write_count(b"! bad-xml ", at, sink),
+        Refusal::NoNode => sink.write(b"! no-node\n"),
         Refusal::Memory => sink.write(b"! memory\n"),
     }
 }

@@ -9,6 +9,8 @@ pub enum Command<'a> {
     Save { name: &'a str },
     /// The names, the grammar and the texts are written to the file with this name.
     SaveGrammar { name: &'a str },
+    /// The node with this number is printed, and number 0 prints the document as `Save` writes it.
+    Show { number: u64 },
 }
 
 /// How a session keeps its grammar small.

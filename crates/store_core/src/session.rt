@@ -1,5 +1,6 @@
 // The session and its commands.
-ghost use Rattle.std.specs.Prelude.{◌≡◌, ◌≤◌, List, ℕ, None, IfSome};
+ghost use Rattle.std.specs.Prelude.{◌≡◌, ◌≤◌, List, [], ℕ, Option, None, IfSome};
+ghost use Rattle.tree_outside.specs.Files.{Told};
 ghost use Rattle.tree_outside.specs.Outside.{HasCause, Writes};
 ghost use Rattle.tree_outside.specs.Shelf.{Keeps};
 
@@ -7,7 +8,9 @@ use crate::answer::{Answer, Refusal, write_line};
 use crate::command::{Command, Settings};
 use crate::loading::load_document;
 use crate::saving::{save_document, save_grammar};
+use crate::showing::walk_to;
 use crate::store::Store;
+use crate::writing::write_node;
 use read_steps::Steps;
 use std::alloc::Global;
 use std::marker::Model;
@@ -50,7 +53,7 @@ impl Model for Session {
 impl Session {
     ghost use Rattle.store_core.specs.Acts as act;
     ghost use Rattle.store_core.specs.CommandOf.{act_of};
-    ghost use Rattle.store_core.specs.Machine.{Step, Comes};
+    ghost use Rattle.store_core.specs.Machine.{Comes, Prints, Step};
     ghost use Rattle.store_core.specs.Worlds.{IsIdle, IsLawfulState, world};
     ghost use Rattle.store_core.specs.StoreOf.{IsCounted, parts_of};
     ghost use Rattle.std.specs.Option.{option_map};
@@ -71,11 +74,11 @@ impl Session {
         self.store.as_ref()
     }
 
-    /// Does one command and writes its line, with one write of the sink. `SinkFailed` comes only where the sink failed;
-    /// session and shelf are then as after the command, and the sink got a front of the line. Where the shelf tells that no file
-    /// was open and none pending, that is so after the command too.
+    /// Does one command and prints its text, whose last line is one write of the sink. `SinkFailed` comes only where the sink
+    /// failed; session and shelf are then as after the command, and the sink got a front of the text. Where the shelf tells that
+    /// no file was open and none pending, that is so after the command too.
     ///
-    /// The counter counts the reads of `save`. The settings serve commands that change a grammar, of which there is none yet.
+    /// The counter counts the reads of `save` and `show`. The settings serve commands that change a grammar, of which there is none yet.
     pub fn command<K: Sink, F: Shelf, L: Ledger>(
         &mut self,
         alloc: Global,
@@ -95,28 +98,32 @@ impl Session {
         ensures idle { IsIdle (F.told shelf.old) → IsIdle (F.told shelf.new) }
         ensures cause { HasCause (K.faults sink.old) (K.faults sink.new) result }
     {
-        let outcome = self.outcome(alloc, command, shelf, steps);
+        let outcome = self.outcome(alloc, command, sink, shelf, steps)?;
         write_line(outcome, sink)?;
         Ok(())
     }
 
-    // Does a command, and answers what its line is to say.
-    fn outcome<F: Shelf, L: Ledger>(
+    // Does a command, prints what comes before its line, and answers what that is to say.
+    fn outcome<K: Sink, F: Shelf, L: Ledger>(
         &mut self,
         alloc: Global,
         command: Command<'_>,
+        sink: &mut K,
         shelf: &mut F,
         steps: &mut Steps<L>,
-    ) -> Result<Answer, Refusal>
+    ) -> Result<Result<Answer, Refusal>, Failed>
         ensures lawful { IsLawfulState self.old × IsLawfulState self.new }
         ensures later { F.faults shelf.old ≤ F.faults shelf.new }
         ensures idle { IsIdle (F.told shelf.old) → IsIdle (F.told shelf.new) }
-        ensures comes { Comes (act_of command.entry) (world self.old (F.told shelf.old) (F.faults shelf.old)) result (world self.new (F.told shelf.new) (F.faults shelf.new)) }
+        ensures prints { Prints (act_of command.entry) (world self.old (F.told shelf.old) (F.faults shelf.old)) (K.got sink.old) (K.got sink.new) result (world self.new (F.told shelf.new) (F.faults shelf.new)) }
+        ensures kept { Keeps (K.kept sink.old) (K.kept sink.new) }
+        ensures cause { HasCause (K.faults sink.old) (K.faults sink.new) result }
     {
         match command {
-            Command::Load { name } => self.load(alloc, name, shelf),
-            Command::Save { name } => self.save(alloc, name, shelf, steps),
-            Command::SaveGrammar { name } => self.save_grammar(name, shelf),
+            Command::Load { name } => Ok(self.load(alloc, name, shelf)),
+            Command::Save { name } => Ok(self.save(alloc, name, shelf, steps)),
+            Command::SaveGrammar { name } => Ok(self.save_grammar(name, shelf)),
+            Command::Show { number } => self.show(alloc, number, sink, steps),
         }
     }
 
@@ -129,7 +136,7 @@ impl Session {
         ensures lawful { IsLawfulState self.old × IsLawfulState self.new }
         ensures later { F.faults shelf.old ≤ F.faults shelf.new }
         ensures idle { IsIdle (F.told shelf.old) → IsIdle (F.told shelf.new) }
-        ensures comes { Comes (act.Load name.now) (world self.old (F.told shelf.old) (F.faults shelf.old)) result (world self.new (F.told shelf.new) (F.faults shelf.new)) }
+        ensures comes { Comes (act.Load name.now) (world self.old (F.told shelf.old) (F.faults shelf.old)) [] result (world self.new (F.told shelf.new) (F.faults shelf.new)) }
     {
         // A look at the field tells that what was held is lawful, also where the loading is refused.
         let _ = &self.store;
@@ -148,7 +155,7 @@ impl Session {
         ensures lawful { IsLawfulState self.now }
         ensures later { F.faults shelf.old ≤ F.faults shelf.new }
         ensures idle { IsIdle (F.told shelf.old) → IsIdle (F.told shelf.new) }
-        ensures comes { Comes (act.Save name.now) (world self.now (F.told shelf.old) (F.faults shelf.old)) result (world self.now (F.told shelf.new) (F.faults shelf.new)) }
+        ensures comes { Comes (act.Save name.now) (world self.now (F.told shelf.old) (F.faults shelf.old)) [] result (world self.now (F.told shelf.new) (F.faults shelf.new)) }
     {
         match &self.store {
             None => Err(Refusal::NoDocument),
@@ -163,11 +170,35 @@ impl Session {
         ensures lawful { IsLawfulState self.now }
         ensures later { F.faults shelf.old ≤ F.faults shelf.new }
         ensures idle { IsIdle (F.told shelf.old) → IsIdle (F.told shelf.new) }
-        ensures comes { Comes (act.SaveGrammar name.now) (world self.now (F.told shelf.old) (F.faults shelf.old)) result (world self.now (F.told shelf.new) (F.faults shelf.new)) }
+        ensures comes { Comes (act.SaveGrammar name.now) (world self.now (F.told shelf.old) (F.faults shelf.old)) [] result (world self.now (F.told shelf.new) (F.faults shelf.new)) }
     {
         match &self.store {
             None => Err(Refusal::NoDocument),
             Some(store) => save_grammar(name, store, shelf),
         }
+    }
+
+    // Prints the node with this number. Where there is no memory for that, nothing is printed.
+    fn show<K: Sink, L: Ledger>(
+        &self,
+        alloc: Global,
+        number: u64,
+        sink: &mut K,
+        steps: &mut Steps<L>,
+    ) -> Result<Result<Answer, Refusal>, Failed>
+        ensures lawful { IsLawfulState self.now }
+        ensures prints { (told : Option Told) (count : ℕ) → Prints (act.Show number) (world self.now told count) (K.got sink.old) (K.got sink.new) result (world self.now told count) }
+        ensures kept { Keeps (K.kept sink.old) (K.kept sink.new) }
+        ensures cause { HasCause (K.faults sink.old) (K.faults sink.new) result }
+    {
+        let Some(store) = &self.store else {
+            return Ok(Err(Refusal::NoDocument));
+        };
+        let walk = match walk_to(alloc, store, number, steps) {
+            Ok(walk) => walk,
+            Err(refusal) => return Ok(Err(refusal)),
+        };
+        write_node(store, walk, sink, steps)?;
+        Ok(Ok(Answer::Shown))
     }
 }

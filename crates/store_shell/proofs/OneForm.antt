@@ -1,9 +1,10 @@
 -- A line has one form alone.
-use Rattle.std.specs.Prelude.{◌≡◌, ◌≤◌, ◌<◌, ◌-◌, ℕ, List, [], ◌∷◌, ◌++◌, length, take, Bool, true, false, if◌then◌else◌, codes, nat_eq, get_or, refl}
+use Rattle.std.specs.Prelude.{◌≡◌, ◌≤◌, ◌<◌, ◌-◌, ℕ, List, [], ◌∷◌, ◌++◌, length, take, Bool, true, false, if◌then◌else◌, codes, decimal, nat_eq, get_or, refl}
 use Rattle.std.proofs.Common.{sym, ap, ◌∙◌, arith}
 use Rattle.std.specs.List.{ends_with}
+use Rattle.std.proofs.lemmas.Fmt.{decimal_injective}
 use Rattle.std.proofs.lemmas.List.{length-take}
-use Rattle.store_core.specs.Acts.{Act, Load, Save, SaveGrammar}
+use Rattle.store_core.specs.Acts.{Act, Load, Save, SaveGrammar, Show}
 use Rattle.store_shell.specs.Forms.{Form, Empty, Long, Bad, Quit, Command, IsForm, Asks, without_return}
 use Rattle.store_shell.specs.Lines.{longest}
 
@@ -27,11 +28,13 @@ abbrev byte_at : ℕ → Act → ℕ
 byte_at place (Load n) = get_or (codes "load " ++ n) place 0
 byte_at place (Save n) = get_or (codes "save " ++ n) place 0
 byte_at place (SaveGrammar n) = get_or (codes "save-grammar " ++ n) place 0
+byte_at place (Show n) = get_or (codes "show " ++ decimal n) place 0
 
 asked : (words : List ℕ) (place : ℕ) (a : Act) → Asks words a → byte_at place a ≡ get_or words place 0
 asked words place (Load n) h = ap (λ ws. get_or ws place 0) (sym h.1)
 asked words place (Save n) h = ap (λ ws. get_or ws place 0) (sym h.1)
 asked words place (SaveGrammar n) h = ap (λ ws. get_or ws place 0) (sym h.1)
+asked words place (Show n) h = ap (λ ws. get_or ws place 0) (sym h.1)
 
 same_byte : (words : List ℕ) (place : ℕ) (a b : Act) → Asks words a → Asks words b → byte_at place a ≡ byte_at place b
 same_byte words place a b h k = asked words place a h ∙ sym (asked words place b k)
@@ -49,18 +52,29 @@ asks-one words (SaveGrammar n) (SaveGrammar m) h k =
     let e : codes "save-grammar " ++ n ≡ codes "save-grammar " ++ m = sym h.1 ∙ k.1 in
     let same : n ≡ m = cc in
     ap SaveGrammar same
+asks-one words (Show n) (Show m) h k =
+    let e : codes "show " ++ decimal n ≡ codes "show " ++ decimal m = sym h.1 ∙ k.1 in
+    let digits : decimal n ≡ decimal m = cc in
+    ap Show (decimal_injective n m h.0 k.0 digits)
 asks-one words (Load n) (Save m) h k = let same : ◌≡◌ {A = ℕ} 108 115 = same_byte words 0 (Load n) (Save m) h k in absurd (omega arith)
 asks-one words (Load n) (SaveGrammar m) h k = let same : ◌≡◌ {A = ℕ} 108 115 = same_byte words 0 (Load n) (SaveGrammar m) h k in absurd (omega arith)
 asks-one words (Save n) (Load m) h k = let same : ◌≡◌ {A = ℕ} 115 108 = same_byte words 0 (Save n) (Load m) h k in absurd (omega arith)
 asks-one words (Save n) (SaveGrammar m) h k = let same : ◌≡◌ {A = ℕ} 32 45 = same_byte words 4 (Save n) (SaveGrammar m) h k in absurd (omega arith)
 asks-one words (SaveGrammar n) (Load m) h k = let same : ◌≡◌ {A = ℕ} 115 108 = same_byte words 0 (SaveGrammar n) (Load m) h k in absurd (omega arith)
 asks-one words (SaveGrammar n) (Save m) h k = let same : ◌≡◌ {A = ℕ} 45 32 = same_byte words 4 (SaveGrammar n) (Save m) h k in absurd (omega arith)
+asks-one words (Load n) (Show m) h k = let same : ◌≡◌ {A = ℕ} 108 115 = same_byte words 0 (Load n) (Show m) h k in absurd (omega arith)
+asks-one words (Show n) (Load m) h k = let same : ◌≡◌ {A = ℕ} 115 108 = same_byte words 0 (Show n) (Load m) h k in absurd (omega arith)
+asks-one words (Save n) (Show m) h k = let same : ◌≡◌ {A = ℕ} 97 104 = same_byte words 1 (Save n) (Show m) h k in absurd (omega arith)
+asks-one words (Show n) (Save m) h k = let same : ◌≡◌ {A = ℕ} 104 97 = same_byte words 1 (Show n) (Save m) h k in absurd (omega arith)
+asks-one words (SaveGrammar n) (Show m) h k = let same : ◌≡◌ {A = ℕ} 97 104 = same_byte words 1 (SaveGrammar n) (Show m) h k in absurd (omega arith)
+asks-one words (Show n) (SaveGrammar m) h k = let same : ◌≡◌ {A = ℕ} 104 97 = same_byte words 1 (Show n) (SaveGrammar m) h k in absurd (omega arith)
 
 -- no command is asked for by no words
 asks_some : (words : List ℕ) (a : Act) → Asks words a → words ≡ [] → ⊥
 asks_some words (Load n) h e = let f : codes "load " ++ n ≡ [] = sym h.1 ∙ e in absurd (cc)
 asks_some words (Save n) h e = let f : codes "save " ++ n ≡ [] = sym h.1 ∙ e in absurd (cc)
 asks_some words (SaveGrammar n) h e = let f : codes "save-grammar " ++ n ≡ [] = sym h.1 ∙ e in absurd (cc)
+asks_some words (Show n) h e = let f : codes "show " ++ decimal n ≡ [] = sym h.1 ∙ e in absurd (cc)
 
 -- quit asks for no command
 asks_no_quit : (words : List ℕ) (a : Act) → Asks words a → words ≡ codes "quit" → ⊥
@@ -72,6 +86,9 @@ asks_no_quit words (Save n) h e =
     absurd (omega arith)
 asks_no_quit words (SaveGrammar n) h e =
     let same : ◌≡◌ {A = ℕ} 115 113 = asked words 0 (SaveGrammar n) h ∙ ap (λ ws. get_or ws 0 0) e in
+    absurd (omega arith)
+asks_no_quit words (Show n) h e =
+    let same : ◌≡◌ {A = ℕ} 115 113 = asked words 0 (Show n) h ∙ ap (λ ws. get_or ws 0 0) e in
     absurd (omega arith)
 
 quit_some : (words : List ℕ) → words ≡ codes "quit" → words ≡ [] → ⊥

@@ -1,11 +1,11 @@
 -- The word of a command, and what follows the space after it.
-use Rattle.std.specs.Prelude.{◌≡◌, ◌<◌, ℕ, nat_lt, List, ◌∷◌, ◌++◌, length, take, true, cond, Some, None, codes, refl}
+use Rattle.std.specs.Prelude.{◌≡◌, ◌<◌, ℕ, nat_lt, List, ◌∷◌, ◌++◌, length, take, true, cond, Some, None, codes, decimal, refl}
 use Rattle.std.proofs.Common.{sym, ap, ◌∙◌, arith}
 use Rattle.std.specs.List.{position}
 use Rattle.std.proofs.lemmas.Bool.Decides.{nat_tests}
 use Rattle.std.proofs.lemmas.List.{take_at}
 use Rattle.std.proofs.lemmas.Option.{same_Some}
-use Rattle.store_core.specs.Acts.{Act, Load, Save, SaveGrammar}
+use Rattle.store_core.specs.Acts.{Act, Load, Save, SaveGrammar, Show}
 use Rattle.store_shell.specs.Forms.{Asks}
 use Rattle.store_shell.specs.Verbs.{verb_word, is_blank}
 use Rattle.store_shell.specs.declared.verb.Verb.{Verb}
@@ -21,6 +21,7 @@ verb_at : (v : Verb) (rest : List ℕ) → position is_blank (verb_word v ++ 32 
 verb_at verb.Load rest = position_at 4 (codes "load " ++ rest) (omega arith)
 verb_at verb.Save rest = position_at 4 (codes "save " ++ rest) (omega arith)
 verb_at verb.SaveGrammar rest = position_at 12 (codes "save-grammar " ++ rest) (omega arith)
+verb_at verb.Show rest = position_at 4 (codes "show " ++ rest) (omega arith)
 
 -- a word and a space are cut there
 word_at : (v : Verb) (rest words : List ℕ) (at : ℕ) → position is_blank words ≡ Some at → words ≡ verb_word v ++ 32 ∷ rest → take at words ≡ verb_word v
@@ -33,3 +34,4 @@ pub no_verb : (words : List ℕ) (at : ℕ) (act : Act) → position is_blank wo
 no_verb words at (Load name) e none h = none verb.Load (word_at verb.Load name words at e h.1)
 no_verb words at (Save name) e none h = none verb.Save (word_at verb.Save name words at e h.1)
 no_verb words at (SaveGrammar name) e none h = none verb.SaveGrammar (word_at verb.SaveGrammar name words at e h.1)
+no_verb words at (Show number) e none h = none verb.Show (word_at verb.Show (decimal number) words at e h.1)

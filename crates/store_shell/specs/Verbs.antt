@@ -7,6 +7,7 @@ abbrev pub verb_word : Verb → List ℕ
 verb_word verb.Load = codes "load"
 verb_word verb.Save = codes "save"
 verb_word verb.SaveGrammar = codes "save-grammar"
+verb_word verb.Show = codes "show"
 
 abbrev pub is_blank : ℕ → Bool
 is_blank byte = byte == 32

@@ -1,5 +1,5 @@
 // What a line asks for.
-ghost use Rattle.std.specs.Prelude.{◌≡◌, ◌<◌, ◌↔◌, ℕ, true, List, length, IfSome, MatchOption, codes};
+ghost use Rattle.std.specs.Prelude.{◌≡◌, ◌≢◌, ◌<◌, ◌^◌, ◌↔◌, ℕ, true, List, length, IfSome, MatchOption, Some, codes, decimal};
 ghost use Rattle.std.specs.Option.{option_copied};
 ghost use Rattle.std.specs.List.{position};
 ghost use Rattle.store_core.specs.Acts.{Act};
@@ -10,6 +10,7 @@ ghost use Rattle.store_shell.specs.Parsed.{form_of};
 ghost use Rattle.store_shell.specs.Verbs.{is_blank};
 
 use crate::verb::Verb;
+use itoa::Buffer;
 use store_core::Command;
 
 /// The form of a line.
@@ -69,6 +70,7 @@ fn parse_command(words: &[u8]) -> Option<Command<'_>>
         Verb::Load => file_name(arguments).map(|name| Command::Load { name }),
         Verb::Save => file_name(arguments).map(|name| Command::Save { name }),
         Verb::SaveGrammar => file_name(arguments).map(|name| Command::SaveGrammar { name }),
+        Verb::Show => number(arguments).map(|number| Command::Show { number }),
     }
 }
 
@@ -87,4 +89,28 @@ fn file_name(bytes: &[u8]) -> Option<&str>
         return None;
     }
     str::from_utf8(bytes).ok()
+}
+
+/// A number below 2^64 by its digits, without a leading zero.
+fn number(bytes: &[u8]) -> Option<u64>
+    ensures { MatchOption result ((n : ℕ) → n < 2 ^ 64 → bytes.now ≢ decimal n) (λ n. bytes.now ≡ decimal n) }
+{
+    let number = whole_number(bytes)?;
+    let mut buffer = Buffer::new();
+    // Signs and leading zeros are no part of a number's form.
+    if buffer.format(number).as_bytes() == bytes {
+        Some(number)
+    } else {
+        None
+    }
+}
+
+// What `parse` reads as a number, which may have signs and leading zeros.
+fn whole_number(bytes: &[u8]) -> Option<u64>
+    ensures { (n : ℕ) → n < 2 ^ 64 → bytes.now ≡ decimal n → result ≡ Some n }
+{
+    let Ok(text) = str::from_utf8(bytes) else {
+        return None;
+    };
+    text.parse().ok()
 }

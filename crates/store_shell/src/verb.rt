@@ -5,6 +5,7 @@ pub enum Verb {
     Load,
     Save,
     SaveGrammar,
+    Show,
 }
 
 impl Verb {
@@ -20,6 +21,7 @@ impl Verb {
             b"load" => Some(Verb::Load),
             b"save" => Some(Verb::Save),
             b"save-grammar" => Some(Verb::SaveGrammar),
+            b"show" => Some(Verb::Show),
             _ => None,
         }
     }

@@ -15,7 +15,7 @@ const WHOLE: Row = Row {
     saved: SAVED,
 };
 
-static ROWS: [Row; 11] = [
+static ROWS: [Row; 12] = [
     Row {
         faults: &[Fault::Read(0)],
         status: Status::ReadFault,
@@ -61,6 +61,15 @@ static ROWS: [Row; 11] = [
     },
     Row {
         faults: &[Fault::Write(3)],
+        ..WHOLE
+    },
+    // The sink fails where a node is printed.
+    Row {
+        script: "load a\nshow 1\nsave c",
+        faults: &[Fault::Write(1)],
+        status: Status::WriteFault,
+        printed: "ok nodes 4\n",
+        saved: "old",
         ..WHOLE
     },
     // `a` is opened, and read to its end.

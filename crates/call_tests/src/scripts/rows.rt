@@ -15,7 +15,7 @@ const DONE: Row = Row {
     saved: "old",
 };
 
-static ROWS: [Row; 11] = [
+static ROWS: [Row; 17] = [
     Row {
         script: "load a\nsave c\nfly\n",
         printed: "ok nodes 4\nok bytes 16\n! bad-command\n",
@@ -77,6 +77,48 @@ static ROWS: [Row; 11] = [
     Row {
         script: "load\nload \n load a\nload  a\n",
         printed: "! bad-command\n! bad-command\n! bad-command\n! no-file\n",
+        ..DONE
+    },
+    Row {
+        document: "<a x=\"1\" y=\" &#xA;\">t<![CDATA[]]><![CDATA[<]]></a>",
+        script: "load a\nshow 3\nshow 4\nshow 5\nsave c\n",
+        printed: "ok nodes 5\ny=\" &#xA;\"\nok shown\nt&lt;\nok shown\n! no-node\nok bytes 30\n",
+        saved: "<a x=\"1\" y=\" &#xA;\">t&lt;</a>\n",
+        ..DONE
+    },
+    // Each kind of node.
+    Row {
+        document: "<!--p--><a><b k=\"v\">t</b>u</a><?go now?>",
+        script: "load a\nshow 0\nshow 1\nshow 2\nshow 3\nshow 4\nshow 5\nshow 6\nshow 7\nshow 8\n",
+        printed: "ok nodes 8\n<!--p-->\n<a><b k=\"v\">t</b>u</a>\n<?go now?>\nok shown\n\
+            <!--p-->\nok shown\n<a><b k=\"v\">t</b>u</a>\nok shown\n<b k=\"v\">t</b>\nok shown\n\
+            k=\"v\"\nok shown\nt\nok shown\nu\nok shown\n<?go now?>\nok shown\n! no-node\n",
+        ..DONE
+    },
+    Row {
+        document: "<a><b k=\"&amp;&lt;&quot;&#x9;&#xA;&#xD;>'\"/>&amp;&lt;&gt;&#xD;\"'<!-- &amp; --><?go?></a>",
+        script: "load a\nshow 2\nshow 3\nshow 4\nshow 5\nshow 6\n",
+        printed: "ok nodes 7\n<b k=\"&amp;&lt;&quot;&#x9;&#xA;&#xD;>'\"/>\nok shown\n\
+            k=\"&amp;&lt;&quot;&#x9;&#xA;&#xD;>'\"\nok shown\n&amp;&lt;&gt;&#xD;\"'\nok shown\n\
+            <!-- &amp; -->\nok shown\n<?go?>\nok shown\n",
+        ..DONE
+    },
+    Row {
+        document: "<!--p--><!--q--><a>u&amp;v</a><?go now?>",
+        script: "load a\nshow 5\nshow 4\n",
+        printed: "ok nodes 6\n<?go now?>\nok shown\nu&amp;v\nok shown\n",
+        ..DONE
+    },
+    // Forms of numbers.
+    Row {
+        script: "show 0\nshow 01\nload a\nshow\nshow \nshow 00\nshow 01\nshow -1\nshow +1\nshow 1 \nshow  1\n",
+        printed: "! no-document\n! bad-command\nok nodes 4\n! bad-command\n! bad-command\n! bad-command\n\
+            ! bad-command\n! bad-command\n! bad-command\n! bad-command\n! bad-command\n",
+        ..DONE
+    },
+    Row {
+        script: "load a\nshow 18446744073709551616\nshow 18446744073709551615\nshow 4\nshow 3\r\n",
+        printed: "ok nodes 4\n! bad-command\n! no-node\n! no-node\n<b/>\nok shown\n",
         ..DONE
     },
 ];

@@ -1,0 +1,12 @@
+use Rattle.std.proofs.Common.{[]}
+use Rattle.store_core.proofs.Sinks.{Gets-nil}
+use Rattle.store_core.proofs.session.Session.outcome.Goals as goal
+
+pub returns-in-Load-clause-prints : goal.returns-in-Load-clause-prints
+returns-in-Load-clause-prints g c = rw c.in-Load.is ([], Gets-nil (g.K.Sink.got c.args.sink.now), c.load.ensures.comes)
+
+pub returns-in-Save-clause-prints : goal.returns-in-Save-clause-prints
+returns-in-Save-clause-prints g c = rw c.in-Save.is ([], Gets-nil (g.K.Sink.got c.args.sink.now), c.save.ensures.comes)
+
+pub returns-in-SaveGrammar-clause-prints : goal.returns-in-SaveGrammar-clause-prints
+returns-in-SaveGrammar-clause-prints g c = rw c.in-SaveGrammar.is ([], Gets-nil (g.K.Sink.got c.args.sink.now), c.save_grammar.ensures.comes)

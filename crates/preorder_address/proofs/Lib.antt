@@ -23,3 +23,4 @@ pub mod Sited
 pub mod TreeSites
 pub mod TreeKids
 pub mod TreeAttributes
+pub mod ParentLists

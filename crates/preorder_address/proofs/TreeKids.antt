@@ -1,6 +1,6 @@
 -- Places in a list of kids of a tree's code.
 use Rattle.std.proofs.Common.{◌≡◌, ℕ, zero, suc, ◌+◌, ◌-◌, ◌*◌, ◌/◌, ◌<◌, ◌≤◌, ◌^◌, List, [], ◌∷◌, ◌++◌, length, get_or, take, drop, refl, ap, sym, ◌∙◌, arith, Option, None, Some, sum_by, append-nil, append_assoc, subst}
-use Rattle.std.specs.Prelude.{slice_get, option_map, IsSome, IfSome, true, false, ◌↔◌}
+use Rattle.std.specs.Prelude.{slice_get, option_map, unwrap_or, IsSome, IfSome, true, false, ◌↔◌}
 use Rattle.std.proofs.lemmas.List.Sums.{sum_by-cons, sum_by-append}
 use Rattle.std.proofs.lemmas.Option.{get_or_from_slice_get, slice_get_past}
 use Rattle.plain_tree.specs.declared.kind.Kind.{Kind}
@@ -21,7 +21,7 @@ use Rattle.preorder_address.specs.Chains.{IsAt, LeadsToNumber, LeadsToPlace}
 use Rattle.preorder_address.specs.Descents.{IsInside}
 use Rattle.preorder_address.specs.Numberings.{AreCountsOf}
 use Rattle.preorder_address.specs.Sites.{laden, weight_before, weight_below, terms_weight, is_symbol}
-use Rattle.preorder_address.specs.TreeNumbers.{placed, siblings_behind, end_at, after_attributes_at, attribute_places, kids_of, next_sibling_at, number_of_first}
+use Rattle.preorder_address.specs.TreeNumbers.{placed, siblings_behind, end_at, after_attributes_at, attributes_at, attribute_places, attributes_in, kids_of, next_sibling_at, number_of_first}
 use Rattle.preorder_address.specs.declared.descent.Descent.{Descent}
 use Rattle.preorder_address.specs.declared.numbering.Numbering.TheVariants.{All}
 use Rattle.preorder_address.proofs.Naming.{NumberedNode, past-count, value-last}
@@ -152,6 +152,14 @@ module _ (names : List (Kind × List ℕ)) (G : List KeyedRule) (t : Tree) (c : 
         let i : take (node_count_all x.place.kids) (drop (n + 1) (nodes t)) ≡ nodes_all x.place.kids =
         sym (ap (λ k. take (node_count_all x.place.kids) (drop k (nodes t))) s) ∙ ap (λ xs. take (node_count_all x.place.kids) (drop (suc (sum_by node_weight x.before)) xs)) (sym (append-nil (nodes t ++ []) ∙ append-nil (nodes t))) ∙ x.place.inside [] in
         after-told t l n b x.place.kind x.place.name x.place.value x.place.kids x.node_is placed-at i e r z f
+
+    pub attributes-are : (e r : ℕ) → e ≡ d / 2 → r ≡ from_number t (n + 1) e → attributes_at t n ≡ r
+    attributes-are e r q f =
+        let z : e ≡ node_count_all x.place.kids = omega (arith, q, below-is) in
+        let s : suc (sum_by node_weight x.before) ≡ n + 1 = omega (arith, x.number) in
+        let i : take (node_count_all x.place.kids) (drop (n + 1) (nodes t)) ≡ nodes_all x.place.kids =
+        sym (ap (λ k. take (node_count_all x.place.kids) (drop k (nodes t))) s) ∙ ap (λ xs. take (node_count_all x.place.kids) (drop (suc (sum_by node_weight x.before)) xs)) (sym (append-nil (nodes t ++ []) ∙ append-nil (nodes t))) ∙ x.place.inside [] in
+        ap (λ o. unwrap_or (option_map (λ s. attributes_in (nodes_all (kids_of s))) o) 0) x.node_is ∙ sym (f ∙ ap (λ j. attributes_in (take j (drop (n + 1) (nodes t)))) z ∙ ap attributes_in i)
 
     next-is : next_sibling_at t n ≡ Some (number_of_first (n + (node_count_all x.place.kids + 1)) x.place.others)
     next-is =

@@ -20,7 +20,7 @@ use slt_grammar::{Grammar, Key, Label, Level, TourWalk};
 use std::sync::ledger::Ledger;
 
 // A rule has no more parameters.
-const MOST_KIDS: usize = 8;
+pub(crate) const MOST_KIDS: usize = 8;
 
 // What stands before a node of the grammar's value weighs, and what the code of its kids weighs.
 #[derive(Clone, Copy, Drop)]
@@ -99,7 +99,7 @@ pub(crate) fn site_of<L: Ledger>(
 }
 
 // Goes along the tour of a rule up to a node. The parameters weigh what `args` says.
-fn pass_to<L: Ledger>(
+pub(crate) fn pass_to<L: Ledger>(
     grammar: &Grammar,
     counts: &Counts,
     weigher: &Weigher<'_>,
@@ -145,7 +145,7 @@ fn begins_at(walk: &TourWalk, key: Key) -> bool
 }
 
 // What each kid of a node weighs, its calls replaced, where so many parameters stand before the node.
-fn kid_weights<L: Ledger>(
+pub(crate) fn kid_weights<L: Ledger>(
     grammar: &Grammar,
     counts: &Counts,
     weigher: &Weigher<'_>,

@@ -1,0 +1,192 @@
+// The parent of a node, by the way to it.
+
+use crate::descent::locate;
+use crate::site::{MOST_KIDS, kid_weights, pass_to};
+use crate::weigher::Weigher;
+use read_steps::Steps;
+use segment_counts::{Counts, Measure};
+use slt_grammar::{Grammar, Key, Label, TourWalk};
+use std::sync::ledger::Ledger;
+
+// How many nodes stand before a rule's value, and how many its arguments have.
+#[derive(Clone, Copy, Drop)]
+struct Frame {
+    before: u64,
+    args: [u64; MOST_KIDS],
+}
+
+// A node of a body, and which of its kids lies on a way.
+#[derive(Clone, Copy, Drop)]
+struct Edge {
+    key: Key,
+    label: Label,
+    kid: usize,
+}
+
+// An edge over which a way goes on to a first child, and where its rule's value stands.
+#[derive(Clone, Copy, Drop)]
+struct Entry {
+    rule: usize,
+    edge: Edge,
+    frame: Frame,
+}
+
+/// The number of the parent of the node with this number. The outer None comes exactly where the number isn't below the total, the inner
+/// one where the node has no parent. It takes no memory.
+pub fn parent_of<L: Ledger>(
+    grammar: &Grammar,
+    counts: &Counts,
+    number: u64,
+    steps: &mut Steps<L>,
+) -> Option<Option<u64>> {
+    // The call tells what is true of every grammar.
+    let _limit = grammar.limit();
+    let mut descent = locate(counts, number)?;
+    let mut frame = Frame {
+        before: 0,
+        args: [0; MOST_KIDS],
+    };
+    let mut entry = None;
+    while let Some(level) = descent.next(grammar, counts, steps) {
+        let edge = first_child_above(grammar, counts, level.key, steps);
+        entry = later_entry(entry, level.rule, edge, frame);
+        frame = frame_at(grammar, counts, &frame, level.rule, level.key, steps);
+    }
+    match entry {
+        Some(entry) => Some(Some(number_of(grammar, counts, entry, steps))),
+        None => Some(None),
+    }
+}
+
+// The last entry on a way that goes on in a rule.
+fn later_entry(
+    entry: Option<Entry>,
+    rule: usize,
+    edge: Option<Edge>,
+    frame: Frame,
+) -> Option<Entry> {
+    match edge {
+        Some(edge) => Some(Entry { rule, edge, frame }),
+        None => entry,
+    }
+}
+
+// The number of the last node below whose first child a way leads.
+fn number_of<L: Ledger>(
+    grammar: &Grammar,
+    counts: &Counts,
+    mut entry: Entry,
+    steps: &mut Steps<L>,
+) -> u64 {
+    loop {
+        let frame = frame_at(
+            grammar,
+            counts,
+            &entry.frame,
+            entry.rule,
+            entry.edge.key,
+            steps,
+        );
+        let Label::Call(rule) = entry.edge.label else {
+            return frame.before;
+        };
+        let param = param_at(grammar, rule, entry.edge.kid, steps);
+        let Some(edge) = first_child_above(grammar, counts, param, steps) else {
+            unreachable!()
+        };
+        entry = Entry { rule, edge, frame };
+    }
+}
+
+// How many nodes stand before a node of a rule's body, and how many its kids have.
+fn frame_at<L: Ledger>(
+    grammar: &Grammar,
+    counts: &Counts,
+    frame: &Frame,
+    rule: usize,
+    key: Key,
+    steps: &mut Steps<L>,
+) -> Frame {
+    let args = frame.args;
+    let passed = pass_to(grammar, counts, &Weigher::Nodes, rule, key, &args, steps);
+    Frame {
+        before: frame.before + passed.weight,
+        args: kid_weights(
+            grammar,
+            counts,
+            &Weigher::Nodes,
+            key,
+            passed.params,
+            &args,
+            steps,
+        ),
+    }
+}
+
+// The last edge above a node of a body over which the way to it goes on to a first child.
+fn first_child_above<L: Ledger>(
+    grammar: &Grammar,
+    counts: &Counts,
+    key: Key,
+    steps: &mut Steps<L>,
+) -> Option<Edge> {
+    let mut at = key;
+    while let Some(edge) = edge_above(grammar, at, steps) {
+        if enters(counts, edge.label, edge.kid) {
+            return Some(edge);
+        }
+        at = edge.key;
+    }
+    None
+}
+
+// The edge from a node's parent in its body.
+fn edge_above<L: Ledger>(grammar: &Grammar, key: Key, steps: &mut Steps<L>) -> Option<Edge> {
+    let (up, place) = grammar.item(key, steps).parent?;
+    let label = grammar.item(up, steps).label;
+    Some(Edge {
+        key: up,
+        label,
+        kid: place - 1,
+    })
+}
+
+// Whether the way to a kid goes over a first child.
+fn enters(counts: &Counts, label: Label, kid: usize) -> bool {
+    match label {
+        Label::Symbol(_) => kid == 0,
+        Label::Call(rule) => 0 < first_children(counts, rule, kid),
+        _ => false,
+    }
+}
+
+// Over how many first children the way to a parameter of a rule's value goes. Each leaves its siblings open, and what stands before the
+// parameter closes all others: a symbol opens one more, a bottom or a parameter closes one.
+fn first_children(counts: &Counts, rule: usize, param: usize) -> u64 {
+    let nodes = counts.before(Measure::Nodes, rule, param + 1);
+    let all = counts.before(Measure::All, rule, param + 1);
+    nodes - (all - nodes) - param as u64
+}
+
+// The node of a rule's body that is this parameter, counted from 0.
+fn param_at<L: Ledger>(
+    grammar: &Grammar,
+    rule: usize,
+    number: usize,
+    steps: &mut Steps<L>,
+) -> Key {
+    let mut walk = TourWalk::new(grammar, rule);
+    let mut passed = 0;
+    loop {
+        let item = grammar.item(walk.key, steps);
+        if let Label::Param = item.label {
+            if passed == number {
+                return walk.key;
+            }
+            passed += 1;
+        }
+        if !walk.advance(grammar, &item, steps) {
+            unreachable!()
+        }
+    }
+}

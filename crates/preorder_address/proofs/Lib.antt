@@ -24,3 +24,7 @@ pub mod TreeSites
 pub mod TreeKids
 pub mod TreeAttributes
 pub mod ParentLists
+pub mod FirstTerms
+pub mod ParentStops
+pub mod ParentRises
+pub mod Rising

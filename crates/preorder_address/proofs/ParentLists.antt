@@ -1,5 +1,5 @@
 -- The parents of what is still to come, over lists of labels.
-use Rattle.std.proofs.Common.{◌≡◌, ℕ, zero, suc, ◌+◌, ◌*◌, ◌<◌, ◌≤◌, List, [], ◌∷◌, ◌++◌, length, get_or, drop, take, refl, ap, sym, ◌∙◌, arith, sum_by, subst, Option, None, Some}
+use Rattle.std.proofs.Common.{◌≡◌, ℕ, zero, suc, ◌+◌, ◌*◌, ◌<◌, ◌≤◌, List, [], ◌∷◌, ◌++◌, length, get_or, drop, take, refl, ap, sym, ◌∙◌, arith, sum_by, subst, Option, None, Some, length-drop}
 use Rattle.std.proofs.lemmas.List.{get_or-drop}
 use Rattle.std.proofs.lemmas.List.Sums.{sum_by-cons}
 use Rattle.rule_arena.specs.Preorder.{AreTerms}
@@ -206,7 +206,7 @@ module _ (l : Label) (rest : List Label) where
   length-within m args k ts (Call q ∷ T) e c t = absurd (omega (arith, c.0))
 
 -- the labels before a parameter
-pub until-split : (i : ℕ) (T : List Label) → i < params T → (rest : List Label) × (T ≡ until i T ++ Param ∷ rest)
+pub until-split : (i : ℕ) (T : List Label) → i < params T → (rest : List Label) × (T ≡ until T i ++ Param ∷ rest)
 until-split i [] h = absurd (omega arith)
 until-split zero (Param ∷ T) h = (T, refl)
 until-split (suc i) (Param ∷ T) h = let r = until-split i T (omega arith) in (r.0, ap (λ ls. Param ∷ ls) r.1)
@@ -214,7 +214,7 @@ until-split i (Bottom ∷ T) h = let r = until-split i T h in (r.0, ap (λ ls. B
 until-split i (Symbol f ∷ T) h = let r = until-split i T h in (r.0, ap (λ ls. Symbol f ∷ ls) r.1)
 until-split i (Call q ∷ T) h = let r = until-split i T h in (r.0, ap (λ ls. Call q ∷ ls) r.1)
 
-pub params-until : (i : ℕ) (T : List Label) → i < params T → params (until i T) ≡ i
+pub params-until : (i : ℕ) (T : List Label) → i < params T → params (until T i) ≡ i
 params-until i [] h = absurd (omega arith)
 params-until zero (Param ∷ T) h = refl
 params-until (suc i) (Param ∷ T) h = ap suc (params-until i T (omega arith))
@@ -223,7 +223,7 @@ params-until i (Symbol f ∷ T) h = params-until i T h
 params-until i (Call q ∷ T) h = params-until i T h
 
 -- labels that stand before a parameter are those before the parameter with their number of parameters
-pub until-here : (i : ℕ) (xs ys : List Label) → params xs ≡ i → until i (xs ++ Param ∷ ys) ≡ xs
+pub until-here : (i : ℕ) (xs ys : List Label) → params xs ≡ i → until (xs ++ Param ∷ ys) i ≡ xs
 until-here zero [] ys e = refl
 until-here (suc i) [] ys e = absurd (omega arith)
 until-here zero (Param ∷ xs) ys e = absurd (omega arith)
@@ -232,7 +232,7 @@ until-here i (Bottom ∷ xs) ys e = ap (λ ls. Bottom ∷ ls) (until-here i xs y
 until-here i (Symbol f ∷ xs) ys e = ap (λ ls. Symbol f ∷ ls) (until-here i xs ys e)
 until-here i (Call q ∷ xs) ys e = ap (λ ls. Call q ∷ ls) (until-here i xs ys e)
 
-pub until-calls : (i : ℕ) (T : List Label) → CallsBelow 0 T → CallsBelow 0 (until i T)
+pub until-calls : (i : ℕ) (T : List Label) → CallsBelow 0 T → CallsBelow 0 (until T i)
 until-calls i [] c = tt
 until-calls zero (Param ∷ T) c = tt
 until-calls (suc i) (Param ∷ T) c = until-calls i T c
@@ -244,3 +244,11 @@ pub listed-calls : (t : Term) (k : List Label) → CallsBelow 0 k → CallsBelow
 listed-calls Leaf k c = c
 listed-calls (Hole i) k c = c
 listed-calls (Node f a b) k c = listed-calls a (listed b k) (listed-calls b k c)
+
+-- how many parents there are hangs on nothing but the labels
+pub length-same : (a b : List ℕ) (j k : ℕ) (us vs : List (Option ℕ)) (T : List Label) → length us ≡ length vs → length (parents_behind a j us T) ≡ length (parents_behind b k vs T)
+length-same a b j k us vs [] e = e
+length-same a b j k us vs (Param ∷ T) e = length-same (drop 1 a) (drop 1 b) (j + get_or a 0 0) (k + get_or b 0 0) (drop 1 us) (drop 1 vs) T (omega (arith, e, length-drop 1 us, length-drop 1 vs))
+length-same a b j k us vs (Symbol f ∷ T) e = length-same a b (j + 1) (k + 1) (Some j ∷ us) (Some k ∷ vs) T (omega arith)
+length-same a b j k us vs (Bottom ∷ T) e = length-same a b j k (drop 1 us) (drop 1 vs) T (omega (arith, e, length-drop 1 us, length-drop 1 vs))
+length-same a b j k us vs (Call q ∷ T) e = length-same a b j k (drop 1 us) (drop 1 vs) T (omega (arith, e, length-drop 1 us, length-drop 1 vs))

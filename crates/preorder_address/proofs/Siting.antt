@@ -63,7 +63,7 @@ module _ (g : Keyed) (K : IsKeyed g) (w : Label → ℕ) (zero_param : w Param �
   abbrev pub kid_args : List ℕ
   kid_args = portions w (drop (params base) args) kids_at
 
-  is : IsNodeOf g K r p x
+  pub is : IsNodeOf g K r p x
   is = is-node g K r p x e
 
   behind : (m : ℕ) × AreTerms kids_of (x.kids + m) (drop (suc p) (nodes_at g.rules r))
@@ -72,7 +72,7 @@ module _ (g : Keyed) (K : IsKeyed g) (w : Label → ℕ) (zero_param : w Param �
       let z : p + 1 ≡ suc p = omega arith in
       (t.0, subst (λ (k : ℕ). AreTerms kids_of (x.kids + t.0) (drop k (nodes_at g.rules r))) z t.1)
 
-  calls-behind : CallsBelow (length H) (labels_of (drop (suc p) (nodes_at g.rules r)))
+  pub calls-behind : CallsBelow (length H) (labels_of (drop (suc p) (nodes_at g.rules r)))
   calls-behind =
       let l = (K.grammar.each r (omega (arith, is.rule, length-rules_of g.rules))).earlier in
       let c = below-more r (length H) (labels_of (nodes_at g.rules r)) (omega (arith, is.rule, length-rules_of g.rules)) (subst (λ (ls : List Label). CallsBelow r ls) (body_at-rules_of g.rules r) l) in
@@ -81,10 +81,10 @@ module _ (g : Keyed) (K : IsKeyed g) (w : Label → ℕ) (zero_param : w Param �
   enough : x.kids ≤ length all_kids
   enough = omega (arith, length-listings H (x.kids + behind.0) (drop (suc p) (nodes_at g.rules r)) behind.1)
 
-  length-kids : length kids_at ≡ x.kids
+  pub length-kids : length kids_at ≡ x.kids
   length-kids = length-take-le x.kids all_kids enough
 
-  kids-terms : AllTerms kids_at
+  pub kids-terms : AllTerms kids_at
   kids-terms =
       all-take x.kids all_kids (listings-terms H K.grammar (x.kids + behind.0) (drop (suc p) (nodes_at g.rules r)) behind.1 (arities-drop (ranks_of H) (suc p) (nodes_at g.rules r) (K.arities r)) calls-behind)
 
@@ -97,7 +97,7 @@ module _ (g : Keyed) (K : IsKeyed g) (w : Label → ℕ) (zero_param : w Param �
       ∙ ap (take x.kids) (weights-listings H K.grammar w zero_param (x.kids + behind.0) (drop (params base) args) (drop (suc p) (nodes_at g.rules r)) behind.1 (arities-drop (ranks_of H) (suc p) (nodes_at g.rules r) (K.arities r)) calls-behind)
       ∙ ap (λ k. take x.kids (term_weights w H (drop (params base) args) (drop k (nodes_at g.rules r)))) z
 
-  value-here : (rest : List Label) × (preorder H r ≡ base ++ (weave H x.label 0 kids_at ++ rest))
+  pub value-here : (rest : List Label) × (preorder H r ≡ base ++ (weave H x.label 0 kids_at ++ rest))
   value-here =
       let v = value-at-node H (nodes_at g.rules r) (nodes-are-term g K r is.rule) p x e in
       (v.0, preorder-nodes g K r is.rule ∙ v.1)

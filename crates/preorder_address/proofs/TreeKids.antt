@@ -58,6 +58,13 @@ number-within a (Symbol f ∷ ls) zero h = omega arith
 number-within a (Symbol f ∷ ls) (suc n) h = omega (arith, number-within a ls n (omega (arith, h, sum_by-cons node_weight (Symbol f) ls)))
 number-within a (Call q ∷ ls) n h = omega (arith, number-within a ls n (omega (arith, h, sum_by-cons node_weight (Call q) ls)))
 
+pub nodes-within-all : (ls : List Label) → sum_by node_weight ls ≤ sum_by all_weight ls
+nodes-within-all [] = omega arith
+nodes-within-all (Bottom ∷ ls) = omega (arith, nodes-within-all ls, sum_by-cons node_weight Bottom ls, sum_by-cons all_weight Bottom ls)
+nodes-within-all (Symbol f ∷ ls) = omega (arith, nodes-within-all ls, sum_by-cons node_weight (Symbol f) ls, sum_by-cons all_weight (Symbol f) ls)
+nodes-within-all (Call q ∷ ls) = omega (arith, nodes-within-all ls, sum_by-cons node_weight (Call q) ls, sum_by-cons all_weight (Call q) ls)
+nodes-within-all (Param ∷ ls) = omega (arith, nodes-within-all ls, sum_by-cons node_weight Param ls, sum_by-cons all_weight Param ls)
+
 module _ (G : List KeyedRule) (C : CountTable) (a : AreCountsOf (rules_of G) C) (g : IsGrammar (rules_of G)) where
   pub total-nodes : told measure.Nodes C.rows (C.rules - 1) 0 ≡ sum_by node_weight (preorder (rules_of G) (length G - 1))
   total-nodes = total-told a.0 (rules_of G) C a.1 g measure.Nodes ∙ ap (sum_by node_weight) (sym (value-last G))
@@ -67,13 +74,6 @@ module _ (G : List KeyedRule) (C : CountTable) (a : AreCountsOf (rules_of G) C) 
 
   pub all-fits : told measure.All C.rows (C.rules - 1) 0 < 2 ^ 64
   all-fits = omega (arith, total-all, total-small weigher.All G C a g)
-
-  pub nodes-within-all : (ls : List Label) → sum_by node_weight ls ≤ sum_by all_weight ls
-  nodes-within-all [] = omega arith
-  nodes-within-all (Bottom ∷ ls) = omega (arith, nodes-within-all ls, sum_by-cons node_weight Bottom ls, sum_by-cons all_weight Bottom ls)
-  nodes-within-all (Symbol f ∷ ls) = omega (arith, nodes-within-all ls, sum_by-cons node_weight (Symbol f) ls, sum_by-cons all_weight (Symbol f) ls)
-  nodes-within-all (Call q ∷ ls) = omega (arith, nodes-within-all ls, sum_by-cons node_weight (Call q) ls, sum_by-cons all_weight (Call q) ls)
-  nodes-within-all (Param ∷ ls) = omega (arith, nodes-within-all ls, sum_by-cons node_weight Param ls, sum_by-cons all_weight Param ls)
 
   pub nodes-fit : told measure.Nodes C.rows (C.rules - 1) 0 < 2 ^ 64
   nodes-fit = omega (arith, total-nodes, total-all, all-fits, nodes-within-all (preorder (rules_of G) (length G - 1)))

@@ -33,19 +33,19 @@ abbrev pub parent_behind : List ℕ → ℕ → Option ℕ → List Label → Op
 parent_behind args first up ls = get_or (parents_behind args first (up ∷ []) ls) 0 None
 
 -- the labels before parameter i
-abbrev pub until : ℕ → List Label → List Label
-until i [] = []
-until zero (Param ∷ ls) = []
-until (suc i) (Param ∷ ls) = Param ∷ until i ls
-until i (l ∷ ls) = l ∷ until i ls
+abbrev pub until : List Label → ℕ → List Label
+until [] i = []
+until (Param ∷ ls) zero = []
+until (Param ∷ ls) (suc i) = Param ∷ until ls i
+until (l ∷ ls) i = l ∷ until ls i
 
 -- over how many first terms of symbols the way to a node's kid goes, in what the node means
 abbrev pub first_terms : List Rule → Label → ℕ → ℕ
-first_terms G l kid = length (parents_behind [] 0 [] (until kid (shape G l)))
+first_terms G l kid = length (parents_behind [] 0 [] (until (shape G l) kid))
 
 -- the parent of a node's kid, where the way to it goes over one
 abbrev pub parent_of_kid : List Rule → List ℕ → ℕ → Label → ℕ → Option ℕ
-parent_of_kid G args first l kid = get_or (parents_behind args first [] (until kid (shape G l))) 0 None
+parent_of_kid G args first l kid = get_or (parents_behind args first [] (until (shape G l) kid)) 0 None
 
 -- how many nodes each of a node's kids has
 abbrev pub kid_sizes : List KeyedRule → List ℕ → ℕ → ℕ → Node → List ℕ

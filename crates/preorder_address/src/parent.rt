@@ -1,4 +1,26 @@
 // The parent of a node, by the way to it.
+ghost use Rattle.std.specs.Prelude.{◌≡◌, ◌↔◌, ℕ, ◌<◌, ◌≤◌, ◌+◌, ◌-◌, ◌*◌, ◌^◌, [], ◌∷◌, List, Option, None, Some, IsSome, IfSome, true, false, length, get_or, slice_get, sum_by, option_map};
+ghost use Rattle.plain_tree.specs.declared.kind.Kind.{Kind};
+ghost use Rattle.plain_tree.specs.Tree.{Trees};
+ghost use Rattle.rule_arena.specs.Terms.{Node, parent_in};
+ghost use Rattle.slt_grammar.specs.Bodies.{CallsBelow, arity, params};
+ghost use Rattle.slt_grammar.specs.Algebras.{ranks_of};
+ghost use Rattle.slt_grammar.specs.Coding.{Codes};
+ghost use Rattle.slt_grammar.specs.Grammars.{IsGrammar, value};
+ghost use Rattle.slt_grammar.specs.Keyed.{IsKeyed, key_at, nodes_at, rules_of};
+ghost use Rattle.slt_grammar.specs.Segments.{preorder};
+ghost use Rattle.slt_grammar.proofs.Spreads.{IsPlain};
+ghost use Rattle.slt_grammar.specs.declared.rules.Rule.{Rule};
+ghost use Rattle.segment_counts.specs.Counting.{told};
+ghost use Rattle.segment_counts.specs.Weights.{node_weight};
+ghost use Rattle.segment_counts.specs.declared.counts.Measure.TheVariants.{Nodes};
+ghost use Rattle.rule_arena.specs.declared.label.Label.{Label};
+ghost use Rattle.rule_arena.specs.declared.label.Label.TheVariants.{Bottom, Symbol, Call, Param};
+ghost use Rattle.preorder_address.specs.Numberings.{AreCountsOf};
+ghost use Rattle.preorder_address.specs.Parents.{EntryTells, Tells, TellsParent, first_terms, kid_sizes, until};
+ghost use Rattle.preorder_address.specs.Sites.{labels_before, laden};
+ghost use Rattle.preorder_address.specs.TreeNumbers.{parent_at};
+ghost use Rattle.preorder_address.specs.declared.parent.Edge.{Edge};
 
 use crate::descent::locate;
 use crate::site::{MOST_KIDS, kid_weights, pass_to};
@@ -38,7 +60,11 @@ pub fn parent_of<L: Ledger>(
     counts: &Counts,
     number: u64,
     steps: &mut Steps<L>,
-) -> Option<Option<u64>> {
+) -> Option<Option<u64>>
+    requires counts { AreCountsOf (rules_of grammar.now.rules) counts.now }
+    ensures parent { (names : List (Kind × List ℕ)) (ts : Trees) → Codes names ts (value (rules_of grammar.now.rules)) → result ≡ parent_at ts number }
+    ensures some { IsSome result ↔ number < told Nodes counts.now.rows (counts.now.rules - 1) 0 }
+{
     // The call tells what is true of every grammar.
     let _limit = grammar.limit();
     let mut descent = locate(counts, number)?;
@@ -64,7 +90,10 @@ fn later_entry(
     rule: usize,
     edge: Option<Edge>,
     frame: Frame,
-) -> Option<Entry> {
+) -> Option<Entry>
+    ensures here { (e : Edge) → edge ≡ Some e → result ≡ Some (record { rule = rule; edge = e; frame = frame }) }
+    ensures before { edge ≡ None → result ≡ entry }
+{
     match edge {
         Some(edge) => Some(Entry { rule, edge, frame }),
         None => entry,
@@ -77,7 +106,12 @@ fn number_of<L: Ledger>(
     counts: &Counts,
     mut entry: Entry,
     steps: &mut Steps<L>,
-) -> u64 {
+) -> u64
+    requires keyed { IsKeyed grammar.now }
+    requires counts { AreCountsOf (rules_of grammar.now.rules) counts.now }
+    requires tells { (limit : ℕ) × (up : Option ℕ) × (limit < 2 ^ 64) × EntryTells grammar.now.rules limit entry up }
+    ensures number { (limit : ℕ) (up : Option ℕ) → EntryTells grammar.now.rules limit entry up → up ≡ Some result }
+{
     loop {
         let frame = frame_at(
             grammar,
@@ -106,7 +140,15 @@ fn frame_at<L: Ledger>(
     rule: usize,
     key: Key,
     steps: &mut Steps<L>,
-) -> Frame {
+) -> Frame
+    requires keyed { IsKeyed grammar.now }
+    requires counts { AreCountsOf (rules_of grammar.now.rules) counts.now }
+    requires there { (p : ℕ) × (x : Node) × (slice_get (nodes_at grammar.now.rules rule) p ≡ Some x) × (x.key ≡ key) × IsPlain x.label }
+    requires small { frame.now.before + laden node_weight frame.now.args (preorder (rules_of grammar.now.rules) rule) < 2 ^ 64 }
+    ensures before { (p : ℕ) → key_at grammar.now.rules rule p ≡ Some key → result.before ≡ frame.now.before + laden node_weight frame.now.args (labels_before grammar.now.rules rule p) }
+    ensures args { (p : ℕ) (x : Node) → slice_get (nodes_at grammar.now.rules rule) p ≡ Some x → x.key ≡ key → (j : ℕ) → get_or result.args j 0
+        ≡ get_or (kid_sizes grammar.now.rules frame.now.args rule p x) j 0 }
+{
     let args = frame.args;
     let passed = pass_to(grammar, counts, &Weigher::Nodes, rule, key, &args, steps);
     Frame {
@@ -129,7 +171,13 @@ fn first_child_above<L: Ledger>(
     counts: &Counts,
     key: Key,
     steps: &mut Steps<L>,
-) -> Option<Edge> {
+) -> Option<Edge>
+    requires keyed { IsKeyed grammar.now }
+    requires counts { AreCountsOf (rules_of grammar.now.rules) counts.now }
+    requires there { (r : ℕ) × (p : ℕ) × (key_at grammar.now.rules r p ≡ Some key) }
+    ensures tells { (r p : ℕ) → key_at grammar.now.rules r p ≡ Some key → TellsParent grammar.now.rules r p result }
+    ensures steps { (r p : ℕ) → key_at grammar.now.rules r p ≡ Some key → steps.new ≤ steps.old + 2 * length (nodes_at grammar.now.rules r) }
+{
     let mut at = key;
     while let Some(edge) = edge_above(grammar, at, steps) {
         if enters(counts, edge.label, edge.kid) {
@@ -141,7 +189,14 @@ fn first_child_above<L: Ledger>(
 }
 
 // The edge from a node's parent in its body.
-fn edge_above<L: Ledger>(grammar: &Grammar, key: Key, steps: &mut Steps<L>) -> Option<Edge> {
+fn edge_above<L: Ledger>(grammar: &Grammar, key: Key, steps: &mut Steps<L>) -> Option<Edge>
+    requires keyed { IsKeyed grammar.now }
+    requires there { (r : ℕ) × (p : ℕ) × (key_at grammar.now.rules r p ≡ Some key) }
+    ensures parent { (r p : ℕ) → key_at grammar.now.rules r p ≡ Some key → parent_in (nodes_at grammar.now.rules r) p ≡ option_map (λ e. (e.key, e.kid + 1)) result }
+    ensures node { IfSome result (λ e. (r q : ℕ) → key_at grammar.now.rules r q ≡ Some e.key → (x : Node) × (slice_get (nodes_at grammar.now.rules r) q ≡ Some x) × (x.key ≡ e.key) × (x.label ≡ e.label)) }
+    ensures steps { steps.new ≤ steps.old + 2 }
+    ensures more { steps.old < steps.new }
+{
     let (up, place) = grammar.item(key, steps).parent?;
     let label = grammar.item(up, steps).label;
     Some(Edge {
@@ -152,7 +207,11 @@ fn edge_above<L: Ledger>(grammar: &Grammar, key: Key, steps: &mut Steps<L>) -> O
 }
 
 // Whether the way to a kid goes over a first child.
-fn enters(counts: &Counts, label: Label, kid: usize) -> bool {
+fn enters(counts: &Counts, label: Label, kid: usize) -> bool
+    requires counts { (G : List Rule) × IsGrammar G × AreCountsOf G counts.now × CallsBelow (length G) (label ∷ []) × (kid < arity (ranks_of G) label) }
+    ensures yes { result ≡ true → (G : List Rule) → IsGrammar G → AreCountsOf G counts.now → CallsBelow (length G) (label ∷ []) → kid < arity (ranks_of G) label → 0 < first_terms G label kid }
+    ensures no { result ≡ false → (G : List Rule) → IsGrammar G → AreCountsOf G counts.now → CallsBelow (length G) (label ∷ []) → kid < arity (ranks_of G) label → first_terms G label kid ≡ 0 }
+{
     match label {
         Label::Symbol(_) => kid == 0,
         Label::Call(rule) => 0 < first_children(counts, rule, kid),
@@ -162,7 +221,10 @@ fn enters(counts: &Counts, label: Label, kid: usize) -> bool {
 
 // Over how many first children the way to a parameter of a rule's value goes. Each leaves its siblings open, and what stands before the
 // parameter closes all others: a symbol opens one more, a bottom or a parameter closes one.
-fn first_children(counts: &Counts, rule: usize, param: usize) -> u64 {
+fn first_children(counts: &Counts, rule: usize, param: usize) -> u64
+    requires counts { (G : List Rule) × IsGrammar G × AreCountsOf G counts.now × (rule < length G) × (param < arity (ranks_of G) (Call rule)) }
+    ensures { (G : List Rule) → IsGrammar G → AreCountsOf G counts.now → rule < length G → param < arity (ranks_of G) (Call rule) → result ≡ first_terms G (Call rule) param }
+{
     let nodes = counts.before(Measure::Nodes, rule, param + 1);
     let all = counts.before(Measure::All, rule, param + 1);
     nodes - (all - nodes) - param as u64
@@ -174,7 +236,12 @@ fn param_at<L: Ledger>(
     rule: usize,
     number: usize,
     steps: &mut Steps<L>,
-) -> Key {
+) -> Key
+    requires keyed { IsKeyed grammar.now }
+    requires rule { rule < length grammar.now.rules }
+    requires number { number < params (preorder (rules_of grammar.now.rules) rule) }
+    ensures there { (p : ℕ) × (key_at grammar.now.rules rule p ≡ Some result) × (labels_before grammar.now.rules rule p ≡ until (preorder (rules_of grammar.now.rules) rule) number) }
+{
     let mut walk = TourWalk::new(grammar, rule);
     let mut passed = 0;
     loop {

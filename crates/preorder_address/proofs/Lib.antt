@@ -28,3 +28,5 @@ pub mod FirstTerms
 pub mod ParentStops
 pub mod ParentRises
 pub mod Rising
+pub mod ParamSeeking
+pub mod Framing

@@ -8,7 +8,7 @@ ghost use Rattle.slt_grammar.specs.Algebras.{ranks_of};
 ghost use Rattle.slt_grammar.specs.Coding.{Codes};
 ghost use Rattle.slt_grammar.specs.Grammars.{IsGrammar, value};
 ghost use Rattle.slt_grammar.specs.Keyed.{IsKeyed, key_at, nodes_at, rules_of};
-ghost use Rattle.slt_grammar.specs.Segments.{preorder};
+ghost use Rattle.slt_grammar.specs.Segments.{node_tour, preorder};
 ghost use Rattle.slt_grammar.proofs.Spreads.{IsPlain};
 ghost use Rattle.slt_grammar.specs.declared.rules.Rule.{Rule};
 ghost use Rattle.segment_counts.specs.Counting.{told};
@@ -23,7 +23,7 @@ ghost use Rattle.preorder_address.specs.TreeNumbers.{parent_at};
 ghost use Rattle.preorder_address.specs.declared.parent.Edge.{Edge};
 
 use crate::descent::locate;
-use crate::site::{MOST_KIDS, kid_weights, pass_to};
+use crate::site::{MOST_KIDS, kid_weights, params_of, pass_to};
 use crate::weigher::Weigher;
 use read_steps::Steps;
 use segment_counts::{Counts, Measure};
@@ -241,19 +241,26 @@ fn param_at<L: Ledger>(
     requires rule { rule < length grammar.now.rules }
     requires number { number < params (preorder (rules_of grammar.now.rules) rule) }
     ensures there { (p : ℕ) × (key_at grammar.now.rules rule p ≡ Some result) × (labels_before grammar.now.rules rule p ≡ until (preorder (rules_of grammar.now.rules) rule) number) }
+    ensures steps { steps.new ≤ steps.old + 2 * length (node_tour grammar.now.rules rule) }
 {
     let mut walk = TourWalk::new(grammar, rule);
     let mut passed = 0;
     loop {
         let item = grammar.item(walk.key, steps);
-        if let Label::Param = item.label {
-            if passed == number {
-                return walk.key;
-            }
-            passed += 1;
+        if is_param(item.label, passed, number) {
+            return walk.key;
         }
+        passed += params_of(item.label);
         if !walk.advance(grammar, &item, steps) {
             unreachable!()
         }
     }
+}
+
+// Whether a node is this parameter, where so many parameters stand before it.
+fn is_param(label: Label, passed: usize, number: usize) -> bool
+    ensures yes { result ≡ true → (label ≡ Param) × (passed ≡ number) }
+    ensures no { result ≡ false → label ≡ Param → passed ≡ number → ⊥ }
+{
+    matches!(label, Label::Param) && passed == number
 }

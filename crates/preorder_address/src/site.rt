@@ -236,7 +236,8 @@ fn arg_at(args: &[u64; MOST_KIDS], param: usize) -> u64
     if param < MOST_KIDS { args[param] } else { 0 }
 }
 
-fn params_of(label: Label) -> usize
+// How many parameters a node is: one or none.
+pub(crate) fn params_of(label: Label) -> usize
     ensures { result ≡ params_at label }
 {
     match label {

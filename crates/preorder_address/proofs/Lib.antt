@@ -30,3 +30,4 @@ pub mod ParentRises
 pub mod Rising
 pub mod ParamSeeking
 pub mod Framing
+pub mod EntrySteps

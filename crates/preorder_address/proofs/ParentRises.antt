@@ -82,7 +82,7 @@ module _ (G : List Rule) where
   fronts-put (Symbol f) p k (suc (suc i)) cs e n h = absurd (omega arith)
   fronts-put (Call q) p k i cs e n h = ap (λ ls. ls ++ segment i (preorder G q)) (fronts-call q i cs) ∙ fronts-until (preorder G q) cs i (omega arith) (omega arith)
 
-plain-kids : (ranks : List ℕ) (l : Label) (k i : ℕ) → k ≡ arity ranks l → i < k → IsPlain l
+pub plain-kids : (ranks : List ℕ) (l : Label) (k i : ℕ) → k ≡ arity ranks l → i < k → IsPlain l
 plain-kids ranks Param k i e h = omega arith
 plain-kids ranks Bottom k i e h = tt
 plain-kids ranks (Symbol f) k i e h = tt
@@ -179,7 +179,7 @@ module _ (g : Keyed) (K : IsKeyed g) (r p : ℕ) (key : Key) (e : key_at g.rules
         rises = λ args first up. rising q y L.there L.before L.part L.split part label kid args first up;
       }
 
-first-of : (xs ys : List (Option ℕ)) → 0 < length xs → get_or (xs ++ ys) 0 None ≡ get_or xs 0 None
+pub first-of : (xs ys : List (Option ℕ)) → 0 < length xs → get_or (xs ++ ys) 0 None ≡ get_or xs 0 None
 first-of [] ys h = absurd (omega arith)
 first-of (x ∷ xs) ys h = refl
 

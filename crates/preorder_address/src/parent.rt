@@ -16,6 +16,7 @@ ghost use Rattle.segment_counts.specs.Weights.{node_weight};
 ghost use Rattle.segment_counts.specs.declared.counts.Measure.TheVariants.{Nodes};
 ghost use Rattle.rule_arena.specs.declared.label.Label.{Label};
 ghost use Rattle.rule_arena.specs.declared.label.Label.TheVariants.{Bottom, Symbol, Call, Param};
+ghost use Rattle.preorder_address.specs.Descents.{nodes_up_to};
 ghost use Rattle.preorder_address.specs.Numberings.{AreCountsOf};
 ghost use Rattle.preorder_address.specs.Parents.{EntryTells, Tells, TellsParent, first_terms, kid_sizes, until};
 ghost use Rattle.preorder_address.specs.Sites.{labels_before, laden};
@@ -104,31 +105,33 @@ fn later_entry(
 fn number_of<L: Ledger>(
     grammar: &Grammar,
     counts: &Counts,
-    mut entry: Entry,
+    entry: Entry,
     steps: &mut Steps<L>,
 ) -> u64
     requires keyed { IsKeyed grammar.now }
     requires counts { AreCountsOf (rules_of grammar.now.rules) counts.now }
     requires tells { (limit : ℕ) × (up : Option ℕ) × (limit < 2 ^ 64) × EntryTells grammar.now.rules limit entry up }
     ensures number { (limit : ℕ) (up : Option ℕ) → EntryTells grammar.now.rules limit entry up → up ≡ Some result }
+    ensures steps { steps.new ≤ steps.old + 12 * nodes_up_to grammar.now.rules entry.rule }
 {
+    let mut at = entry;
     loop {
         let frame = frame_at(
             grammar,
             counts,
-            &entry.frame,
-            entry.rule,
-            entry.edge.key,
+            &at.frame,
+            at.rule,
+            at.edge.key,
             steps,
         );
-        let Label::Call(rule) = entry.edge.label else {
+        let Label::Call(rule) = at.edge.label else {
             return frame.before;
         };
-        let param = param_at(grammar, rule, entry.edge.kid, steps);
+        let param = param_at(grammar, rule, at.edge.kid, steps);
         let Some(edge) = first_child_above(grammar, counts, param, steps) else {
             unreachable!()
         };
-        entry = Entry { rule, edge, frame };
+        at = Entry { rule, edge, frame };
     }
 }
 
@@ -148,6 +151,7 @@ fn frame_at<L: Ledger>(
     ensures before { (p : ℕ) → key_at grammar.now.rules rule p ≡ Some key → result.before ≡ frame.now.before + laden node_weight frame.now.args (labels_before grammar.now.rules rule p) }
     ensures args { (p : ℕ) (x : Node) → slice_get (nodes_at grammar.now.rules rule) p ≡ Some x → x.key ≡ key → (j : ℕ) → get_or result.args j 0
         ≡ get_or (kid_sizes grammar.now.rules frame.now.args rule p x) j 0 }
+    ensures steps { steps.new ≤ steps.old + 6 * length (nodes_at grammar.now.rules rule) }
 {
     let args = frame.args;
     let passed = pass_to(grammar, counts, &Weigher::Nodes, rule, key, &args, steps);

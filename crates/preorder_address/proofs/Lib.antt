@@ -31,3 +31,6 @@ pub mod Rising
 pub mod ParamSeeking
 pub mod Framing
 pub mod EntrySteps
+pub mod ParentSiting
+pub mod TreeParents
+pub mod ParentWays

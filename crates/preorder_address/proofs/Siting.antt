@@ -116,7 +116,7 @@ module _ (g : Keyed) (K : IsKeyed g) (w : Label → ℕ) (zero_param : w Param �
     call-there : q < length H
     call-there = (subst (λ (l : Label). CallsBelow (length H) (l ∷ [])) is_call is.calls).0
 
-    call-params : params (preorder H q) ≡ length kids_at
+    pub call-params : params (preorder H q) ≡ length kids_at
     call-params =
         omega (arith, shape-params H K.grammar (Call q) tt (subst (λ (l : Label). CallsBelow (length H) (l ∷ [])) is_call is.calls), ap (arity (ranks_of H)) is_call, is.kids, length-kids)
 
@@ -127,7 +127,7 @@ module _ (g : Keyed) (K : IsKeyed g) (w : Label → ℕ) (zero_param : w Param �
     pub call-within : laden w args base + laden w kid_args (preorder H q) ≤ laden w args (preorder H r)
     call-within = omega (arith, base-within, ap (laden w (drop (params base) args)) weave-call, laden-put w (drop (params base) args) (preorder H q) kids_at call-params)
 
-    value-term : AreTerms label_arity 1 (preorder H q)
+    pub value-term : AreTerms label_arity 1 (preorder H q)
     value-term = listed-term 0 (value_at H q) [] tt
 
     module _ (passed : List Label) (part first offset n : ℕ) (placed : passed ≡ base ++ fronts H x.label all_kids part) (is_first : first ≡ sum_by node_weight passed) (is_number : n ≡ first + offset) (inside : offset < count node_weight H q part) where
@@ -141,13 +141,13 @@ module _ (g : Keyed) (K : IsKeyed g) (w : Label → ℕ) (zero_param : w Param �
           by_place (inl l) = absurd (omega (arith, inside, ap (sum_by node_weight) (segment-past (preorder H q) part l)))
           by_place (inr l) = omega (arith, l, call-params, length-kids)
 
-      inner-there : inner < sum_by node_weight (preorder H q)
+      pub inner-there : inner < sum_by node_weight (preorder H q)
       inner-there = omega (arith, inside, segment-within node_weight (preorder H q) part)
 
-      abbrev outer : ℕ
+      abbrev pub outer : ℕ
       outer = weight_before node_weight (sizes kids_at) (preorder H q) inner
 
-      number-is : n ≡ sum_by node_weight base + outer
+      pub number-is : n ≡ sum_by node_weight base + outer
       number-is =
           omega (
             arith,
@@ -160,10 +160,10 @@ module _ (g : Keyed) (K : IsKeyed g) (w : Label → ℕ) (zero_param : w Param �
             before-segments (sizes kids_at) (preorder H q) part offset inner refl inside,
           )
 
-      outer-there : outer < sum_by node_weight (put (preorder H q) kids_at)
+      pub outer-there : outer < sum_by node_weight (put (preorder H q) kids_at)
       outer-there = omega (arith, before-less (sizes kids_at) (preorder H q) inner inner-there, nodes-put (preorder H q) kids_at call-params)
 
-      value-call : preorder H r ≡ base ++ (put (preorder H q) kids_at ++ value-here.0)
+      pub value-call : preorder H r ≡ base ++ (put (preorder H q) kids_at ++ value-here.0)
       value-call = value-here.1 ∙ ap (λ ls. base ++ (ls ++ value-here.0)) weave-call
 
       pub before-call : weight_before w args (preorder H r) n ≡ laden w args base + weight_before w kid_args (preorder H q) inner
@@ -183,10 +183,10 @@ module _ (g : Keyed) (K : IsKeyed g) (w : Label → ℕ) (zero_param : w Param �
           ∙ below-put w 1 (drop (params base) args) (preorder H q) kids_at outer inner call-params kids-terms value-term refl inner-there
 
   module _ (f : ℕ) (is_symbol : x.label ≡ Symbol f) (n : ℕ) (is_number : n ≡ sum_by node_weight base) where
-    two : length kids_at ≡ 2
+    pub two : length kids_at ≡ 2
     two = omega (arith, length-kids, is.kids, ap (arity (ranks_of H)) is_symbol)
 
-    value-symbol : preorder H r ≡ base ++ (weave H (Symbol f) 0 kids_at ++ value-here.0)
+    pub value-symbol : preorder H r ≡ base ++ (weave H (Symbol f) 0 kids_at ++ value-here.0)
     value-symbol = value-here.1 ∙ ap (λ l. base ++ (weave H l 0 kids_at ++ value-here.0)) is_symbol
 
     number-zero : n ≡ sum_by node_weight base + 0

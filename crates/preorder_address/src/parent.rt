@@ -6,7 +6,7 @@ ghost use Rattle.rule_arena.specs.Terms.{Node, parent_in};
 ghost use Rattle.slt_grammar.specs.Bodies.{CallsBelow, arity, params};
 ghost use Rattle.slt_grammar.specs.Algebras.{ranks_of};
 ghost use Rattle.slt_grammar.specs.Coding.{Codes};
-ghost use Rattle.slt_grammar.specs.Grammars.{IsGrammar, value};
+ghost use Rattle.slt_grammar.specs.Grammars.{IsGrammar, value, whole};
 ghost use Rattle.slt_grammar.specs.Keyed.{IsKeyed, key_at, nodes_at, rules_of};
 ghost use Rattle.slt_grammar.specs.Segments.{node_tour, preorder};
 ghost use Rattle.slt_grammar.proofs.Spreads.{IsPlain};
@@ -65,6 +65,7 @@ pub fn parent_of<L: Ledger>(
     requires counts { AreCountsOf (rules_of grammar.now.rules) counts.now }
     ensures parent { (names : List (Kind × List ℕ)) (ts : Trees) → Codes names ts (value (rules_of grammar.now.rules)) → result ≡ parent_at ts number }
     ensures some { IsSome result ↔ number < told Nodes counts.now.rows (counts.now.rules - 1) 0 }
+    ensures steps { steps.new ≤ steps.old + 24 * whole (rules_of grammar.now.rules) }
 {
     // The call tells what is true of every grammar.
     let _limit = grammar.limit();

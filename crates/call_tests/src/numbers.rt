@@ -123,7 +123,7 @@ fn tell<L: Ledger>(
         extent(grammar, counts, number, &mut steps)?,
         text_rank(grammar, counts, names, number, &mut steps)?,
         next_sibling(grammar, counts, number, &mut steps)?,
-        parent_of(grammar, counts, number, &mut steps)?,
+        parent_of(grammar, counts, number, &mut steps).ok()??,
     ))
 }
 

@@ -1,5 +1,5 @@
 // The parent of a node, by the way to it.
-ghost use Rattle.std.specs.Prelude.{◌≡◌, ◌↔◌, ℕ, ◌<◌, ◌≤◌, ◌+◌, ◌-◌, ◌*◌, ◌^◌, [], ◌∷◌, List, Option, None, Some, IsSome, IfSome, true, false, length, get_or, slice_get, sum_by, option_map};
+ghost use Rattle.std.specs.Prelude.{◌≡◌, ◌↔◌, ℕ, ◌<◌, ◌≤◌, ◌+◌, ◌-◌, ◌*◌, ◌^◌, [], ◌∷◌, List, Option, None, Some, IsSome, IfSome, IsOk, IfOk, true, false, length, get_or, slice_get, sum_by, option_map};
 ghost use Rattle.plain_tree.specs.declared.kind.Kind.{Kind};
 ghost use Rattle.plain_tree.specs.Tree.{Trees};
 ghost use Rattle.rule_arena.specs.Terms.{Node, parent_in};
@@ -29,6 +29,7 @@ use crate::weigher::Weigher;
 use read_steps::Steps;
 use segment_counts::{Counts, Measure};
 use slt_grammar::{Grammar, Key, Label, TourWalk};
+use std::alloc::AllocError;
 use std::sync::ledger::Ledger;
 
 // How many nodes stand before a rule's value, and how many its arguments have.
@@ -55,8 +56,24 @@ struct Entry {
 }
 
 /// The number of the parent of the node with this number. The outer None comes exactly where the number isn't below the total, the inner
-/// one where the node has no parent. It takes no memory.
+/// one where the node has no parent. It takes no memory, so no error comes. At most 24 steps for each node of the bodies.
 pub fn parent_of<L: Ledger>(
+    grammar: &Grammar,
+    counts: &Counts,
+    number: u64,
+    steps: &mut Steps<L>,
+) -> Result<Option<Option<u64>>, AllocError>
+    requires counts { AreCountsOf (rules_of grammar.now.rules) counts.now }
+    ensures fine { IsOk result }
+    ensures parent { (names : List (Kind × List ℕ)) (ts : Trees) → Codes names ts (value (rules_of grammar.now.rules)) → IfOk result (λ told. told ≡ parent_at ts number) }
+    ensures some { IfOk result (λ parent. IsSome parent ↔ number < told Nodes counts.now.rows (counts.now.rules - 1) 0) }
+    ensures steps { steps.new ≤ steps.old + 24 * whole (rules_of grammar.now.rules) }
+{
+    Ok(find_parent(grammar, counts, number, steps))
+}
+
+// Level by level it keeps the last first child on the way, and at the end looks for the node above that child.
+fn find_parent<L: Ledger>(
     grammar: &Grammar,
     counts: &Counts,
     number: u64,

@@ -22,14 +22,14 @@ use std::sync::ledger::Ledger;
 // A rule has no more parameters.
 pub(crate) const MOST_KIDS: usize = 8;
 
-// What stands before a node of the grammar's value weighs, and what the code of its kids weighs.
+// The weight of all that stands before a node of the grammar's value, and that of the code of the node's kids.
 #[derive(Clone, Copy, Drop)]
 pub(crate) struct Site {
     pub(crate) before: u64,
     pub(crate) below: u64,
 }
 
-// What stands before a node of a body weighs, and how many parameters are there.
+// The weight of all that stands before a node of a body, and how many parameters stand there.
 #[derive(Clone, Copy, Drop)]
 pub(crate) struct Passed {
     pub(crate) weight: u64,

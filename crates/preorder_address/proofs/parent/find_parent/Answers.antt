@@ -14,7 +14,7 @@ use Rattle.preorder_address.proofs.ParentWays.{ParentedBy, here, limit, parented
 use Rattle.preorder_address.proofs.Sited.{SitedBy, level-key, level-within, sited-next}
 use Rattle.preorder_address.proofs.TreeKids.{nodes-fit, total-nodes}
 use Rattle.preorder_address.proofs.TreeParents.{no-parent, parent-told, total-trees}
-use Rattle.preorder_address.proofs.parent.parent_of.Goals as goal
+use Rattle.preorder_address.proofs.parent.find_parent.Goals as goal
 
 pub returns-in_err-descent-clause-parent : goal.returns-in_err-descent-clause-parent
 returns-in_err-descent-clause-parent g c = λ names ts code.

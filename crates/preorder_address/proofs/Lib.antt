@@ -34,3 +34,4 @@ pub mod EntrySteps
 pub mod ParentSiting
 pub mod TreeParents
 pub mod ParentWays
+pub mod TreeAbove

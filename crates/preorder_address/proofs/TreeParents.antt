@@ -29,7 +29,7 @@ use Rattle.preorder_address.proofs.ParentLists.{among-append, behind-terms}
 use Rattle.preorder_address.proofs.Sited.{laden-alone}
 use Rattle.preorder_address.proofs.TreePlaces.{listed-append, nodes-coded}
 
-length-parents : (up : Option ℕ) (first : ℕ) (ts : Trees) → length (parents up first ts) ≡ node_count_all ts
+pub length-parents : (up : Option ℕ) (first : ℕ) (ts : Trees) → length (parents up first ts) ≡ node_count_all ts
 length-parents up first none = refl
 length-parents up first (more (node k n v ks) ts) =
     omega (arith, length-append (parents (Some first) (first + 1) ks) (parents up (first + 1 + node_count_all ks) ts), length-parents (Some first) (first + 1) ks, length-parents up (first + 1 + node_count_all ks) ts)

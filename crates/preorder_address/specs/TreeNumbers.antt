@@ -1,5 +1,5 @@
 -- What the nodes of a tree are, by their numbers.
-use Rattle.std.specs.Prelude.{ℕ, ◌+◌, ◌-◌, ◌*◌, List, [], ◌∷◌, ◌++◌, length, take, get_or, Option, None, Some, option_map, unwrap_or, slice_get}
+use Rattle.std.specs.Prelude.{◌≡◌, ℕ, ◌+◌, ◌-◌, ◌*◌, ◌<◌, List, [], ◌∷◌, ◌++◌, length, take, get_or, Option, None, Some, option_map, unwrap_or, slice_get}
 use Rattle.plain_tree.specs.declared.kind.Kind.{Kind}
 use Rattle.plain_tree.specs.Tree.{Tree, node, Trees, none, more, node_count, node_count_all}
 use Rattle.plain_tree.specs.declared.kind.Kind.TheVariants.{Attribute}
@@ -70,3 +70,12 @@ parents up first (more (node kind name value kids) ts) = up ∷ (parents (Some f
 -- the number of the parent of node n of a list of trees, if it has one
 abbrev pub parent_at : Trees → ℕ → Option (Option ℕ)
 parent_at ts n = slice_get (parents None 0 ts) n
+
+-- node n of a list of trees is below node m
+abbrev pub IsBelow : Trees → ℕ → ℕ → Type 0
+IsBelow ts m n = (s : Tree) × (slice_get (nodes_all ts) m ≡ Some s) × (m < n) × (n < m + node_count s)
+
+-- node n is below this node and no later one, or below none
+abbrev pub IsLastAbove : Trees → ℕ → Option ℕ → Type 0
+IsLastAbove ts n None = (m : ℕ) → IsBelow ts m n → ⊥
+IsLastAbove ts n (Some m) = IsBelow ts m n × ((k : ℕ) → m < k → IsBelow ts k n → ⊥)

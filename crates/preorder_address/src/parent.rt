@@ -20,7 +20,7 @@ ghost use Rattle.preorder_address.specs.Descents.{nodes_up_to};
 ghost use Rattle.preorder_address.specs.Numberings.{AreCountsOf};
 ghost use Rattle.preorder_address.specs.Parents.{EntryTells, Tells, TellsParent, first_terms, kid_sizes, until};
 ghost use Rattle.preorder_address.specs.Sites.{labels_before, laden};
-ghost use Rattle.preorder_address.specs.TreeNumbers.{parent_at};
+ghost use Rattle.preorder_address.specs.TreeNumbers.{IsLastAbove, parent_at};
 ghost use Rattle.preorder_address.specs.declared.parent.Edge.{Edge};
 
 use crate::descent::locate;
@@ -66,6 +66,7 @@ pub fn parent_of<L: Ledger>(
     requires counts { AreCountsOf (rules_of grammar.now.rules) counts.now }
     ensures fine { IsOk result }
     ensures parent { (names : List (Kind × List ℕ)) (ts : Trees) → Codes names ts (value (rules_of grammar.now.rules)) → IfOk result (λ told. told ≡ parent_at ts number) }
+    ensures above { (names : List (Kind × List ℕ)) (ts : Trees) → Codes names ts (value (rules_of grammar.now.rules)) → IfOk result (λ told. IfSome told (IsLastAbove ts number)) }
     ensures some { IfOk result (λ parent. IsSome parent ↔ number < told Nodes counts.now.rows (counts.now.rules - 1) 0) }
     ensures steps { steps.new ≤ steps.old + 24 * whole (rules_of grammar.now.rules) }
 {

@@ -10,7 +10,7 @@ use super::counts::small_names;
 use super::grammar::{Row, START, TWICE, rules_of};
 use plain_tree::{Kind, Names};
 use preorder_address::{
-    Descent, after_attributes, end_of_kids, extent, kind_of, next_sibling, text_rank,
+    Descent, after_attributes, end_of_kids, extent, kind_of, next_sibling, parent_of, text_rank,
 };
 use read_steps::Steps;
 use segment_counts::Counts;
@@ -41,27 +41,59 @@ static ATTRIBUTES: [Row; 2] = [
     ),
 ];
 
-// A node's kind, how many nodes are below it, how many texts belong to those before it, and its next sibling.
-type Told = (Kind, u64, u64, Option<u64>);
+// <a><b><b/></b><b><b/>..</b></a>, where rule 0 is b(y1, b(y2, bottom)) and rule 1 calls it with y1 and b(bottom, y2).
+static NESTED: [Row; 3] = [
+    (2, &[Symbol(2), Param, Symbol(2), Param, Bottom]),
+    (2, &[Call(0), Param, Symbol(2), Bottom, Param]),
+    (
+        0,
+        &[
+            Symbol(0),
+            Symbol(1),
+            Call(1),
+            Symbol(2),
+            Bottom,
+            Bottom,
+            Symbol(3),
+            Bottom,
+            Bottom,
+            Bottom,
+            Bottom,
+        ],
+    ),
+];
+
+// A node's kind, how many nodes are below it, how many texts belong to those before it, its next sibling, and its parent.
+type Told = (Kind, u64, u64, Option<u64>, Option<u64>);
 
 static ATTRIBUTES_TOLD: [Told; 6] = [
-    (Kind::Document, 5, 0, None),
-    (Kind::Element, 4, 0, None),
-    (Kind::Attribute, 0, 0, Some(3)),
-    (Kind::Attribute, 0, 1, Some(4)),
-    (Kind::Element, 0, 2, Some(5)),
-    (Kind::Text, 0, 2, None),
+    (Kind::Document, 5, 0, None, None),
+    (Kind::Element, 4, 0, None, Some(0)),
+    (Kind::Attribute, 0, 0, Some(3), Some(1)),
+    (Kind::Attribute, 0, 1, Some(4), Some(1)),
+    (Kind::Element, 0, 2, Some(5), Some(1)),
+    (Kind::Text, 0, 2, None, Some(1)),
 ];
 
 static ELEMENTS_TOLD: [Told; 8] = [
-    (Kind::Document, 7, 0, None),
-    (Kind::Element, 6, 0, None),
-    (Kind::Element, 0, 0, Some(3)),
-    (Kind::Element, 0, 0, Some(4)),
-    (Kind::Element, 0, 0, Some(5)),
-    (Kind::Element, 0, 0, Some(6)),
-    (Kind::Element, 0, 0, Some(7)),
-    (Kind::Element, 0, 0, None),
+    (Kind::Document, 7, 0, None, None),
+    (Kind::Element, 6, 0, None, Some(0)),
+    (Kind::Element, 0, 0, Some(3), Some(1)),
+    (Kind::Element, 0, 0, Some(4), Some(1)),
+    (Kind::Element, 0, 0, Some(5), Some(1)),
+    (Kind::Element, 0, 0, Some(6), Some(1)),
+    (Kind::Element, 0, 0, Some(7), Some(1)),
+    (Kind::Element, 0, 0, None, Some(1)),
+];
+
+static NESTED_TOLD: [Told; 7] = [
+    (Kind::Document, 6, 0, None, None),
+    (Kind::Element, 5, 0, None, Some(0)),
+    (Kind::Element, 1, 0, Some(4), Some(1)),
+    (Kind::Element, 0, 0, None, Some(2)),
+    (Kind::Element, 2, 0, None, Some(1)),
+    (Kind::Element, 0, 0, Some(6), Some(4)),
+    (Kind::Text, 0, 0, None, Some(4)),
 ];
 
 // The names of the grammars above: those of small grammars, and two attributes.
@@ -91,6 +123,7 @@ fn tell<L: Ledger>(
         extent(grammar, counts, number, &mut steps)?,
         text_rank(grammar, counts, names, number, &mut steps)?,
         next_sibling(grammar, counts, number, &mut steps)?,
+        parent_of(grammar, counts, number, &mut steps).ok()??,
     ))
 }
 
@@ -98,9 +131,10 @@ fn tell<L: Ledger>(
 fn numbers_tell_of_their_nodes(rt: HostRuntime) -> Result<(), Fail> {
     let alloc = rt.alloc();
     let names = names(alloc)?;
-    let tables: [(&[Row], &[Told]); 2] = [
+    let tables: [(&[Row], &[Told]); 3] = [
         (&ATTRIBUTES, &ATTRIBUTES_TOLD),
         (&[TWICE, START], &ELEMENTS_TOLD),
+        (&NESTED, &NESTED_TOLD),
     ];
     for (rules, wanted) in tables {
         let grammar = check(alloc, rules_of(alloc, rules)?)?;

@@ -152,7 +152,7 @@ reach-plain : (l : Label) → IsPlain l → (T : List Label) (args : List ℕ) (
 reach-plain l p T args zero = omega (arith, ap (sum_by node_weight) (segment-now node_weight l p T), sum_by-cons node_weight l (segment 0 T))
 reach-plain l p T args (suc i) = omega (arith, reach-plain l p T args i, ap (sum_by node_weight) (segment-later node_weight l p T i))
 
-sums-plain : (w : Label → ℕ) (l : Label) → IsPlain l → (T : List Label) (i : ℕ) → segments_sum w (l ∷ T) 0 (suc i) ≡ w l + segments_sum w T 0 (suc i)
+pub sums-plain : (w : Label → ℕ) (l : Label) → IsPlain l → (T : List Label) (i : ℕ) → segments_sum w (l ∷ T) 0 (suc i) ≡ w l + segments_sum w T 0 (suc i)
 sums-plain w l p T i = omega (arith, ap (sum_by w) (segment-now w l p T), sum_by-cons w l (segment 0 T), segments_sum-later w l p T 0 i)
 
 -- all segments together
@@ -189,7 +189,7 @@ listed-term n (Node f a b) k t =
 abbrev pub Alike : List ℕ → List ℕ → Type 0
 Alike a b = (j : ℕ) → get_or a j 0 ≡ get_or b j 0
 
-alike-behind : (a b : List ℕ) → Alike a b → Alike (drop 1 a) (drop 1 b)
+pub alike-behind : (a b : List ℕ) → Alike a b → Alike (drop 1 a) (drop 1 b)
 alike-behind a b e j = behind a j ∙ e (suc j) ∙ sym (behind b j)
   where
     behind : (a : List ℕ) (j : ℕ) → get_or (drop 1 a) j 0 ≡ get_or a (suc j) 0

@@ -23,3 +23,15 @@ pub mod Sited
 pub mod TreeSites
 pub mod TreeKids
 pub mod TreeAttributes
+pub mod ParentLists
+pub mod FirstTerms
+pub mod ParentStops
+pub mod ParentRises
+pub mod Rising
+pub mod ParamSeeking
+pub mod Framing
+pub mod EntrySteps
+pub mod ParentSiting
+pub mod TreeParents
+pub mod ParentWays
+pub mod TreeAbove

@@ -10,7 +10,7 @@ use Rattle.slt_grammar.specs.declared.rules.Rule.{Rule}
 use Rattle.slt_grammar.proofs.TourLemmas.{spread_nodes}
 use Rattle.preorder_address.specs.Sites.{stops_before}
 
-length-opened : (x : Node) (i n : ℕ) (a : List (Stop Node)) → length (opened_kids x i n a) ≡ n
+pub length-opened : (x : Node) (i n : ℕ) (a : List (Stop Node)) → length (opened_kids x i n a) ≡ n
 length-opened x i zero a = refl
 length-opened x i (suc zero) a = refl
 length-opened x i (suc (suc n)) a = ap suc (length-opened x (suc i) (suc n) a)

@@ -23,7 +23,7 @@ use Rattle.preorder_address.specs.Weighing.{params_at}
 use Rattle.preorder_address.proofs.Lading.{laden-append}
 use Rattle.preorder_address.proofs.Listings.{before_place, fronts, kids_from, placed-in-tour, tour-comes, spread-nodes-append}
 
-params-part : (G : List Rule) (l : Label) (i : ℕ) → params (part_of G l i) ≡ params_at l
+pub params-part : (G : List Rule) (l : Label) (i : ℕ) → params (part_of G l i) ≡ params_at l
 params-part G (Call q) i = params-segment i (preorder G q)
 params-part G Param i = refl
 params-part G Bottom zero = refl

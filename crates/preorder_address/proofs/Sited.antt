@@ -38,7 +38,7 @@ laden-alone w z (Bottom ∷ ls) = omega (arith, laden-alone w z ls, sum_by-cons 
 laden-alone w z (Symbol f ∷ ls) = omega (arith, laden-alone w z ls, sum_by-cons w (Symbol f) ls)
 laden-alone w z (Call q ∷ ls) = omega (arith, laden-alone w z ls, sum_by-cons w (Call q) ls)
 
-zeros-none : Alike no_weights []
+pub zeros-none : Alike no_weights []
 zeros-none j = zeros j
 
 module _ (g : Keyed) (w : Label → ℕ) (n : ℕ) where
@@ -141,12 +141,12 @@ module _ (g : Keyed) (K : IsKeyed g) (w : Label → ℕ) (zero_param : w Param �
         )
 
     -- the part of the level's node where the number falls
-    record LevelPart (part first : ℕ) : Type 0 where
-      passed : List Label
-      placed : passed ≡ labels_before g.rules l.rule level-node.place ++ fronts H level-node.node.label (kids_from H (nodes_at g.rules l.rule) (nodes-are-term g K l.rule (key_at-within g.rules l.rule level-node.place l.key level-key).0) level-node.place) part
-      is_first : first ≡ sum_by node_weight passed
+    pub record LevelPart (part first : ℕ) : Type 0 where
+      pub passed : List Label
+      pub placed : passed ≡ labels_before g.rules l.rule level-node.place ++ fronts H level-node.node.label (kids_from H (nodes_at g.rules l.rule) (nodes-are-term g K l.rule (key_at-within g.rules l.rule level-node.place l.key level-key).0) level-node.place) part
+      pub is_first : first ≡ sum_by node_weight passed
 
-    level-part : (part first : ℕ) → BeginsAt node_weight g.rules l.rule l.key part first → LevelPart part first
+    pub level-part : (part first : ℕ) → BeginsAt node_weight g.rules l.rule l.key part first → LevelPart part first
     level-part part first b =
         let i = level-node in
         let t = nodes-are-term g K l.rule (key_at-within g.rules l.rule i.place l.key level-key).0 in
@@ -161,6 +161,15 @@ module _ (g : Keyed) (K : IsKeyed g) (w : Label → ℕ) (zero_param : w Param �
           is_first = sym (weight-nodes node_weight g.rules b.passed ∙ b.number);
         }
 
+    -- the level's node has its label
+    pub same-label : (f : Label) → HasLabel g.rules l f → level-node.node.label ≡ f
+    same-label f h =
+        let i = level-node in
+        let z = K.once l.key l.rule h.place l.rule i.place (node-key (nodes_at g.rules l.rule) h.place h.node h.there ∙ ap Some h.key) level-key in
+        let o : Some h.node ≡ Some i.node = sym h.there ∙ ap (slice_get (nodes_at g.rules l.rule)) z.1 ∙ i.there in
+        let n : h.node ≡ i.node = same_Some h.node i.node o in
+        sym (ap (λ (y : Node). y.label) n) ∙ h.label
+
     -- the descent goes past the level
     module _ (weight count : ℕ) (next : List ℕ) (is_weight : weight ≡ laden w args (labels_before g.rules l.rule level-node.place)) (is_count : count ≡ params (labels_before g.rules l.rule level-node.place))
         (are_kids : (j : ℕ) → get_or next j 0 ≡ get_or (take level-node.node.kids (term_weights w (rules_of g.rules) (drop count args) (drop (level-node.place + 1) (nodes_at g.rules l.rule)))) j 0) where
@@ -169,14 +178,6 @@ module _ (g : Keyed) (K : IsKeyed g) (w : Label → ℕ) (zero_param : w Param �
           let i = level-node in
           are_kids j ∙ ap (λ c. get_or (take i.node.kids (term_weights w H (drop c args) (drop (i.place + 1) (nodes_at g.rules l.rule)))) j 0) is_count
           ∙ ap (λ us. get_or us j 0) (sym (kid-args g K w zero_param l.rule args i.place i.node i.there))
-
-      same-label : (f : Label) → HasLabel g.rules l f → level-node.node.label ≡ f
-      same-label f h =
-          let i = level-node in
-          let z = K.once l.key l.rule h.place l.rule i.place (node-key (nodes_at g.rules l.rule) h.place h.node h.there ∙ ap Some h.key) level-key in
-          let o : Some h.node ≡ Some i.node = sym h.there ∙ ap (slice_get (nodes_at g.rules l.rule)) z.1 ∙ i.there in
-          let n : h.node ≡ i.node = same_Some h.node i.node o in
-          sym (ap (λ (y : Node). y.label) n) ∙ h.label
 
       pub sited-next : SitedBy g w n ls (before + weight) next
       sited-next = by_levels ls s.3 s.4

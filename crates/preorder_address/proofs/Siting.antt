@@ -63,7 +63,7 @@ module _ (g : Keyed) (K : IsKeyed g) (w : Label → ℕ) (zero_param : w Param �
   abbrev pub kid_args : List ℕ
   kid_args = portions w (drop (params base) args) kids_at
 
-  is : IsNodeOf g K r p x
+  pub is : IsNodeOf g K r p x
   is = is-node g K r p x e
 
   behind : (m : ℕ) × AreTerms kids_of (x.kids + m) (drop (suc p) (nodes_at g.rules r))
@@ -72,7 +72,7 @@ module _ (g : Keyed) (K : IsKeyed g) (w : Label → ℕ) (zero_param : w Param �
       let z : p + 1 ≡ suc p = omega arith in
       (t.0, subst (λ (k : ℕ). AreTerms kids_of (x.kids + t.0) (drop k (nodes_at g.rules r))) z t.1)
 
-  calls-behind : CallsBelow (length H) (labels_of (drop (suc p) (nodes_at g.rules r)))
+  pub calls-behind : CallsBelow (length H) (labels_of (drop (suc p) (nodes_at g.rules r)))
   calls-behind =
       let l = (K.grammar.each r (omega (arith, is.rule, length-rules_of g.rules))).earlier in
       let c = below-more r (length H) (labels_of (nodes_at g.rules r)) (omega (arith, is.rule, length-rules_of g.rules)) (subst (λ (ls : List Label). CallsBelow r ls) (body_at-rules_of g.rules r) l) in
@@ -81,10 +81,10 @@ module _ (g : Keyed) (K : IsKeyed g) (w : Label → ℕ) (zero_param : w Param �
   enough : x.kids ≤ length all_kids
   enough = omega (arith, length-listings H (x.kids + behind.0) (drop (suc p) (nodes_at g.rules r)) behind.1)
 
-  length-kids : length kids_at ≡ x.kids
+  pub length-kids : length kids_at ≡ x.kids
   length-kids = length-take-le x.kids all_kids enough
 
-  kids-terms : AllTerms kids_at
+  pub kids-terms : AllTerms kids_at
   kids-terms =
       all-take x.kids all_kids (listings-terms H K.grammar (x.kids + behind.0) (drop (suc p) (nodes_at g.rules r)) behind.1 (arities-drop (ranks_of H) (suc p) (nodes_at g.rules r) (K.arities r)) calls-behind)
 
@@ -97,7 +97,7 @@ module _ (g : Keyed) (K : IsKeyed g) (w : Label → ℕ) (zero_param : w Param �
       ∙ ap (take x.kids) (weights-listings H K.grammar w zero_param (x.kids + behind.0) (drop (params base) args) (drop (suc p) (nodes_at g.rules r)) behind.1 (arities-drop (ranks_of H) (suc p) (nodes_at g.rules r) (K.arities r)) calls-behind)
       ∙ ap (λ k. take x.kids (term_weights w H (drop (params base) args) (drop k (nodes_at g.rules r)))) z
 
-  value-here : (rest : List Label) × (preorder H r ≡ base ++ (weave H x.label 0 kids_at ++ rest))
+  pub value-here : (rest : List Label) × (preorder H r ≡ base ++ (weave H x.label 0 kids_at ++ rest))
   value-here =
       let v = value-at-node H (nodes_at g.rules r) (nodes-are-term g K r is.rule) p x e in
       (v.0, preorder-nodes g K r is.rule ∙ v.1)
@@ -116,7 +116,7 @@ module _ (g : Keyed) (K : IsKeyed g) (w : Label → ℕ) (zero_param : w Param �
     call-there : q < length H
     call-there = (subst (λ (l : Label). CallsBelow (length H) (l ∷ [])) is_call is.calls).0
 
-    call-params : params (preorder H q) ≡ length kids_at
+    pub call-params : params (preorder H q) ≡ length kids_at
     call-params =
         omega (arith, shape-params H K.grammar (Call q) tt (subst (λ (l : Label). CallsBelow (length H) (l ∷ [])) is_call is.calls), ap (arity (ranks_of H)) is_call, is.kids, length-kids)
 
@@ -127,7 +127,7 @@ module _ (g : Keyed) (K : IsKeyed g) (w : Label → ℕ) (zero_param : w Param �
     pub call-within : laden w args base + laden w kid_args (preorder H q) ≤ laden w args (preorder H r)
     call-within = omega (arith, base-within, ap (laden w (drop (params base) args)) weave-call, laden-put w (drop (params base) args) (preorder H q) kids_at call-params)
 
-    value-term : AreTerms label_arity 1 (preorder H q)
+    pub value-term : AreTerms label_arity 1 (preorder H q)
     value-term = listed-term 0 (value_at H q) [] tt
 
     module _ (passed : List Label) (part first offset n : ℕ) (placed : passed ≡ base ++ fronts H x.label all_kids part) (is_first : first ≡ sum_by node_weight passed) (is_number : n ≡ first + offset) (inside : offset < count node_weight H q part) where
@@ -141,13 +141,13 @@ module _ (g : Keyed) (K : IsKeyed g) (w : Label → ℕ) (zero_param : w Param �
           by_place (inl l) = absurd (omega (arith, inside, ap (sum_by node_weight) (segment-past (preorder H q) part l)))
           by_place (inr l) = omega (arith, l, call-params, length-kids)
 
-      inner-there : inner < sum_by node_weight (preorder H q)
+      pub inner-there : inner < sum_by node_weight (preorder H q)
       inner-there = omega (arith, inside, segment-within node_weight (preorder H q) part)
 
-      abbrev outer : ℕ
+      abbrev pub outer : ℕ
       outer = weight_before node_weight (sizes kids_at) (preorder H q) inner
 
-      number-is : n ≡ sum_by node_weight base + outer
+      pub number-is : n ≡ sum_by node_weight base + outer
       number-is =
           omega (
             arith,
@@ -160,10 +160,10 @@ module _ (g : Keyed) (K : IsKeyed g) (w : Label → ℕ) (zero_param : w Param �
             before-segments (sizes kids_at) (preorder H q) part offset inner refl inside,
           )
 
-      outer-there : outer < sum_by node_weight (put (preorder H q) kids_at)
+      pub outer-there : outer < sum_by node_weight (put (preorder H q) kids_at)
       outer-there = omega (arith, before-less (sizes kids_at) (preorder H q) inner inner-there, nodes-put (preorder H q) kids_at call-params)
 
-      value-call : preorder H r ≡ base ++ (put (preorder H q) kids_at ++ value-here.0)
+      pub value-call : preorder H r ≡ base ++ (put (preorder H q) kids_at ++ value-here.0)
       value-call = value-here.1 ∙ ap (λ ls. base ++ (ls ++ value-here.0)) weave-call
 
       pub before-call : weight_before w args (preorder H r) n ≡ laden w args base + weight_before w kid_args (preorder H q) inner
@@ -183,10 +183,10 @@ module _ (g : Keyed) (K : IsKeyed g) (w : Label → ℕ) (zero_param : w Param �
           ∙ below-put w 1 (drop (params base) args) (preorder H q) kids_at outer inner call-params kids-terms value-term refl inner-there
 
   module _ (f : ℕ) (is_symbol : x.label ≡ Symbol f) (n : ℕ) (is_number : n ≡ sum_by node_weight base) where
-    two : length kids_at ≡ 2
+    pub two : length kids_at ≡ 2
     two = omega (arith, length-kids, is.kids, ap (arity (ranks_of H)) is_symbol)
 
-    value-symbol : preorder H r ≡ base ++ (weave H (Symbol f) 0 kids_at ++ value-here.0)
+    pub value-symbol : preorder H r ≡ base ++ (weave H (Symbol f) 0 kids_at ++ value-here.0)
     value-symbol = value-here.1 ∙ ap (λ l. base ++ (weave H l 0 kids_at ++ value-here.0)) is_symbol
 
     number-zero : n ≡ sum_by node_weight base + 0

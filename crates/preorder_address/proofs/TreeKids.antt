@@ -1,6 +1,6 @@
 -- Places in a list of kids of a tree's code.
 use Rattle.std.proofs.Common.{◌≡◌, ℕ, zero, suc, ◌+◌, ◌-◌, ◌*◌, ◌/◌, ◌<◌, ◌≤◌, ◌^◌, List, [], ◌∷◌, ◌++◌, length, get_or, take, drop, refl, ap, sym, ◌∙◌, arith, Option, None, Some, sum_by, append-nil, append_assoc, subst}
-use Rattle.std.specs.Prelude.{slice_get, option_map, IsSome, IfSome, true, false, ◌↔◌}
+use Rattle.std.specs.Prelude.{slice_get, option_map, unwrap_or, IsSome, IfSome, true, false, ◌↔◌}
 use Rattle.std.proofs.lemmas.List.Sums.{sum_by-cons, sum_by-append}
 use Rattle.std.proofs.lemmas.Option.{get_or_from_slice_get, slice_get_past}
 use Rattle.plain_tree.specs.declared.kind.Kind.{Kind}
@@ -21,7 +21,7 @@ use Rattle.preorder_address.specs.Chains.{IsAt, LeadsToNumber, LeadsToPlace}
 use Rattle.preorder_address.specs.Descents.{IsInside}
 use Rattle.preorder_address.specs.Numberings.{AreCountsOf}
 use Rattle.preorder_address.specs.Sites.{laden, weight_before, weight_below, terms_weight, is_symbol}
-use Rattle.preorder_address.specs.TreeNumbers.{placed, siblings_behind, end_at, after_attributes_at, attribute_places, kids_of, next_sibling_at, number_of_first}
+use Rattle.preorder_address.specs.TreeNumbers.{placed, siblings_behind, end_at, after_attributes_at, attributes_at, attribute_places, attributes_in, kids_of, next_sibling_at, number_of_first}
 use Rattle.preorder_address.specs.declared.descent.Descent.{Descent}
 use Rattle.preorder_address.specs.declared.numbering.Numbering.TheVariants.{All}
 use Rattle.preorder_address.proofs.Naming.{NumberedNode, past-count, value-last}
@@ -58,6 +58,13 @@ number-within a (Symbol f ∷ ls) zero h = omega arith
 number-within a (Symbol f ∷ ls) (suc n) h = omega (arith, number-within a ls n (omega (arith, h, sum_by-cons node_weight (Symbol f) ls)))
 number-within a (Call q ∷ ls) n h = omega (arith, number-within a ls n (omega (arith, h, sum_by-cons node_weight (Call q) ls)))
 
+pub nodes-within-all : (ls : List Label) → sum_by node_weight ls ≤ sum_by all_weight ls
+nodes-within-all [] = omega arith
+nodes-within-all (Bottom ∷ ls) = omega (arith, nodes-within-all ls, sum_by-cons node_weight Bottom ls, sum_by-cons all_weight Bottom ls)
+nodes-within-all (Symbol f ∷ ls) = omega (arith, nodes-within-all ls, sum_by-cons node_weight (Symbol f) ls, sum_by-cons all_weight (Symbol f) ls)
+nodes-within-all (Call q ∷ ls) = omega (arith, nodes-within-all ls, sum_by-cons node_weight (Call q) ls, sum_by-cons all_weight (Call q) ls)
+nodes-within-all (Param ∷ ls) = omega (arith, nodes-within-all ls, sum_by-cons node_weight Param ls, sum_by-cons all_weight Param ls)
+
 module _ (G : List KeyedRule) (C : CountTable) (a : AreCountsOf (rules_of G) C) (g : IsGrammar (rules_of G)) where
   pub total-nodes : told measure.Nodes C.rows (C.rules - 1) 0 ≡ sum_by node_weight (preorder (rules_of G) (length G - 1))
   total-nodes = total-told a.0 (rules_of G) C a.1 g measure.Nodes ∙ ap (sum_by node_weight) (sym (value-last G))
@@ -67,13 +74,6 @@ module _ (G : List KeyedRule) (C : CountTable) (a : AreCountsOf (rules_of G) C) 
 
   pub all-fits : told measure.All C.rows (C.rules - 1) 0 < 2 ^ 64
   all-fits = omega (arith, total-all, total-small weigher.All G C a g)
-
-  pub nodes-within-all : (ls : List Label) → sum_by node_weight ls ≤ sum_by all_weight ls
-  nodes-within-all [] = omega arith
-  nodes-within-all (Bottom ∷ ls) = omega (arith, nodes-within-all ls, sum_by-cons node_weight Bottom ls, sum_by-cons all_weight Bottom ls)
-  nodes-within-all (Symbol f ∷ ls) = omega (arith, nodes-within-all ls, sum_by-cons node_weight (Symbol f) ls, sum_by-cons all_weight (Symbol f) ls)
-  nodes-within-all (Call q ∷ ls) = omega (arith, nodes-within-all ls, sum_by-cons node_weight (Call q) ls, sum_by-cons all_weight (Call q) ls)
-  nodes-within-all (Param ∷ ls) = omega (arith, nodes-within-all ls, sum_by-cons node_weight Param ls, sum_by-cons all_weight Param ls)
 
   pub nodes-fit : told measure.Nodes C.rows (C.rules - 1) 0 < 2 ^ 64
   nodes-fit = omega (arith, total-nodes, total-all, all-fits, nodes-within-all (preorder (rules_of G) (length G - 1)))
@@ -152,6 +152,14 @@ module _ (names : List (Kind × List ℕ)) (G : List KeyedRule) (t : Tree) (c : 
         let i : take (node_count_all x.place.kids) (drop (n + 1) (nodes t)) ≡ nodes_all x.place.kids =
         sym (ap (λ k. take (node_count_all x.place.kids) (drop k (nodes t))) s) ∙ ap (λ xs. take (node_count_all x.place.kids) (drop (suc (sum_by node_weight x.before)) xs)) (sym (append-nil (nodes t ++ []) ∙ append-nil (nodes t))) ∙ x.place.inside [] in
         after-told t l n b x.place.kind x.place.name x.place.value x.place.kids x.node_is placed-at i e r z f
+
+    pub attributes-are : (e r : ℕ) → e ≡ d / 2 → r ≡ from_number t (n + 1) e → attributes_at t n ≡ r
+    attributes-are e r q f =
+        let z : e ≡ node_count_all x.place.kids = omega (arith, q, below-is) in
+        let s : suc (sum_by node_weight x.before) ≡ n + 1 = omega (arith, x.number) in
+        let i : take (node_count_all x.place.kids) (drop (n + 1) (nodes t)) ≡ nodes_all x.place.kids =
+        sym (ap (λ k. take (node_count_all x.place.kids) (drop k (nodes t))) s) ∙ ap (λ xs. take (node_count_all x.place.kids) (drop (suc (sum_by node_weight x.before)) xs)) (sym (append-nil (nodes t ++ []) ∙ append-nil (nodes t))) ∙ x.place.inside [] in
+        ap (λ o. unwrap_or (option_map (λ s. attributes_in (nodes_all (kids_of s))) o) 0) x.node_is ∙ sym (f ∙ ap (λ j. attributes_in (take j (drop (n + 1) (nodes t)))) z ∙ ap attributes_in i)
 
     next-is : next_sibling_at t n ≡ Some (number_of_first (n + (node_count_all x.place.kids + 1)) x.place.others)
     next-is =

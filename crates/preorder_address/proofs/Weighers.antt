@@ -20,24 +20,28 @@ use Rattle.preorder_address.specs.Numberings.{AreCountsOf}
 use Rattle.preorder_address.specs.Sites.{laden, shape}
 use Rattle.preorder_address.specs.Weighing.{AreCountsBy, IsSmallCall, measure_by, weight_of}
 use Rattle.preorder_address.specs.declared.weigher.Weigher.{Weigher}
-use Rattle.preorder_address.specs.declared.weigher.Weigher.TheVariants.{Texts, All}
+use Rattle.preorder_address.specs.declared.weigher.Weigher.TheVariants.{Texts, Nodes, All}
 use Rattle.preorder_address.proofs.Lading.{laden-none, segments-all}
 
 pub zero-param : (W : Weigher) → weight_of W Param ≡ 0
 zero-param (Texts names) = refl
+zero-param Nodes = refl
 zero-param All = refl
 
 module _ (G : List Rule) (C : CountTable) where
   pub told-of : (W : Weigher) → AreCountsBy W G C → (q i : ℕ) → q < length G → told (measure_by W) C.rows q i ≡ count (weight_of W) G q i
   told-of (Texts names) a q i h = a.numbers.each measure.Texts q i h
+  told-of Nodes a q i h = a.1.numbers.each measure.Nodes q i h
   told-of All a q i h = a.1.numbers.each measure.All q i h
 
   told_before-of : (W : Weigher) → AreCountsBy W G C → (q i : ℕ) → q < length G → told_before (measure_by W) C.rows q i ≡ count_before (weight_of W) G q i
   told_before-of (Texts names) a q i h = told_before-is names.now (length G) G C.rows a.numbers measure.Texts q i h
+  told_before-of Nodes a q i h = told_before-is a.0 (length G) G C.rows a.1.numbers measure.Nodes q i h
   told_before-of All a q i h = told_before-is a.0 (length G) G C.rows a.1.numbers measure.All q i h
 
   pub small-of : (W : Weigher) → AreCountsBy W G C → (q : ℕ) → q < length G → sum_by (weight_of W) (preorder G q) < 2 ^ 64
   small-of (Texts names) a q h = a.numbers.small measure.Texts q h
+  small-of Nodes a q h = a.1.numbers.small measure.Nodes q h
   small-of All a q h = a.1.numbers.small measure.All q h
 
   -- all segments of a called rule are its value
@@ -84,6 +88,7 @@ call-whole W G C a g l q e kids n c k d =
 
 pub counts-of : (W : Weigher) (G : List Rule) (C : CountTable) → AreCountsBy W G C → AreCountsOf G C
 counts-of (Texts names) G C a = (names.now, a)
+counts-of Nodes G C a = a
 counts-of All G C a = a
 
 -- what the whole value weighs fits 64 bits

@@ -8,3 +8,4 @@ pub mod Told
 pub mod Staying
 pub mod Sites
 pub mod Weighing
+pub mod Parents

@@ -4,26 +4,29 @@ use Rattle.rule_arena.specs.declared.label.Label.{Label}
 use Rattle.rule_arena.specs.declared.label.Label.TheVariants.{Call, Param}
 use Rattle.slt_grammar.specs.declared.rules.Rule.{Rule}
 use Rattle.segment_counts.specs.Counting.{AreCounts, CountTable, told_before}
-use Rattle.segment_counts.specs.Weights.{text_weight, all_weight}
+use Rattle.segment_counts.specs.Weights.{text_weight, node_weight, all_weight}
 use Rattle.segment_counts.specs.declared.counts.Measure.{Measure}
 use Rattle.segment_counts.specs.declared.counts.Measure.TheVariants as measure
 use Rattle.preorder_address.specs.Numberings.{AreCountsOf}
 use Rattle.preorder_address.specs.declared.weigher.Weigher.{Weigher}
-use Rattle.preorder_address.specs.declared.weigher.Weigher.TheVariants.{Texts, All}
+use Rattle.preorder_address.specs.declared.weigher.Weigher.TheVariants.{Texts, Nodes, All}
 use Rattle.preorder_address.specs.declared.site.KidPlace.{KidPlace}
 
 -- what a label weighs
 abbrev pub weight_of : Weigher → Label → ℕ
 weight_of (Texts names) l = text_weight names.now l
+weight_of Nodes l = node_weight l
 weight_of All l = all_weight l
 
 abbrev pub measure_by : Weigher → Measure
 measure_by (Texts names) = measure.Texts
+measure_by Nodes = measure.Nodes
 measure_by All = measure.All
 
 -- the counts to which it belongs
 abbrev pub AreCountsBy : Weigher → List Rule → CountTable → Type 0
 AreCountsBy (Texts names) G C = AreCounts names.now G C
+AreCountsBy Nodes G C = AreCountsOf G C
 AreCountsBy All G C = AreCountsOf G C
 
 -- what is kept of all segments of a called rule fits 64 bits

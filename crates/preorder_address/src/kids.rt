@@ -16,7 +16,7 @@ ghost use Rattle.preorder_address.specs.Chains.{IsAt, LeadsToPlace};
 ghost use Rattle.preorder_address.specs.Descents.{IsInside};
 ghost use Rattle.preorder_address.specs.Numberings.{AreCountsOf};
 ghost use Rattle.preorder_address.specs.Sites.{is_symbol};
-ghost use Rattle.preorder_address.specs.TreeNumbers.{after_attributes_at, attributes_in, end_at, next_sibling_at};
+ghost use Rattle.preorder_address.specs.TreeNumbers.{after_attributes_at, attributes_at, attributes_in, end_at, next_sibling_at};
 
 use crate::descent::{Descent, locate_place};
 use crate::nodes::{kind_of, label_of};
@@ -101,7 +101,8 @@ fn label_at<L: Ledger>(
 }
 
 /// A descent to the first kid, of the node with this number, that isn't an attribute, or to the bottom that ends the list of kids where
-/// there is none. None comes exactly where the number isn't below the total. The grammar's symbols are places in `names`.
+/// there is none. None comes exactly where the number isn't below the total. The grammar's symbols are places in `names`. At most ten
+/// steps for each node of the bodies, and for each of the node's attributes and once more four for each of them and one.
 pub fn after_attributes<L: Ledger>(
     grammar: &Grammar,
     counts: &Counts,
@@ -113,6 +114,8 @@ pub fn after_attributes<L: Ledger>(
     ensures after { (values : List (List ℕ)) (t : Tree) → StandsFor (rules_of grammar.now.rules) names.now values t
         → LeadsToPlace grammar.now.rules result (after_attributes_at t number) }
     ensures inside { IfSome result (IsInside grammar.now.rules) }
+    ensures steps { (values : List (List ℕ)) (t : Tree) → StandsFor (rules_of grammar.now.rules) names.now values t
+        → steps.new ≤ steps.old + 10 * whole (rules_of grammar.now.rules) + (attributes_at t number + 1) * (4 * whole (rules_of grammar.now.rules) + 1) }
 {
     // The call tells what is true of every grammar.
     let _limit = grammar.limit();

@@ -3,6 +3,10 @@
 //! `locate` begins a `Descent`, which gives one `Level` after another: a rule and a node of its body. Each node but the last is a
 //! call of the next rule, and the last one is the node with the number. A level costs a walk along one body, with the counts of the
 //! rules that it calls. `laws` says that the levels lead there.
+//!
+//! The other modules go along such levels. `site` adds up what stands before a node and what the code of its kids weighs, by what a
+//! `weigher` counts; `nodes` tells a node's kind, extent and text rank, `kids` the places in its list of kids and its next sibling,
+//! `parent` its parent. `way` makes a descent a `Way`, whose rules may change between its calls.
 #![tactic(auto)]
 
 mod descent;
@@ -10,6 +14,7 @@ mod kids;
 mod laws;
 mod nodes;
 mod numbering;
+mod parent;
 mod site;
 mod way;
 mod weigher;
@@ -19,4 +24,5 @@ pub use kids::{after_attributes, end_of_kids, next_sibling};
 pub use laws::descents_arrive;
 pub use nodes::{extent, kind_of, text_rank};
 pub use numbering::Numbering;
+pub use parent::parent_of;
 pub use way::CountedDescent;

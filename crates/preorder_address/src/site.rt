@@ -20,16 +20,16 @@ use slt_grammar::{Grammar, Key, Label, Level, TourWalk};
 use std::sync::ledger::Ledger;
 
 // A rule has no more parameters.
-const MOST_KIDS: usize = 8;
+pub(crate) const MOST_KIDS: usize = 8;
 
-// What stands before a node of the grammar's value weighs, and what the code of its kids weighs.
+// The weight of all that stands before a node of the grammar's value, and that of the code of the node's kids.
 #[derive(Clone, Copy, Drop)]
 pub(crate) struct Site {
     pub(crate) before: u64,
     pub(crate) below: u64,
 }
 
-// What stands before a node of a body weighs, and how many parameters are there.
+// The weight of all that stands before a node of a body, and how many parameters stand there.
 #[derive(Clone, Copy, Drop)]
 pub(crate) struct Passed {
     pub(crate) weight: u64,
@@ -99,7 +99,7 @@ pub(crate) fn site_of<L: Ledger>(
 }
 
 // Goes along the tour of a rule up to a node. The parameters weigh what `args` says.
-fn pass_to<L: Ledger>(
+pub(crate) fn pass_to<L: Ledger>(
     grammar: &Grammar,
     counts: &Counts,
     weigher: &Weigher<'_>,
@@ -145,7 +145,7 @@ fn begins_at(walk: &TourWalk, key: Key) -> bool
 }
 
 // What each kid of a node weighs, its calls replaced, where so many parameters stand before the node.
-fn kid_weights<L: Ledger>(
+pub(crate) fn kid_weights<L: Ledger>(
     grammar: &Grammar,
     counts: &Counts,
     weigher: &Weigher<'_>,
@@ -236,7 +236,8 @@ fn arg_at(args: &[u64; MOST_KIDS], param: usize) -> u64
     if param < MOST_KIDS { args[param] } else { 0 }
 }
 
-fn params_of(label: Label) -> usize
+// How many parameters a node is: one or none.
+pub(crate) fn params_of(label: Label) -> usize
     ensures { result ≡ params_at label }
 {
     match label {

@@ -19,6 +19,8 @@ use slt_grammar::Label;
 pub(crate) enum Weigher<'a> {
     // The nodes with a text, by the names of the grammar's symbols.
     Texts(&'a Names),
+    // The nodes.
+    Nodes,
     // The nodes and the bottoms.
     All,
 }
@@ -29,6 +31,7 @@ impl Weigher<'_> {
     {
         match self {
             Weigher::Texts(_) => Measure::Texts,
+            Weigher::Nodes => Measure::Nodes,
             Weigher::All => Measure::All,
         }
     }
@@ -38,7 +41,7 @@ impl Weigher<'_> {
     {
         match self {
             Weigher::Texts(names) => texts_of(names, symbol),
-            Weigher::All => 1,
+            Weigher::Nodes | Weigher::All => 1,
         }
     }
 
@@ -46,7 +49,7 @@ impl Weigher<'_> {
         ensures { result ≡ weight_of self.now Bottom }
     {
         match self {
-            Weigher::Texts(_) => 0,
+            Weigher::Texts(_) | Weigher::Nodes => 0,
             Weigher::All => 1,
         }
     }

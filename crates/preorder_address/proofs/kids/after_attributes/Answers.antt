@@ -1,6 +1,8 @@
-use Rattle.std.proofs.Common.{◌/◌, refl, arith, ◌+◌, ◌*◌}
+use Rattle.std.proofs.Common.{◌/◌, refl, ap, arith, ◌+◌, ◌*◌, ℕ}
+use Rattle.slt_grammar.specs.Grammars.{whole}
+use Rattle.slt_grammar.specs.Keyed.{rules_of}
 use Rattle.preorder_address.proofs.Naming.{total-count}
-use Rattle.preorder_address.proofs.TreeKids.{all-fits, nodes-fit, site-fits, no-after, after-is, below-is, leads-inside, leads-place, no-place}
+use Rattle.preorder_address.proofs.TreeKids.{all-fits, nodes-fit, site-fits, attributes-are, no-after, after-is, below-is, leads-inside, leads-place, no-place}
 use Rattle.preorder_address.proofs.TreeSites.{tree-node}
 use Rattle.preorder_address.proofs.kids.after_attributes.Goals as goal
 
@@ -57,3 +59,16 @@ pub returns-clause-inside : goal.returns-clause-inside
 returns-clause-inside g c =
     let a = c.args in
     leads-inside a.grammar.now.rules (c.in_ok-site.site.before + 1 + 2 * c.leading_attributes-attributes.result) c.locate_place.result (c.locate_place.ensures.leads a.grammar.now c.limit-limit.ensures.keyed c.requires.counts)
+
+pub returns-clause-steps : goal.returns-clause-steps
+returns-clause-steps g c = λ values t stands.
+    let a = c.args in
+    let G = c.limit-limit.ensures.keyed.grammar in
+    let s = c.in_ok-site.site in
+    let h = c.in_ok-site.ensures.some.0 refl in
+    let n = total-count a.names.now a.grammar.now.rules t stands.code a.counts.now c.requires.counts G in
+    let x = tree-node a.names.now a.grammar.now.rules t stands.code a.number (omega (arith, n, h)) in
+    let e = attributes-are a.names.now a.grammar.now.rules t stands.code a.number x.0 x.1 s.before s.below c.in_ok-site.ensures.before c.in_ok-site.ensures.below (s.below / 2) c.leading_attributes-attributes.result refl
+    (c.leading_attributes-attributes.ensures.attributes t stands.code) in
+    let w : ℕ = 4 * whole (rules_of a.grammar.now.rules) + 1 in
+    omega (arith, ap (λ k. (k + 1) * w) e, c.leading_attributes-attributes.ensures.steps, c.in_ok-site.ensures.steps)

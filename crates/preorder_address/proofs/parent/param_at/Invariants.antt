@@ -1,0 +1,10 @@
+use Rattle.std.proofs.Common.{◌+◌, ◌*◌, ◌-◌, length}
+use Rattle.slt_grammar.specs.Segments.{node_tour}
+use Rattle.preorder_address.proofs.ParamSeeking.{SeeksParam}
+use Rattle.preorder_address.proofs.parent.param_at.Given as goal
+
+abbrev pub invariant-loop-walk : goal.invariant-loop-walk
+invariant-loop-walk g l = SeeksParam l.grammar.rules l.fn.rule l.number l.walk l.passed l.initial.steps l.steps
+
+abbrev pub decreases-loop-walk : goal.decreases-loop-walk
+decreases-loop-walk g l = (l.initial.steps + 2 * length (node_tour l.grammar.rules l.fn.rule)) - l.steps

@@ -1,11 +1,12 @@
 // The list of the texts of a document.
-ghost use Rattle.std.specs.Prelude.{◌≡◌, ◌+◌, ◌<◌, ◌≤◌, length, slice_get, slice_range, slice_set, IfOk, IsOk, OnOk, OnErr};
+ghost use Rattle.std.specs.Prelude.{◌^◌, ◌≡◌, ◌+◌, ◌<◌, ◌≤◌, length, slice_get, slice_range, slice_set, IfOk, IsOk, OnOk, OnErr};
 ghost use Rattle.std.specs.List.{insert_slice, remove_range};
 ghost use Rattle.std.specs.Option.{option_copied};
 
 use plain_tree::{Bytes, Texts};
 use std::alloc::{AllocError, Global};
 use std::marker::Model;
+use std::mem::size_of_val;
 
 /// A list of texts, seen as their list with its `room`: how many more can be put in without memory.
 #[derive(Drop)]
@@ -32,9 +33,13 @@ impl TextList {
         }
     }
 
+    /// How many texts there are. Memory holds fewer than 2^60.
     pub fn len(&self) -> u64
-        ensures { result ≡ length self.now.texts }
+        ensures value { result ≡ length self.now.texts }
+        ensures few { result < 2 ^ 60 }
     {
+        // The bytes that they take, more than 16 each, are counted in 64 bits.
+        let _size = size_of_val(self.texts.as_slice());
         self.texts.len() as u64
     }
 

@@ -10,7 +10,7 @@ use Rattle.grammar_file.proofs.writing.write_texts.Goals as goal
 
 pub loop-text-init : goal.loop-text-init
 loop-text-init g c =
-    listing_begins text_bytes text_size c.args.texts.now.texts (number_bytes (length c.args.texts.now.texts)) _ _ (rw c.len.ensures at c.in_ok-number.ensures)
+    listing_begins text_bytes text_size c.args.texts.now.texts (number_bytes (length c.args.texts.now.texts)) _ _ (rw c.len.ensures.value at c.in_ok-number.ensures)
 
 pub returns-in_err-write_text-clause-puts : goal.returns-in_err-write_text-clause-puts
 returns-in_err-write_text-clause-puts g c =
@@ -21,7 +21,7 @@ returns-in_err-write_text-clause-puts g c =
 pub overflow_add-place : goal.overflow_add-place
 overflow_add-place g c =
     let x : List ℕ = c.in-Some.text.now in
-    omega (arith, slice_get_within c.args.texts.now.texts c.loop-text.place x (sym c.in-Some.ensures), c.len.ensures, c.len.type_inv)
+    omega (arith, slice_get_within c.args.texts.now.texts c.loop-text.place x (sym c.in-Some.ensures), c.len.ensures.value, c.len.type_inv)
 
 pub loop-text-smaller : goal.loop-text-smaller
 loop-text-smaller g c =
@@ -38,4 +38,4 @@ returns-clause-puts g c = listing_ends text_bytes text_size c.args.texts.now.tex
 
 pub returns-clause-small : goal.returns-clause-small
 returns-clause-small g c =
-    length-texts c.args.texts.now.texts (omega (arith, c.len.ensures, c.len.type_inv)) (listing_short text_bytes text_size c.args.texts.now.texts (list_bytes text_bytes c.args.texts.now.texts) _ _ _ c.loop-text.invariant (drop-none c.args.texts.now.texts c.loop-text.place (sym c.in_default.ensures)))
+    length-texts c.args.texts.now.texts (omega (arith, c.len.ensures.value, c.len.type_inv)) (listing_short text_bytes text_size c.args.texts.now.texts (list_bytes text_bytes c.args.texts.now.texts) _ _ _ c.loop-text.invariant (drop-none c.args.texts.now.texts c.loop-text.place (sym c.in_default.ensures)))

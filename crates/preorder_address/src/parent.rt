@@ -105,12 +105,7 @@ fn find_parent<L: Ledger>(
 }
 
 // The last entry on a way that goes on in a rule.
-fn later_entry(
-    entry: Option<Entry>,
-    rule: usize,
-    edge: Option<Edge>,
-    frame: Frame,
-) -> Option<Entry>
+fn later_entry(entry: Option<Entry>, rule: usize, edge: Option<Edge>, frame: Frame) -> Option<Entry>
     ensures here { (e : Edge) → edge ≡ Some e → result ≡ Some (record { rule = rule; edge = e; frame = frame }) }
     ensures before { edge ≡ None → result ≡ entry }
 {
@@ -135,14 +130,7 @@ fn number_of<L: Ledger>(
 {
     let mut at = entry;
     loop {
-        let frame = frame_at(
-            grammar,
-            counts,
-            &at.frame,
-            at.rule,
-            at.edge.key,
-            steps,
-        );
+        let frame = frame_at(grammar, counts, &at.frame, at.rule, at.edge.key, steps);
         let Label::Call(rule) = at.edge.label else {
             return frame.before;
         };
@@ -254,12 +242,7 @@ fn first_children(counts: &Counts, rule: usize, param: usize) -> u64
 }
 
 // The node of a rule's body that is this parameter, counted from 0.
-fn param_at<L: Ledger>(
-    grammar: &Grammar,
-    rule: usize,
-    number: usize,
-    steps: &mut Steps<L>,
-) -> Key
+fn param_at<L: Ledger>(grammar: &Grammar, rule: usize, number: usize, steps: &mut Steps<L>) -> Key
     requires keyed { IsKeyed grammar.now }
     requires rule { rule < length grammar.now.rules }
     requires number { number < params (preorder (rules_of grammar.now.rules) rule) }

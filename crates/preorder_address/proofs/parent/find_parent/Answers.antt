@@ -1,4 +1,4 @@
-use Rattle.std.proofs.Common.{arith, ap, refl, subst, sym, ◌≡◌, ◌∙◌, ◌+◌, ◌*◌, ◌∷◌, [], ℕ, List, Option, Some, None, length}
+use Rattle.std.proofs.Common.{arith, ap, refl, subst, sym, ◌∙◌, ℕ, List, Option, Some, length}
 use Rattle.std.proofs.lemmas.List.Sums.{sum_by-cons}
 use Rattle.slt_grammar.specs.Bodies.{params}
 use Rattle.slt_grammar.specs.Keyed.{nodes_at}

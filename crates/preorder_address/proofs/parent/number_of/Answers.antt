@@ -1,6 +1,5 @@
-use Rattle.std.proofs.Common.{arith, refl, ◌+◌, ◌*◌, length}
+use Rattle.std.proofs.Common.{arith}
 use Rattle.slt_grammar.proofs.TourLemmas.{length-node_tour}
-use Rattle.slt_grammar.specs.Keyed.{nodes_at}
 use Rattle.preorder_address.proofs.Descending.{nodes-below, nodes-within}
 use Rattle.preorder_address.proofs.EntrySteps.{call-earlier, entry-key, entry-next, entry-plain, entry-rule, kid-there, never-none, symbol-is}
 use Rattle.preorder_address.proofs.parent.number_of.Goals as goal

@@ -87,6 +87,9 @@ plain-kids ranks Bottom k i e h = tt
 plain-kids ranks (Symbol f) k i e h = tt
 plain-kids ranks (Call q) k i e h = tt
 
+pub plain-not : (l : Label) → IsPlain l → l ≡ Param → ⊥
+plain-not l p e = subst IsPlain e p
+
 -- the edge leads to the node at place p of a rule's body, and what is open before the node is what is open above it and what is opened on the edge
 pub record IsAbove (G : List KeyedRule) (r p : ℕ) (edge : Edge) : Type 0 where
   pub place : ℕ

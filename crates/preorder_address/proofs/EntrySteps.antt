@@ -1,6 +1,5 @@
 -- An entry tells a parent: its node is the parent, or the parent is in the rule that the node calls.
-use Rattle.std.proofs.Common.{◌≡◌, ℕ, zero, suc, ◌+◌, ◌<◌, ◌≤◌, ◌^◌, List, [], ◌∷◌, ◌++◌, length, get_or, drop, refl, ap, sym, ◌∙◌, arith, Option, None, Some, subst}
-use Rattle.std.specs.Prelude.{slice_get}
+use Rattle.std.proofs.Common.{◌≡◌, ℕ, zero, suc, ◌+◌, ◌<◌, List, [], ◌∷◌, ◌++◌, length, get_or, refl, ap, sym, ◌∙◌, arith, Option, None, Some, subst}
 use Rattle.rule_arena.specs.Preorder.{AreTerms}
 use Rattle.rule_arena.specs.Terms.{Node}
 use Rattle.rule_arena.specs.declared.label.Label.{Label}
@@ -11,17 +10,17 @@ use Rattle.slt_grammar.specs.Grammars.{value_at}
 use Rattle.slt_grammar.specs.Keyed.{Keyed, IsKeyed, key_at, nodes_at, rules_of}
 use Rattle.slt_grammar.specs.Segments.{preorder}
 use Rattle.slt_grammar.specs.declared.rules.Rule.{Rule}
-use Rattle.slt_grammar.proofs.KeyedLemmas.{key_at-within, length-rules_of}
+use Rattle.slt_grammar.proofs.KeyedLemmas.{key_at-within}
 use Rattle.slt_grammar.proofs.Spreads.{IsPlain}
 use Rattle.slt_grammar.proofs.StopLemmas.{call-below}
 use Rattle.slt_grammar.proofs.TourWalking.{node-key}
 use Rattle.segment_counts.specs.Weights.{node_weight}
-use Rattle.preorder_address.specs.Parents.{EntryTells, TellsParent, first_terms, kid_sizes, parent_behind, parent_of_kid, parents_behind, told_by, until}
-use Rattle.preorder_address.specs.Sites.{laden, labels_before, shape}
+use Rattle.preorder_address.specs.Parents.{EntryTells, TellsParent, first_terms, kid_sizes, parent_behind, parent_of_kid, parents_behind, until}
+use Rattle.preorder_address.specs.Sites.{laden, labels_before}
 use Rattle.preorder_address.specs.declared.parent.Edge.{Edge}
 use Rattle.preorder_address.specs.declared.parent.Entry.{Entry}
 use Rattle.preorder_address.specs.declared.parent.Frame.{Frame}
-use Rattle.preorder_address.proofs.Lading.{Alike, label_arity, laden-alike, listed-term}
+use Rattle.preorder_address.proofs.Lading.{label_arity, laden-alike, listed-term}
 use Rattle.preorder_address.proofs.Loads.{shape-params}
 use Rattle.preorder_address.proofs.ParentLists.{behind-alike, behind-within, length-same, until-split}
 use Rattle.preorder_address.proofs.ParentRises.{first-of, plain-kids}

@@ -1,13 +1,13 @@
 -- Over how many first terms the way to a parameter goes, by kept numbers.
-use Rattle.std.proofs.Common.{◌≡◌, ℕ, zero, suc, ◌+◌, ◌*◌, ◌<◌, ◌≤◌, ◌^◌, List, [], ◌∷◌, ◌++◌, length, drop, refl, ap, sym, ◌∙◌, arith, sum_by, subst, Option}
+use Rattle.std.proofs.Common.{◌≡◌, ℕ, zero, suc, ◌+◌, ◌*◌, ◌<◌, ◌≤◌, ◌^◌, List, [], ◌∷◌, ◌++◌, length, refl, ap, ◌∙◌, arith, sum_by, subst}
 use Rattle.std.proofs.lemmas.List.Sums.{sum_by-cons, sum_by-append}
 use Rattle.rule_arena.specs.Preorder.{AreTerms}
 use Rattle.rule_arena.specs.declared.label.Label.{Label}
 use Rattle.rule_arena.specs.declared.label.Label.TheVariants.{Bottom, Symbol, Call, Param}
 use Rattle.slt_grammar.specs.Algebras.{ranks_of}
-use Rattle.slt_grammar.specs.Bodies.{params, arity, CallsBelow}
+use Rattle.slt_grammar.specs.Bodies.{params, arity}
 use Rattle.slt_grammar.specs.Grammars.{IsGrammar, value_at}
-use Rattle.slt_grammar.specs.Segments.{preorder, segment}
+use Rattle.slt_grammar.specs.Segments.{preorder}
 use Rattle.slt_grammar.specs.declared.rules.Rule.{Rule}
 use Rattle.slt_grammar.proofs.RuleMeanings.{rank_at-ranks_of}
 use Rattle.segment_counts.specs.Counting.{CountTable, told_before}

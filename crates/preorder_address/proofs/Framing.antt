@@ -1,5 +1,5 @@
 -- What stands before a node of a rule's body and what its kids have, where the rule's value stands somewhere.
-use Rattle.std.proofs.Common.{◌≡◌, ℕ, ◌+◌, ◌<◌, ◌≤◌, List, drop, take, ap, sym, ◌∙◌, refl, arith, Some}
+use Rattle.std.proofs.Common.{◌≡◌, ℕ, ◌+◌, ◌≤◌, List, drop, take, ap, sym, ◌∙◌, refl, arith, Some}
 use Rattle.std.specs.Prelude.{slice_get, sum}
 use Rattle.std.proofs.lemmas.Option.{same_Some}
 use Rattle.rule_arena.specs.Terms.{Node}
@@ -11,7 +11,7 @@ use Rattle.slt_grammar.proofs.Spreads.{IsPlain}
 use Rattle.slt_grammar.proofs.TourWalking.{node-key}
 use Rattle.segment_counts.specs.Weights.{node_weight}
 use Rattle.preorder_address.specs.Sites.{laden, labels_before, term_weights}
-use Rattle.preorder_address.proofs.Siting.{kid-args, kid_args, kids-within}
+use Rattle.preorder_address.proofs.Siting.{kid-args, kids-within}
 
 module _ (g : Keyed) (K : IsKeyed g) (r : ℕ) (args : List ℕ) (key : Key) (p : ℕ) (x : Node) (there : slice_get (nodes_at g.rules r) p ≡ Some x) (key_is : x.key ≡ key) (plain : IsPlain x.label) where
   pub frame-key : key_at g.rules r p ≡ Some key

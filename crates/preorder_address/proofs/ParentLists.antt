@@ -1,18 +1,15 @@
 -- The parents of what is still to come, over lists of labels.
-use Rattle.std.proofs.Common.{◌≡◌, ℕ, zero, suc, ◌+◌, ◌*◌, ◌<◌, ◌≤◌, List, [], ◌∷◌, ◌++◌, length, get_or, drop, take, refl, ap, sym, ◌∙◌, arith, sum_by, subst, Option, None, Some, length-drop}
-use Rattle.std.proofs.lemmas.List.{get_or-drop}
+use Rattle.std.proofs.Common.{◌≡◌, ℕ, zero, suc, ◌+◌, ◌*◌, ◌<◌, ◌≤◌, List, [], ◌∷◌, ◌++◌, length, get_or, drop, refl, ap, sym, ◌∙◌, arith, sum_by, subst, Option, None, Some, length-drop}
 use Rattle.std.proofs.lemmas.List.Sums.{sum_by-cons}
 use Rattle.rule_arena.specs.Preorder.{AreTerms}
 use Rattle.rule_arena.specs.declared.label.Label.{Label}
 use Rattle.rule_arena.specs.declared.label.Label.TheVariants.{Bottom, Symbol, Call, Param}
 use Rattle.slt_grammar.specs.Bodies.{params, CallsBelow}
 use Rattle.slt_grammar.specs.Editing.{put}
-use Rattle.slt_grammar.specs.Segments.{listed, segment}
+use Rattle.slt_grammar.specs.Segments.{listed}
 use Rattle.slt_grammar.specs.Terms.{Term, Leaf, Node, Hole}
 use Rattle.slt_grammar.proofs.Meanings.{drop-one}
-use Rattle.slt_grammar.proofs.Spreads.{IsPlain}
-use Rattle.segment_counts.specs.Weights.{node_weight, all_weight, segments_sum}
-use Rattle.segment_counts.proofs.Numbers.{segments_sum-param, segment-now, segments_sum-later}
+use Rattle.segment_counts.specs.Weights.{node_weight, all_weight}
 use Rattle.preorder_address.specs.Parents.{parents_behind, parent_among, until}
 use Rattle.preorder_address.specs.Sites.{laden, weight_before}
 use Rattle.preorder_address.proofs.Lading.{Alike, AllTerms, alike-behind, label_arity, portions, sizes}

@@ -1,5 +1,5 @@
 -- The parent of a node of a body, by that of the node above it.
-use Rattle.std.proofs.Common.{◌≡◌, ℕ, zero, suc, ◌+◌, ◌*◌, ◌-◌, ◌<◌, ◌≤◌, List, [], ◌∷◌, ◌++◌, length, get_or, take, drop, refl, ap, sym, ◌∙◌, arith, append_assoc, append-nil, Option, None, Some, subst}
+use Rattle.std.proofs.Common.{◌≡◌, ℕ, zero, suc, ◌+◌, ◌<◌, ◌≤◌, List, [], ◌∷◌, ◌++◌, length, get_or, take, drop, refl, ap, sym, ◌∙◌, arith, append_assoc, append-nil, Option, None, Some, subst}
 use Rattle.std.specs.Prelude.{slice_get}
 use Rattle.std.proofs.lemmas.Option.{same_Some}
 use Rattle.rule_arena.specs.Preorder.{AreTerms}
@@ -10,7 +10,6 @@ use Rattle.rule_arena.specs.declared.label.Label.TheVariants.{Bottom, Symbol, Ca
 use Rattle.slt_grammar.specs.Algebras.{ranks_of}
 use Rattle.slt_grammar.specs.Bodies.{CallsBelow, arity, params}
 use Rattle.slt_grammar.specs.Editing.{put}
-use Rattle.slt_grammar.specs.Grammars.{value_at}
 use Rattle.slt_grammar.specs.Keyed.{Keyed, KeyedRule, IsKeyed, key_at, nodes_at, rules_of}
 use Rattle.slt_grammar.specs.Segments.{part_of, preorder, segment}
 use Rattle.slt_grammar.specs.Tours.{Stop, stop, tour}
@@ -20,7 +19,7 @@ use Rattle.slt_grammar.proofs.Spreads.{IsPlain}
 use Rattle.slt_grammar.proofs.TourLemmas.{spread_nodes}
 use Rattle.slt_grammar.proofs.TourWalking.{key-node, node-key}
 use Rattle.segment_counts.specs.Weights.{node_weight}
-use Rattle.preorder_address.specs.Parents.{IsEntry, TellsParent, first_terms, kid_sizes, parent_behind, parent_of_kid, parents_behind, told_by, until}
+use Rattle.preorder_address.specs.Parents.{IsEntry, first_terms, kid_sizes, parent_behind, parents_behind, told_by, until}
 use Rattle.preorder_address.specs.Sites.{laden, labels_before, shape, stops_before}
 use Rattle.preorder_address.specs.declared.parent.Edge.{Edge}
 use Rattle.preorder_address.proofs.Lading.{label_arity}
@@ -28,7 +27,7 @@ use Rattle.preorder_address.proofs.Listings.{before_place, fronts, kids_from, pl
 use Rattle.preorder_address.proofs.Loads.{shape-params, shape-term}
 use Rattle.preorder_address.proofs.ParentLists.{behind-append, behind-put, behind-within, length-same, params-until, until-split}
 use Rattle.preorder_address.proofs.ParentStops.{last-stop}
-use Rattle.preorder_address.proofs.Siting.{is, kid-args, kid_args, kids-terms, kids_at, length-kids}
+use Rattle.preorder_address.proofs.Siting.{is, kid-args, kids-terms, kids_at, length-kids}
 
 -- the segments and kids before part i of a call
 abbrev seg_fronts : List Label → List (List Label) → ℕ → List Label
@@ -87,6 +86,9 @@ plain-kids ranks Param k i e h = omega arith
 plain-kids ranks Bottom k i e h = tt
 plain-kids ranks (Symbol f) k i e h = tt
 plain-kids ranks (Call q) k i e h = tt
+
+pub plain-not : (l : Label) → IsPlain l → l ≡ Param → ⊥
+plain-not l p e = subst IsPlain e p
 
 -- the edge leads to the node at place p of a rule's body, and what is open before the node is what is open above it and what is opened on the edge
 pub record IsAbove (G : List KeyedRule) (r p : ℕ) (edge : Edge) : Type 0 where

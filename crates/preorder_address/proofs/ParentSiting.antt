@@ -1,9 +1,9 @@
 -- One level of a way to a node: the node's parent in the called rule's value.
-use Rattle.std.proofs.Common.{◌≡◌, ℕ, zero, suc, ◌+◌, ◌<◌, List, [], ◌∷◌, ◌++◌, length, get_or, drop, refl, ap, sym, ◌∙◌, arith, Option, None, Some, sum_by}
+use Rattle.std.proofs.Common.{◌≡◌, ℕ, zero, suc, ◌+◌, ◌<◌, List, [], ◌∷◌, ◌++◌, length, get_or, drop, refl, ap, ◌∙◌, arith, Option, None, Some, sum_by}
 use Rattle.std.specs.Prelude.{slice_get}
 use Rattle.rule_arena.specs.Terms.{Node}
 use Rattle.rule_arena.specs.declared.label.Label.{Label}
-use Rattle.rule_arena.specs.declared.label.Label.TheVariants.{Symbol, Call, Param}
+use Rattle.rule_arena.specs.declared.label.Label.TheVariants.{Symbol, Call}
 use Rattle.slt_grammar.specs.Bodies.{params}
 use Rattle.slt_grammar.specs.Editing.{put}
 use Rattle.slt_grammar.specs.Keyed.{Keyed, IsKeyed, nodes_at, rules_of}
@@ -16,7 +16,6 @@ use Rattle.preorder_address.proofs.Listings.{fronts, listings, weave}
 use Rattle.preorder_address.proofs.Loads.{put-term}
 use Rattle.preorder_address.proofs.ParentLists.{among-append, among-put, among-top}
 use Rattle.preorder_address.proofs.Siting.{call-params, inner-there, kid_args, kids-terms, kids_at, number-is, outer, outer-there, two, value-call, value-here, value-symbol, value-term}
-use Rattle.slt_grammar.specs.Bodies.{arity}
 
 module _ (g : Keyed) (K : IsKeyed g) (r : ℕ) (args : List ℕ) (p : ℕ) (x : Node) (e : slice_get (nodes_at g.rules r) p ≡ Some x) where
   abbrev H : List Rule

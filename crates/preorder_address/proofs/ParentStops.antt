@@ -1,11 +1,11 @@
 -- The last stop before a node of a body is one of its parent.
-use Rattle.std.proofs.Common.{◌≡◌, ℕ, zero, suc, ◌+◌, ◌<◌, ◌≤◌, List, [], ◌∷◌, ◌++◌, length, get_or, drop, refl, ap, sym, ◌∙◌, arith, append_assoc, append-nil, length-append, Option, None, Some, subst}
+use Rattle.std.proofs.Common.{◌≡◌, ℕ, zero, suc, ◌+◌, ◌<◌, ◌≤◌, List, [], ◌∷◌, ◌++◌, length, get_or, refl, ap, sym, ◌∙◌, arith, append_assoc, append-nil, length-append, Option, None, Some, subst}
 use Rattle.std.specs.Prelude.{slice_get}
 use Rattle.rule_arena.specs.Preorder.{AreTerms, parents, places}
 use Rattle.rule_arena.specs.Terms.{Node, kids_of, key_of, parent_in}
 use Rattle.rule_arena.specs.declared.key.Key.{Key}
 use Rattle.slt_grammar.specs.Keyed.{Keyed, IsKeyed, key_at, nodes_at}
-use Rattle.slt_grammar.specs.Tours.{Stop, stop, opened_kids, once_closed, entered}
+use Rattle.slt_grammar.specs.Tours.{Stop, stop, opened_kids, once_closed}
 use Rattle.slt_grammar.proofs.KeyedLemmas.{key_at-within, nodes-are-term}
 use Rattle.slt_grammar.proofs.TourWalking.{node-key}
 use Rattle.preorder_address.specs.Sites.{stops_before}
@@ -116,7 +116,7 @@ module _ (ns : List Node) where
 
       by_kids : (k : ℕ) → x.kids ≡ k → AreTerms kids_of (k + n) xs
           → ((m : ℕ) (ups' : List (Option (Key × ℕ))) (afters' : List (List (Stop Node))) (pre' : List (Stop Node)) → AreTerms kids_of m xs → length ups' ≡ m → length afters' ≡ m → EndsIn (suc here) pre' (get_or ups' 0 None)
-              → AreChained (suc here) ups' afters' → EndsIn (suc here + p) (pre' ++ stops_before afters' xs p) (get_or (parents kids_of key_of ups' xs) p None))
+          → AreChained (suc here) ups' afters' → EndsIn (suc here + p) (pre' ++ stops_before afters' xs p) (get_or (parents kids_of key_of ups' xs) p None))
           → EndsIn (here + suc p) (pre ++ stop x 0 ∷ (once_closed k a ++ stops_before (opened_kids x 1 k a ++ behind) xs p)) (get_or (parents kids_of key_of (places x.key 1 k ++ us) xs) p None)
       by_kids zero d t ih =
           let b = by_last us (omega arith) t more in

@@ -1,12 +1,9 @@
 -- The parent of a node along the way to it.
-use Rattle.std.proofs.Common.{◌≡◌, ℕ, ◌+◌, ◌-◌, ◌*◌, ◌<◌, ◌≤◌, List, [], ◌∷◌, ◌++◌, length, get_or, drop, take, refl, ap, sym, ◌∙◌, arith, Option, None, Some, sum_by, subst, append-nil}
-use Rattle.std.specs.Prelude.{slice_get}
-use Rattle.std.proofs.lemmas.List.Sums.{sum_by-cons}
-use Rattle.rule_arena.specs.Terms.{Node}
+use Rattle.std.proofs.Common.{◌≡◌, ℕ, ◌+◌, ◌-◌, ◌*◌, ◌<◌, ◌≤◌, List, [], ◌∷◌, length, get_or, refl, ap, sym, ◌∙◌, arith, Option, None, Some, sum_by, subst, append-nil}
 use Rattle.rule_arena.specs.declared.label.Label.{Label}
-use Rattle.rule_arena.specs.declared.label.Label.TheVariants.{Symbol, Call, Param}
+use Rattle.rule_arena.specs.declared.label.Label.TheVariants.{Call}
 use Rattle.slt_grammar.specs.Grammars.{whole}
-use Rattle.slt_grammar.specs.Keyed.{Keyed, IsKeyed, nodes_at, rules_of}
+use Rattle.slt_grammar.specs.Keyed.{Keyed, IsKeyed, rules_of}
 use Rattle.slt_grammar.specs.Segments.{preorder}
 use Rattle.slt_grammar.specs.declared.level.Level.{Level}
 use Rattle.slt_grammar.specs.declared.rules.Rule.{Rule}
@@ -27,7 +24,7 @@ use Rattle.preorder_address.proofs.Locating.{chain-nodes, nodes-few}
 use Rattle.preorder_address.proofs.Naming.{symbol-of}
 use Rattle.preorder_address.proofs.ParentLists.{among-alike}
 use Rattle.preorder_address.proofs.ParentSiting.{among-call, among-symbol}
-use Rattle.preorder_address.proofs.Sited.{LevelNode, SitedBy, level-key, level-node, level-part, level-within, same-label, sited-next, siting-start, zeros-none}
+use Rattle.preorder_address.proofs.Sited.{LevelNode, SitedBy, level-node, level-part, level-within, same-label, siting-start, zeros-none}
 use Rattle.preorder_address.proofs.Siting.{kid-args, kid_args}
 
 module _ (g : Keyed) (n : ℕ) where

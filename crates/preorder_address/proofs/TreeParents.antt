@@ -1,13 +1,11 @@
 -- The parents of a list of trees by its code.
-use Rattle.std.proofs.Common.{◌≡◌, ℕ, zero, suc, ◌+◌, ◌-◌, ◌<◌, ◌≤◌, List, [], ◌∷◌, ◌++◌, length, drop, refl, ap, sym, ◌∙◌, arith, Option, None, Some, sum_by, length-append, ◌⊎◌, inl, inr, append-nil}
+use Rattle.std.proofs.Common.{◌≡◌, ℕ, zero, suc, ◌+◌, ◌-◌, ◌<◌, ◌≤◌, List, [], ◌∷◌, ◌++◌, length, drop, refl, ap, sym, ◌∙◌, arith, Option, None, Some, sum_by, length-append, ◌⊎◌, inl, inr}
 use Rattle.std.specs.Prelude.{slice_get}
 use Rattle.std.proofs.lemmas.Bool.{cases_lt}
 use Rattle.std.proofs.lemmas.Option.{slice_get_past}
 use Rattle.plain_tree.specs.declared.kind.Kind.{Kind}
-use Rattle.plain_tree.specs.Tree.{Tree, node, Trees, none, more, node_count_all}
-use Rattle.rule_arena.specs.Preorder.{AreTerms}
+use Rattle.plain_tree.specs.Tree.{node, Trees, none, more, node_count_all}
 use Rattle.rule_arena.specs.declared.label.Label.{Label}
-use Rattle.rule_arena.specs.declared.label.Label.TheVariants.{Symbol, Param}
 use Rattle.rule_arena.proofs.PreorderLemmas.{slice_get-left, slice_get-right}
 use Rattle.slt_grammar.specs.Bodies.{params}
 use Rattle.slt_grammar.specs.Coding.{Codes}
@@ -21,7 +19,6 @@ use Rattle.segment_counts.specs.declared.counts.Measure.TheVariants.{Nodes}
 use Rattle.segment_counts.proofs.Telling.{total-told}
 use Rattle.preorder_address.specs.Numberings.{AreCountsOf}
 use Rattle.preorder_address.specs.Parents.{parent_among, parents_behind}
-use Rattle.preorder_address.specs.Sites.{laden}
 use Rattle.preorder_address.specs.TreeNumbers.{parent_at, parents}
 use Rattle.preorder_address.proofs.Lading.{listed-term}
 use Rattle.preorder_address.proofs.Naming.{value-last}

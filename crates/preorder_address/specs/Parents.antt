@@ -1,9 +1,9 @@
 -- The parents of what is still to come in labels: each label is a term's root, a symbol's first term has the symbol as its parent, and its
 -- second one the symbol's own parent. A parameter stands for a term with as many nodes as `args` says, one parameter after another.
-use Rattle.std.specs.Prelude.{◌≡◌, ℕ, zero, suc, ◌+◌, ◌<◌, ◌≤◌, List, [], ◌∷◌, length, Option, None, Some, drop, take, get_or, slice_get, sum_by}
+use Rattle.std.specs.Prelude.{◌≡◌, ℕ, zero, suc, ◌+◌, ◌<◌, ◌≤◌, List, [], ◌∷◌, length, Option, None, Some, drop, take, get_or, slice_get}
 use Rattle.rule_arena.specs.Terms.{Node}
 use Rattle.rule_arena.specs.declared.label.Label.{Label}
-use Rattle.rule_arena.specs.declared.label.Label.TheVariants.{Bottom, Symbol, Call, Param}
+use Rattle.rule_arena.specs.declared.label.Label.TheVariants.{Symbol, Param}
 use Rattle.slt_grammar.specs.Bodies.{params}
 use Rattle.slt_grammar.specs.Keyed.{KeyedRule, nodes_at, rules_of}
 use Rattle.slt_grammar.specs.Segments.{preorder}

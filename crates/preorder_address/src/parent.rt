@@ -1,5 +1,5 @@
 // The parent of a node, by the way to it.
-ghost use Rattle.std.specs.Prelude.{◌≡◌, ◌↔◌, ℕ, ◌<◌, ◌≤◌, ◌+◌, ◌-◌, ◌*◌, ◌^◌, [], ◌∷◌, List, Option, None, Some, IsSome, IfSome, IsOk, IfOk, true, false, length, get_or, slice_get, sum_by, option_map};
+ghost use Rattle.std.specs.Prelude.{◌≡◌, ◌↔◌, ℕ, ◌<◌, ◌≤◌, ◌+◌, ◌-◌, ◌*◌, ◌^◌, [], ◌∷◌, List, Option, None, Some, IsSome, IfSome, IsOk, IfOk, true, false, length, get_or, slice_get, option_map};
 ghost use Rattle.plain_tree.specs.declared.kind.Kind.{Kind};
 ghost use Rattle.plain_tree.specs.Tree.{Trees};
 ghost use Rattle.rule_arena.specs.Terms.{Node, parent_in};
@@ -9,16 +9,15 @@ ghost use Rattle.slt_grammar.specs.Coding.{Codes};
 ghost use Rattle.slt_grammar.specs.Grammars.{IsGrammar, value, whole};
 ghost use Rattle.slt_grammar.specs.Keyed.{IsKeyed, key_at, nodes_at, rules_of};
 ghost use Rattle.slt_grammar.specs.Segments.{node_tour, preorder};
-ghost use Rattle.slt_grammar.proofs.Spreads.{IsPlain};
 ghost use Rattle.slt_grammar.specs.declared.rules.Rule.{Rule};
 ghost use Rattle.segment_counts.specs.Counting.{told};
 ghost use Rattle.segment_counts.specs.Weights.{node_weight};
 ghost use Rattle.segment_counts.specs.declared.counts.Measure.TheVariants.{Nodes};
 ghost use Rattle.rule_arena.specs.declared.label.Label.{Label};
-ghost use Rattle.rule_arena.specs.declared.label.Label.TheVariants.{Bottom, Symbol, Call, Param};
+ghost use Rattle.rule_arena.specs.declared.label.Label.TheVariants.{Call, Param};
 ghost use Rattle.preorder_address.specs.Descents.{nodes_up_to};
 ghost use Rattle.preorder_address.specs.Numberings.{AreCountsOf};
-ghost use Rattle.preorder_address.specs.Parents.{EntryTells, Tells, TellsParent, first_terms, kid_sizes, until};
+ghost use Rattle.preorder_address.specs.Parents.{EntryTells, TellsParent, first_terms, kid_sizes, until};
 ghost use Rattle.preorder_address.specs.Sites.{labels_before, laden};
 ghost use Rattle.preorder_address.specs.TreeNumbers.{IsLastAbove, parent_at};
 ghost use Rattle.preorder_address.specs.declared.parent.Edge.{Edge};
@@ -105,12 +104,7 @@ fn find_parent<L: Ledger>(
 }
 
 // The last entry on a way that goes on in a rule.
-fn later_entry(
-    entry: Option<Entry>,
-    rule: usize,
-    edge: Option<Edge>,
-    frame: Frame,
-) -> Option<Entry>
+fn later_entry(entry: Option<Entry>, rule: usize, edge: Option<Edge>, frame: Frame) -> Option<Entry>
     ensures here { (e : Edge) → edge ≡ Some e → result ≡ Some (record { rule = rule; edge = e; frame = frame }) }
     ensures before { edge ≡ None → result ≡ entry }
 {
@@ -135,14 +129,7 @@ fn number_of<L: Ledger>(
 {
     let mut at = entry;
     loop {
-        let frame = frame_at(
-            grammar,
-            counts,
-            &at.frame,
-            at.rule,
-            at.edge.key,
-            steps,
-        );
+        let frame = frame_at(grammar, counts, &at.frame, at.rule, at.edge.key, steps);
         let Label::Call(rule) = at.edge.label else {
             return frame.before;
         };
@@ -165,7 +152,7 @@ fn frame_at<L: Ledger>(
 ) -> Frame
     requires keyed { IsKeyed grammar.now }
     requires counts { AreCountsOf (rules_of grammar.now.rules) counts.now }
-    requires there { (p : ℕ) × (x : Node) × (slice_get (nodes_at grammar.now.rules rule) p ≡ Some x) × (x.key ≡ key) × IsPlain x.label }
+    requires there { (p : ℕ) × (x : Node) × (slice_get (nodes_at grammar.now.rules rule) p ≡ Some x) × (x.key ≡ key) × (x.label ≡ Param → ⊥) }
     requires small { frame.now.before + laden node_weight frame.now.args (preorder (rules_of grammar.now.rules) rule) < 2 ^ 64 }
     ensures before { (p : ℕ) → key_at grammar.now.rules rule p ≡ Some key → result.before ≡ frame.now.before + laden node_weight frame.now.args (labels_before grammar.now.rules rule p) }
     ensures args { (p : ℕ) (x : Node) → slice_get (nodes_at grammar.now.rules rule) p ≡ Some x → x.key ≡ key → (j : ℕ) → get_or result.args j 0
@@ -254,12 +241,7 @@ fn first_children(counts: &Counts, rule: usize, param: usize) -> u64
 }
 
 // The node of a rule's body that is this parameter, counted from 0.
-fn param_at<L: Ledger>(
-    grammar: &Grammar,
-    rule: usize,
-    number: usize,
-    steps: &mut Steps<L>,
-) -> Key
+fn param_at<L: Ledger>(grammar: &Grammar, rule: usize, number: usize, steps: &mut Steps<L>) -> Key
     requires keyed { IsKeyed grammar.now }
     requires rule { rule < length grammar.now.rules }
     requires number { number < params (preorder (rules_of grammar.now.rules) rule) }

@@ -1,4 +1,4 @@
-use Rattle.std.proofs.Common.{arith, ap, refl, subst, sym, ◌≡◌, ◌∙◌, ◌+◌, ◌*◌, ◌∷◌, [], ℕ, List, Option, Some, None, length}
+use Rattle.std.proofs.Common.{arith, ap, refl, subst, sym, ◌∙◌, ℕ, List, Option, Some, length}
 use Rattle.std.proofs.lemmas.List.Sums.{sum_by-cons}
 use Rattle.slt_grammar.specs.Bodies.{params}
 use Rattle.slt_grammar.specs.Keyed.{nodes_at}
@@ -14,6 +14,7 @@ use Rattle.preorder_address.proofs.ParentWays.{ParentedBy, here, limit, parented
 use Rattle.preorder_address.proofs.Sited.{SitedBy, level-key, level-within, sited-next}
 use Rattle.preorder_address.proofs.TreeKids.{nodes-fit, total-nodes}
 use Rattle.preorder_address.proofs.TreeParents.{no-parent, parent-told, total-trees}
+use Rattle.preorder_address.proofs.ParentRises.{plain-not}
 use Rattle.preorder_address.proofs.parent.find_parent.Goals as goal
 
 pub returns-in_err-descent-clause-parent : goal.returns-in_err-descent-clause-parent
@@ -48,7 +49,7 @@ frame_at-frame-requires-clause-there g c =
     let ls = levels_of a.grammar.now.rules c.next.new.self in
     let s = subst (λ (ls : List Level). SitedBy a.grammar.now node_weight a.number ls f.before f.args) c.in-Some.ensures.levels c.loop-level.invariant.sited in
     let i = here a.grammar.now K a.number l ls f.before f.args s in
-    (i.place, i.node, i.there, i.key, i.plain)
+    (i.place, i.node, i.there, i.key, plain-not i.node.label i.plain)
 
 pub frame_at-frame-requires-clause-small : goal.frame_at-frame-requires-clause-small
 frame_at-frame-requires-clause-small g c =

@@ -1,4 +1,4 @@
-use Rattle.std.proofs.Common.{arith, ◌+◌, ◌*◌, ◌-◌, subst, refl}
+use Rattle.std.proofs.Common.{arith, refl}
 use Rattle.slt_grammar.specs.Keyed.{rules_of}
 use Rattle.preorder_address.proofs.Rising.{edge-is, rising-few, rising-next, rising-root, rising-steps, rising-told}
 use Rattle.preorder_address.proofs.parent.first_child_above.Goals as goal

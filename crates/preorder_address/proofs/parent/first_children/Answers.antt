@@ -1,4 +1,4 @@
-use Rattle.std.proofs.Common.{arith, ◌+◌}
+use Rattle.std.proofs.Common.{arith}
 use Rattle.preorder_address.proofs.FirstTerms.{all-fit, first-terms, nodes-few, param-few}
 use Rattle.preorder_address.proofs.parent.first_children.Goals as goal
 

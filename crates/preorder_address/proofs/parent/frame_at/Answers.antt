@@ -6,6 +6,7 @@ use Rattle.slt_grammar.proofs.KeyedLemmas.{key_at-within}
 use Rattle.slt_grammar.proofs.TourLemmas.{length-node_tour}
 use Rattle.slt_grammar.proofs.TourWalking.{node-key}
 use Rattle.std.proofs.Common.{Some}
+use Rattle.preorder_address.proofs.Weighers.{plain-of}
 use Rattle.preorder_address.proofs.Framing.{frame-before, frame-key, frame-kids}
 use Rattle.preorder_address.proofs.parent.frame_at.Goals as goal
 
@@ -13,27 +14,27 @@ pub pass_to-passed-requires-clause-there : goal.pass_to-passed-requires-clause-t
 pass_to-passed-requires-clause-there g c =
     let a = c.args in
     let h = c.requires.there in
-    (h.0, frame-key a.grammar.now c.requires.keyed a.rule a.frame.now.args a.key h.0 h.1 h.2 h.3 h.4)
+    (h.0, frame-key a.grammar.now c.requires.keyed a.rule a.frame.now.args a.key h.0 h.1 h.2 h.3 (plain-of h.1.label h.4))
 
 pub overflow_add-result : goal.overflow_add-result
 overflow_add-result g c =
     let a = c.args in
     let h = c.requires.there in
-    let k = frame-key a.grammar.now c.requires.keyed a.rule a.frame.now.args a.key h.0 h.1 h.2 h.3 h.4 in
-    omega (arith, c.requires.small, frame-before a.grammar.now c.requires.keyed a.rule a.frame.now.args a.key h.0 h.1 h.2 h.3 h.4, c.pass_to-passed.ensures.weight h.0 k)
+    let k = frame-key a.grammar.now c.requires.keyed a.rule a.frame.now.args a.key h.0 h.1 h.2 h.3 (plain-of h.1.label h.4) in
+    omega (arith, c.requires.small, frame-before a.grammar.now c.requires.keyed a.rule a.frame.now.args a.key h.0 h.1 h.2 h.3 (plain-of h.1.label h.4), c.pass_to-passed.ensures.weight h.0 k)
 
 pub kid_weights-requires-clause-there : goal.kid_weights-requires-clause-there
 kid_weights-requires-clause-there g c =
     let a = c.args in
     let h = c.requires.there in
-    (a.rule, h.0, frame-key a.grammar.now c.requires.keyed a.rule a.frame.now.args a.key h.0 h.1 h.2 h.3 h.4)
+    (a.rule, h.0, frame-key a.grammar.now c.requires.keyed a.rule a.frame.now.args a.key h.0 h.1 h.2 h.3 (plain-of h.1.label h.4))
 
 pub kid_weights-requires-clause-small : goal.kid_weights-requires-clause-small
 kid_weights-requires-clause-small g c = λ r p x e f.
     let a = c.args in
     let h = c.requires.there in
-    let k = frame-key a.grammar.now c.requires.keyed a.rule a.frame.now.args a.key h.0 h.1 h.2 h.3 h.4 in
-    let v = frame-kids a.grammar.now c.requires.keyed a.rule a.frame.now.args a.key h.0 h.1 h.2 h.3 h.4 c.pass_to-passed.result.params (c.pass_to-passed.ensures.params h.0 k) r p x e f in
+    let k = frame-key a.grammar.now c.requires.keyed a.rule a.frame.now.args a.key h.0 h.1 h.2 h.3 (plain-of h.1.label h.4) in
+    let v = frame-kids a.grammar.now c.requires.keyed a.rule a.frame.now.args a.key h.0 h.1 h.2 h.3 (plain-of h.1.label h.4) c.pass_to-passed.result.params (c.pass_to-passed.ensures.params h.0 k) r p x e f in
     omega (arith, c.requires.small, v)
 
 pub returns-clause-args : goal.returns-clause-args
@@ -47,6 +48,6 @@ pub returns-clause-steps : goal.returns-clause-steps
 returns-clause-steps g c =
     let a = c.args in
     let h = c.requires.there in
-    let k = frame-key a.grammar.now c.requires.keyed a.rule a.frame.now.args a.key h.0 h.1 h.2 h.3 h.4 in
+    let k = frame-key a.grammar.now c.requires.keyed a.rule a.frame.now.args a.key h.0 h.1 h.2 h.3 (plain-of h.1.label h.4) in
     let n = length-node_tour a.grammar.now c.requires.keyed a.rule (key_at-within a.grammar.now.rules a.rule h.0 a.key k).0 in
     omega (arith, n, c.pass_to-passed.ensures.steps, c.kid_weights.ensures.steps a.rule h.0 k)

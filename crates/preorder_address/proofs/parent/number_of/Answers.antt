@@ -1,8 +1,8 @@
-use Rattle.std.proofs.Common.{arith, refl, ◌+◌, ◌*◌, length}
+use Rattle.std.proofs.Common.{arith}
 use Rattle.slt_grammar.proofs.TourLemmas.{length-node_tour}
-use Rattle.slt_grammar.specs.Keyed.{nodes_at}
 use Rattle.preorder_address.proofs.Descending.{nodes-below, nodes-within}
 use Rattle.preorder_address.proofs.EntrySteps.{call-earlier, entry-key, entry-next, entry-plain, entry-rule, kid-there, never-none, symbol-is}
+use Rattle.preorder_address.proofs.ParentRises.{plain-not}
 use Rattle.preorder_address.proofs.parent.number_of.Goals as goal
 
 pub frame_at-frame-requires-clause-there : goal.frame_at-frame-requires-clause-there
@@ -10,7 +10,7 @@ frame_at-frame-requires-clause-there g c =
     let a = c.args in
     let w = c.requires.tells in
     let t = c.loop-at.invariant.tells w.0 w.1 w.3 in
-    (t.place, t.node, t.is_entry.there, t.is_entry.key, entry-plain a.grammar.now c.requires.keyed w.0 c.loop-at.at w.1 t)
+    (t.place, t.node, t.is_entry.there, t.is_entry.key, plain-not t.node.label (entry-plain a.grammar.now c.requires.keyed w.0 c.loop-at.at w.1 t))
 
 pub frame_at-frame-requires-clause-small : goal.frame_at-frame-requires-clause-small
 frame_at-frame-requires-clause-small g c =

@@ -1,8 +1,7 @@
 use Rattle.std.proofs.Common.{arith, ◌+◌, ◌∷◌, refl, length, sym, subst, ℕ}
 use Rattle.rule_arena.specs.Terms.{Node}
 use Rattle.slt_grammar.proofs.TourWalking.{node-here}
-use Rattle.preorder_address.proofs.Passing.{params-small}
-use Rattle.preorder_address.proofs.ParamSeeking.{SeeksParam, param-found, params-left, seek-next, seek-steps, seeks-param}
+use Rattle.preorder_address.proofs.ParamSeeking.{SeeksParam, param-found, params-left, seek-next, seeks-param}
 use Rattle.preorder_address.proofs.parent.param_at.Goals as goal
 
 pub loop-walk-init : goal.loop-walk-init

@@ -1,5 +1,3 @@
-use Rattle.std.proofs.Common.{Option, None, Some, ◌≡◌, ℕ, refl, sym}
-use Rattle.std.specs.Prelude.{IfSome}
 use Rattle.preorder_address.proofs.TreeAbove.{if-told}
 use Rattle.preorder_address.proofs.parent.parent_of.Goals as goal
 

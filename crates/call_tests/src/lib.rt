@@ -1,27 +1,13 @@
-//! Tests of the public calls of the crates below, a module for each crate that has some; those of the session and of the shell
+//! Tests of the public calls of the other crates below, a module for each that has some; those of the session and of the shell
 //! are whole scripts, given to `serve`. They stand here since a crate with tests of its own is proved twice. No test says what
 //! a clause says: they have worked rows and bytes from outside, faults in mid-stream, documents that are deep or large, real
 //! files, and each call that takes memory once with enough of it.
 #![tactic(auto)]
 
 #[cfg(test)]
-mod addresses;
-#[cfg(test)]
-mod arena;
-#[cfg(test)]
 mod code;
 #[cfg(test)]
-mod counts;
-#[cfg(test)]
-mod cursors;
-#[cfg(test)]
-mod grammar;
-#[cfg(test)]
-mod grammar_bytes;
-#[cfg(test)]
 mod nodes;
-#[cfg(test)]
-mod numbers;
 #[cfg(test)]
 mod outside;
 #[cfg(test)]

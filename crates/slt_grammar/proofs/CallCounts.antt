@@ -1,5 +1,5 @@
 -- What is counted over bodies and rules.
-use Rattle.std.proofs.Common.{◌≡◌, ℕ, zero, suc, ◌+◌, ◌<◌, ◌≤◌, List, [], ◌∷◌, length, get_or, take, drop, refl, sym, ap, ◌∙◌, arith, inl, inr, eq-eqb, subst, length-drop, Bool, true, false, set}
+use Rattle.std.proofs.Common.{◌≡◌, ℕ, zero, suc, ◌+◌, ◌-◌, ◌<◌, ◌≤◌, List, [], ◌∷◌, length, get_or, take, drop, refl, sym, ap, ◌∙◌, arith, inl, inr, eq-eqb, subst, length-drop, Bool, true, false, set}
 use Rattle.std.specs.Prelude.{if◌then◌else◌, eqb}
 use Rattle.std.specs.List.{sum_by}
 use Rattle.std.proofs.lemmas.List.Sums.{sum_by-cons, sum_by_push}
@@ -128,3 +128,31 @@ below-more m n (Bottom ∷ ls) h b = below-more m n ls h b
 below-more m n (Symbol f ∷ ls) h b = below-more m n ls h b
 below-more m n (Call q ∷ ls) h b = (omega (arith, b.0), below-more m n ls h b.1)
 below-more m n (Param ∷ ls) h b = below-more m n ls h b
+
+one-less : (calls : List ℕ) (rule q : ℕ) → rule < length calls → 0 < get_or calls rule 0 → get_or (set calls rule (get_or calls rule 0 - 1)) q 0 + (if eqb rule q then 1 else 0) ≡ get_or calls q 0
+one-less calls rule q h p =
+    let one : ℕ = 1 in
+    let none : ℕ = 0 in
+    elim (cases_eq rule q) [
+      | inl e ↦
+          let x : one ≡ (if eqb rule q then 1 else 0) = sym (ap (λ b. if b then 1 else 0) (eq-eqb rule q e)) in
+          let y : get_or (set calls rule (get_or calls rule 0 - 1)) q 0 ≡ get_or calls rule 0 - 1 = ap (λ j. get_or (set calls rule (get_or calls rule 0 - 1)) j 0) (sym e) ∙ get_or-set_same calls rule (get_or calls rule 0 - 1) 0 h in
+          omega (arith, x, y, p, ap (λ j. get_or calls j 0) e)
+      | inr n ↦
+          let x : none ≡ (if eqb rule q then 1 else 0) = sym (ap (λ b. if b then 1 else 0) (ne_eqb rule q n)) in
+          omega (arith, x, get_or-set_other calls rule q (get_or calls rule 0 - 1) 0 (λ e. n (sym e)))
+    ]
+
+-- a call that is taken away
+pub uncounted : (q i rule : ℕ) (body : List Label) (old new : List ℕ) → i < length body → get_or body i Bottom ≡ Call rule → rule < length old → 0 < get_or old rule 0 → new ≡ set old rule (get_or old rule 0 - 1)
+    → get_or new q 0 + calls_in q (drop i body) ≡ get_or old q 0 + calls_in q (drop (i + 1) body)
+uncounted q i rule body old new h e k p n =
+    let a : calls_in q (get_or body i Bottom ∷ []) ≡ (if eqb rule q then 1 else 0) = ap (λ l. calls_in q (l ∷ [])) e ∙ calls_in-one q rule in
+    omega (arith, a, ap (λ xs. get_or xs q 0) n, one-less old rule q k p, calls-next q i body h)
+
+pub call-here : (i rule : ℕ) (body : List Label) → i < length body → get_or body i Bottom ≡ Call rule → 0 < calls_in rule (drop i body)
+call-here i rule body h e =
+    let a : calls_in rule (get_or body i Bottom ∷ []) ≡ (if eqb rule rule then 1 else 0) = ap (λ l. calls_in rule (l ∷ [])) e ∙ calls_in-one rule rule in
+    let one : ℕ = 1 in
+    let x : one ≡ (if eqb rule rule then 1 else 0) = sym (ap (λ b. if b then 1 else 0) (eq-eqb rule rule refl)) in
+    omega (arith, a, x, calls-next rule i body h)

@@ -1,89 +1,149 @@
 -- Where the nodes of a rule stand in the arena.
-use Rattle.std.proofs.Common.{◌≡◌, ℕ, zero, suc, ◌<◌, ◌^◌, List, [], ◌∷◌, length, get_or, Option, Some, None, slice_get, IsSome, refl, sym, ap, ◌∙◌, subst, arith}
+use Rattle.std.proofs.Common.{◌≡◌, ◌≢◌, ℕ, zero, suc, ◌+◌, ◌<◌, ◌≤◌, ◌^◌, List, [], ◌∷◌, length, get_or, set, Option, Some, None, slice_get, IsSome, refl, sym, ap, ◌∙◌, subst, arith}
+use Rattle.std.specs.List.{sum_by}
+use Rattle.std.proofs.lemmas.List.{length-map}
+use Rattle.std.proofs.lemmas.List.Sums.{sum_by-cons}
 use Rattle.std.proofs.lemmas.Option.{slice_get_read}
-use Rattle.rule_arena.specs.Terms.{Node, Terms, At, term_at, key_in, or_nothing, IsSound}
+use Rattle.rule_arena.specs.Terms.{Node, Terms, At, AreDistinctKeys, term_at, key_in, or_nothing, node_count, IsSound}
 use Rattle.rule_arena.specs.declared.key.Key.{Key}
-use Rattle.slt_grammar.specs.Algebras.{ranks_of}
-use Rattle.slt_grammar.specs.Grammars.{rank_at, IsGrammar, whole}
-use Rattle.slt_grammar.specs.Keyed.{Keyed, KeyedRule, IsKeyed, HasArities, nodes_at, key_at, rules_of}
-use Rattle.slt_grammar.specs.Holding.{keyed, HaveRoots, IsKept}
-use Rattle.slt_grammar.specs.declared.grammar.StoredRule.{StoredRule}
+use Rattle.slt_grammar.specs.Grammars.{rank_at, whole}
+use Rattle.slt_grammar.specs.Keyed.{Keyed, KeyedRule, IsKeyed, nodes_at, key_at, rules_of, labels_of}
+use Rattle.slt_grammar.specs.Holding.{terms_of, seen, AreRules, IsLawful}
+use Rattle.slt_grammar.specs.Placing.{placed}
+use Rattle.slt_grammar.specs.declared.rules.Rule.{Rule}
+use Rattle.slt_grammar.proofs.KeyedLemmas.{key_at-within}
+use Rattle.slt_grammar.proofs.Orders.{get-any}
+use Rattle.slt_grammar.proofs.Seen.{seen-at, length-seen, key-placed}
 
--- a place of a rule that has a key
-pub record Placed (a : Terms) (Rs : List StoredRule) (r p : ℕ) (key : Key) : Type 0 where
-  pub rule : StoredRule
-  pub nodes : List Node
-  pub is_rule : slice_get Rs r ≡ Some rule
-  pub stands : term_at a rule.root.number ≡ Some nodes
-  pub are : nodes_at (keyed a Rs) r ≡ nodes
-  pub there : key_in nodes p ≡ Some key
+pub some-at : (xs : List Key) (r : ℕ) → r < length xs → (k : Key) × (slice_get xs r ≡ Some k)
+some-at [] r h = absurd (omega arith)
+some-at (x ∷ xs) zero h = (x, refl)
+some-at (x ∷ xs) (suc r) h = some-at xs r (omega arith)
 
-pub placed : (a : Terms) (Rs : List StoredRule) (r p : ℕ) (key : Key) → key_at (keyed a Rs) r p ≡ Some key → Placed a Rs r p key
-placed a [] r p key e = absurd (let x : key_in [] p ≡ Some key = e in cc)
-placed a (R ∷ Rs) zero p key e = at (term_at a R.root.number) refl
+terms-get : (a : Terms) (roots : List Key) (r : ℕ) (k : Key) → slice_get roots r ≡ Some k → IsSome (term_at a k.number) → term_at a k.number ≡ Some (get_or (terms_of a roots) r [])
+terms-get a [] r k e s = absurd (cc)
+terms-get a (x ∷ roots) zero k e s = let q : x ≡ k = cc in at (term_at a k.number) refl s (ap (λ (y : Key). or_nothing (term_at a y.number)) q)
   where
-    at : (o : Option (List Node)) → term_at a R.root.number ≡ o → Placed a (R ∷ Rs) zero p key
-    at None t = absurd (let x : key_in (or_nothing None) p ≡ Some key = subst (λ (o : Option (List Node)). key_in (or_nothing o) p ≡ Some key) t e in let y : None ≡ Some key = x in cc)
-    at (Some ns) t = record {
-      rule = R;
-      nodes = ns;
-      is_rule = refl;
-      stands = t;
-      are = ap or_nothing t;
-      there = subst (λ (o : Option (List Node)). key_in (or_nothing o) p ≡ Some key) t e;
-    }
-placed a (R ∷ Rs) (suc r) p key e =
-    let P = placed a Rs r p key e in
-    record { rule = P.rule; nodes = P.nodes; is_rule = P.is_rule; stands = P.stands; are = P.are; there = P.there }
+    at : (o : Option (List Node)) → term_at a k.number ≡ o → IsSome o → or_nothing (term_at a x.number) ≡ or_nothing (term_at a k.number) → o ≡ Some (or_nothing (term_at a x.number))
+    at None t s q = absurd (cc)
+    at (Some ns) t s q = ap Some (sym (q ∙ ap or_nothing t))
+terms-get a (x ∷ roots) (suc r) k e s = terms-get a roots r k e s
 
--- the same in the arena's words
-abbrev pub at_place : (a : Terms) (Rs : List StoredRule) (r p : ℕ) (key : Key) → Placed a Rs r p key → At a key
-at_place a Rs r p key P = record { root = P.rule.root.number; nodes = P.nodes; place = p; stands = P.stands; there = P.there }
+-- a place of a rule that has a key, in the arena
+module _ (a : Terms) (roots : List Key) (ranks order : List ℕ) (G : List KeyedRule) (R : AreRules a roots ranks order) (see : seen order ranks (terms_of a roots) ≡ G) where
+  abbrev pub body : ℕ → List Node
+  body s = get_or (terms_of a roots) s []
 
--- the same from what callers see
-pub seen : (a : Terms) (Rs : List StoredRule) (g : Keyed) (r p : ℕ) (key : Key) → keyed a Rs ≡ g.rules → key_at g.rules r p ≡ Some key → Placed a Rs r p key
-seen a Rs g r p key e k = placed a Rs r p key (subst (λ (G : List KeyedRule). key_at G r p ≡ Some key) (sym e) k)
+  pub many-bodies : length (terms_of a roots) ≡ length roots
+  many-bodies = length-map roots (λ (k : Key). or_nothing (term_at a k.number))
 
-pub seen_nodes : (a : Terms) (Rs : List StoredRule) (g : Keyed) (r p : ℕ) (key : Key) → keyed a Rs ≡ g.rules → (P : Placed a Rs r p key) → nodes_at g.rules r ≡ P.nodes
-seen_nodes a Rs g r p key e P = subst (λ (G : List KeyedRule). nodes_at G r ≡ P.nodes) e P.are
+  pub many-ranks : length ranks ≡ length (terms_of a roots)
+  many-ranks = R.ranked ∙ sym many-bodies
 
-pub length-keyed : (a : Terms) (Rs : List StoredRule) (g : Keyed) → keyed a Rs ≡ g.rules → length g.rules ≡ length Rs
-length-keyed a Rs g e = sym (ap length e) ∙ all Rs
+  pub many-rules : length G ≡ length roots
+  many-rules = sym (ap length see) ∙ length-seen order ranks (terms_of a roots) many-ranks ∙ many-bodies
+
+  pub nodes-are : (s : ℕ) → nodes_at G s ≡ placed order (body s)
+  nodes-are s = ap (λ (H : List KeyedRule). nodes_at H s) (sym see) ∙ seen-at order ranks (terms_of a roots) s many-ranks
+
+  pub rank-is : (r rank : ℕ) → r < length G → rank ≡ get_or ranks r rank → rank ≡ rank_at (rules_of G) r
+  rank-is r rank h e = e ∙ get-any ranks r rank 0 (omega (arith, R.ranked, many-rules)) ∙ at ranks (terms_of a roots) r many-ranks ∙ ap (λ (H : List KeyedRule). rank_at (rules_of H) r) see
+    where
+      at : (rs : List ℕ) (bs : List (List Node)) (r : ℕ) → length rs ≡ length bs → get_or rs r 0 ≡ rank_at (rules_of (seen order rs bs)) r
+      at [] bs r e = refl
+      at (x ∷ rs) [] r e = absurd (omega arith)
+      at (x ∷ rs) (b ∷ bs) zero e = refl
+      at (x ∷ rs) (b ∷ bs) (suc r) e = at rs bs r (omega arith)
+
+  pub rule-within : (r p : ℕ) (key : Key) → key_at G r p ≡ Some key → r < length roots
+  rule-within r p key e = let w = key_at-within G r p key e in omega (arith, w.0, many-rules)
+
+  pub body-stands : (s : ℕ) (k : Key) → slice_get roots s ≡ Some k → term_at a k.number ≡ Some (body s)
+  body-stands s k e = terms-get a roots s k e (R.held.stands s k e)
+
+  pub key-is : (r p : ℕ) (key : Key) → key_at G r p ≡ Some key → key_in (body r) p ≡ Some key
+  key-is r p key e = sym (key-placed order (body r) p) ∙ ap (λ (ns : List Node). key_in ns p) (sym (nodes-are r)) ∙ e
+
+  abbrev pub root-at : (r p : ℕ) (key : Key) → key_at G r p ≡ Some key → (k : Key) × (slice_get roots r ≡ Some k)
+  root-at r p key e = some-at roots r (rule-within r p key e)
+
+  abbrev pub node-is : (r p : ℕ) (key : Key) (e : key_at G r p ≡ Some key) → At a key
+  node-is r p key e = record { root = (root-at r p key e).0.number; nodes = body r; place = p; stands = body-stands r (root-at r p key e).0 (root-at r p key e).1; there = key-is r p key e }
+
+  -- a rule's body begins with its root
+  pub root-keyed : (r : ℕ) (root : Key) → IsSound a → r < length roots → root ≡ get_or roots r root → key_at G r 0 ≡ Some root
+  root-keyed r root S h e =
+      let i : slice_get roots r ≡ Some root = slice_get_read roots (length roots) r root refl h e in
+      ap (λ (ns : List Node). key_in ns 0) (nodes-are r) ∙ key-placed order (body r) 0 ∙ S.first root.number (body r) (body-stands r root i)
+
+-- the terms of different roots are no more nodes than all terms
+within-set : (ts : List (Option (List Node))) (k : ℕ) → length (or_nothing (get_or ts k None)) + sum_by (λ t. length (or_nothing t)) (set ts k None) ≡ sum_by (λ t. length (or_nothing t)) ts
+within-set [] k = refl
+within-set (t ∷ ts) zero = rw (sum_by-cons (λ o. length (or_nothing o)) t ts, sum_by-cons (λ o. length (or_nothing o)) None ts) (omega arith)
+within-set (t ∷ ts) (suc k) =
+    rw (sum_by-cons (λ o. length (or_nothing o)) t ts, sum_by-cons (λ o. length (or_nothing o)) t (set ts k None)) (omega (arith, within-set ts k))
+
+get-set : (ts : List (Option (List Node))) (k j : ℕ) → j ≢ k → get_or (set ts k None) j None ≡ get_or ts j None
+get-set [] k j n = refl
+get-set (t ∷ ts) zero zero n = absurd (n refl)
+get-set (t ∷ ts) zero (suc j) n = refl
+get-set (t ∷ ts) (suc k) zero n = refl
+get-set (t ∷ ts) (suc k) (suc j) n = get-set ts k j (λ e. n (ap suc e))
+
+lengths-within : (ts : List (Option (List Node))) (ks : List Key) → AreDistinctKeys ks → sum_by (λ (k : Key). length (or_nothing (get_or ts k.number None))) ks ≤ sum_by (λ t. length (or_nothing t)) ts
+lengths-within ts [] d = omega arith
+lengths-within ts (k ∷ ks) d =
+    let us : List (Option (List Node)) = set ts k.number None in
+    let f : Key → ℕ = λ (x : Key). length (or_nothing (get_or ts x.number None)) in
+    let g : Key → ℕ = λ (x : Key). length (or_nothing (get_or us x.number None)) in
+    let ih = lengths-within us ks (λ i j x y e f n. let z = d (suc i) (suc j) x y e f n in omega arith) in
+    let same : sum_by g ks ≡ sum_by f ks = all ks (λ i x e. ap (λ o. length (or_nothing o)) (get-set ts k.number x.number (λ n. absurd (let z = d (suc i) 0 x k e refl n in omega arith)))) in
+    rw (sum_by-cons f k ks) (omega (arith, ih, same, within-set ts k.number))
   where
-    all : (Rs : List StoredRule) → length (keyed a Rs) ≡ length Rs
-    all [] = refl
-    all (R ∷ Rs) = ap suc (all Rs)
+    all : (xs : List Key) → ((i : ℕ) (x : Key) → slice_get xs i ≡ Some x → length (or_nothing (get_or (set ts k.number None) x.number None)) ≡ length (or_nothing (get_or ts x.number None)))
+        → sum_by (λ (x : Key). length (or_nothing (get_or (set ts k.number None) x.number None))) xs ≡ sum_by (λ (x : Key). length (or_nothing (get_or ts x.number None))) xs
+    all [] h = refl
+    all (x ∷ xs) h =
+        let f : Key → ℕ = λ (x : Key). length (or_nothing (get_or ts x.number None)) in
+        let g : Key → ℕ = λ (x : Key). length (or_nothing (get_or (set ts k.number None) x.number None)) in
+        rw (sum_by-cons f x xs, sum_by-cons g x xs) (omega (arith, h 0 x refl, all xs (λ i y e. h (suc i) y e)))
 
-pub rank-keyed : (a : Terms) (Rs : List StoredRule) (r : ℕ) (R : StoredRule) → r < length Rs → R ≡ get_or Rs r R → R.rank ≡ rank_at (rules_of (keyed a Rs)) r
-rank-keyed a [] r R h e = absurd (omega arith)
-rank-keyed a (S ∷ Rs) zero R h e = ap (λ (x : StoredRule). x.rank) e
-rank-keyed a (S ∷ Rs) (suc r) R h e = rank-keyed a Rs r R (omega arith) e
-
--- a rule's body begins with its root
-pub root-keyed : (a : Terms) (Rs : List StoredRule) (r : ℕ) (R : StoredRule) → HaveRoots a Rs → IsSound a → r < length Rs → R ≡ get_or Rs r R → key_at (keyed a Rs) r 0 ≡ Some R.root
-root-keyed a Rs r R H S h e =
-    let i : slice_get Rs r ≡ Some R = slice_get_read Rs (length Rs) r R refl h e in
-    at (term_at a R.root.number) refl (H.stands r R i) (nodes_of Rs r i)
+-- rules in an arena have no more nodes than the arena
+pub whole-within : (a : Terms) (roots : List Key) (ranks order : List ℕ) → AreRules a roots ranks order → whole (rules_of (seen order ranks (terms_of a roots))) ≤ node_count a
+whole-within a roots ranks order R =
+    let m : length ranks ≡ length roots = R.ranked in
+    let e = sums ranks roots m in
+    omega (arith, e, lengths-within a.terms roots R.held.distinct)
   where
-    nodes_of : (Rs : List StoredRule) (r : ℕ) → slice_get Rs r ≡ Some R → nodes_at (keyed a Rs) r ≡ or_nothing (term_at a R.root.number)
-    nodes_of [] r i = absurd (cc)
-    nodes_of (S ∷ Rs) zero i = let j : S ≡ R = cc in ap (λ (x : StoredRule). or_nothing (term_at a x.root.number)) j
-    nodes_of (S ∷ Rs) (suc r) i = nodes_of Rs r i
-
-    at : (o : Option (List Node)) → term_at a R.root.number ≡ o → IsSome (term_at a R.root.number) → nodes_at (keyed a Rs) r ≡ or_nothing (term_at a R.root.number) → key_at (keyed a Rs) r 0 ≡ Some R.root
-    at None t s n = absurd (let n : Option (List Node) = None in let x : IsSome n = subst (λ (o : Option (List Node)). IsSome o) t s in cc)
-    at (Some ns) t s n = ap (λ (ms : List Node). key_in ms 0) (n ∙ ap or_nothing t) ∙ S.first R.root.number ns t
+    sums : (rs : List ℕ) (ks : List Key) → length rs ≡ length ks → whole (rules_of (seen order rs (terms_of a ks))) ≡ sum_by (λ (k : Key). length (or_nothing (get_or a.terms k.number None))) ks
+    sums [] [] e = refl
+    sums [] (k ∷ ks) e = absurd (omega arith)
+    sums (r ∷ rs) [] e = absurd (omega arith)
+    sums (r ∷ rs) (k ∷ ks) e =
+        let f : Key → ℕ = λ (x : Key). length (or_nothing (get_or a.terms x.number None)) in
+        let b : List Node = or_nothing (term_at a k.number) in
+        let R0 : Rule = record { rank = r; body = labels_of (placed order b) } in
+        let ih = sums rs ks (omega arith) in
+        let l : length (labels_of (placed order b)) ≡ length b = length-map (placed order b) _ ∙ length-map b _ in
+        rw (sum_by-cons f k ks, sum_by-cons (λ (x : Rule). length x.body) R0 (rules_of (seen order rs (terms_of a ks)))) (omega (arith, ih, l))
 
 -- what is kept is what callers are told
-pub is_keyed : (a : Terms) (Rs : List StoredRule) (nodes : ℕ) (g : Keyed) → IsKept a Rs nodes → IsSound a → keyed a Rs ≡ g.rules → a.limit ≡ g.limit → IsKeyed g
-is_keyed a Rs nodes g K S e l = record {
-  grammar = subst (λ (G : List KeyedRule). IsGrammar (rules_of G)) e K.grammar;
-  few = subst (λ (G : List KeyedRule). whole (rules_of G) < 2 ^ 63) e K.few;
-  arities = λ r. subst (λ (G : List KeyedRule). HasArities (ranks_of (rules_of G)) (nodes_at G r)) e (K.arities r);
+pub is_keyed : (a : Terms) (roots : List Key) (ranks order : List ℕ) (g : Keyed) → AreRules a roots ranks order → IsLawful (seen order ranks (terms_of a roots)) → IsSound a → node_count a ≤ 2 ^ 32
+    → seen order ranks (terms_of a roots) ≡ g.rules → a.limit ≡ g.limit → IsKeyed g
+is_keyed a roots ranks order g R L S n e l = record {
+  grammar = (subst IsLawful e L).grammar;
+  few = subst (λ (G : List KeyedRule). whole (rules_of G) < 2 ^ 63) e (omega (arith, whole-within a roots ranks order R));
+  arities = (subst IsLawful e L).arities;
   once = λ key r p s q x y.
-      let P = seen a Rs g r p key e x in
-      let Q = seen a Rs g s q key e y in
-      let o = S.once key (at_place a Rs r p key P) (at_place a Rs s q key Q) in
-      (K.held.distinct r s P.rule Q.rule P.is_rule Q.is_rule o.0, o.1);
-  below = λ key r p x. subst (λ (n : ℕ). key.number < n) l (S.below key (at_place a Rs r p key (seen a Rs g r p key e x)));
+      let at_x = node-is a roots ranks order g.rules R e r p key x in
+      let at_y = node-is a roots ranks order g.rules R e s q key y in
+      let o = S.once key at_x at_y in
+      let u = root-at a roots ranks order g.rules R e r p key x in
+      let v = root-at a roots ranks order g.rules R e s q key y in
+      (R.held.distinct r s u.0 v.0 u.1 v.1 o.0, o.1);
+  below = λ key r p x. subst (λ (n : ℕ). key.number < n) l (S.below key (node-is a roots ranks order g.rules R e r p key x));
 }
+
+-- a term has no more nodes than the arena
+pub term-within : (a : Terms) (r : ℕ) (ns : List Node) → term_at a r ≡ Some ns → length ns ≤ node_count a
+term-within a r ns t = omega (arith, ap (λ (o : Option (List Node)). length (or_nothing o)) t, within-set a.terms r)

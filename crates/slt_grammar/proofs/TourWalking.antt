@@ -1,5 +1,5 @@
 -- A walk along the tour of a body, by keys, parents and the next node.
-use Rattle.std.proofs.Common.{◌≡◌, ℕ, zero, suc, ◌+◌, ◌-◌, ◌<◌, ◌≤◌, List, [], ◌∷◌, ◌++◌, get_or, drop, refl, ap, sym, ◌∙◌, arith, add-suc, suc-add, add-zero, add-one, zero-add, Option, Some, None}
+use Rattle.std.proofs.Common.{◌≡◌, ℕ, zero, suc, ◌+◌, ◌-◌, ◌<◌, ◌≤◌, List, [], ◌∷◌, ◌++◌, get_or, drop, refl, ap, sym, subst, ◌∙◌, arith, true, false, add-suc, suc-add, add-zero, add-one, zero-add, Option, Some, None}
 use Rattle.std.specs.Prelude.{slice_get}
 use Rattle.rule_arena.specs.Preorder.{parents, places}
 use Rattle.rule_arena.specs.Terms.{Node, kids_of, key_of, key_in, parent_in}
@@ -7,7 +7,7 @@ use Rattle.rule_arena.specs.NodeKey.{NodeKey as Key}
 use Rattle.slt_grammar.specs.Keyed.{KeyedRule, nodes_at, key_at}
 use Rattle.slt_grammar.specs.Segments.{node_tour}
 use Rattle.slt_grammar.specs.Tours.{Stop, stop, opened_kids, once_closed, entered, tour, behind, tour_from}
-use Rattle.slt_grammar.specs.TourWalks.{StandsBefore, behind_node, rest_of}
+use Rattle.slt_grammar.specs.TourWalks.{StandsBefore, StandsBehindSkipped, AreBehindChildren, behind_node, rest_of}
 use Rattle.slt_grammar.specs.declared.tour_walk.TourWalk.{TourWalk}
 
 pub key-node : (ns : List Node) (p : ℕ) (key : Key) → key_in ns p ≡ Some key → (x : Node) × (slice_get ns p ≡ Some x) × (x.key ≡ key)
@@ -42,6 +42,10 @@ tour_from-start : {X : Type 0} (ar : X → ℕ) (afters : List (List (Stop X))) 
 tour_from-start ar afters [] = refl
 tour_from-start ar afters (x ∷ xs) = refl
 
+get_or-drop_one : {Y : Type 0} (ys : List Y) (i : ℕ) (d : Y) → get_or (drop 1 ys) i d ≡ get_or ys (suc i) d
+get_or-drop_one [] i d = refl
+get_or-drop_one (y ∷ ys) i d = refl
+
 module _ (ns : List Node) (table : List (List (Stop Node))) where
   -- the parent of an open term and its place there, and the stops behind the term
   abbrev pub Matches : Option (Key × ℕ) → List (Stop Node) → Type 0
@@ -63,10 +67,6 @@ module _ (ns : List Node) (table : List (List (Stop Node))) where
       let z : x.kids - c ≡ suc n = omega arith in
       (here, x, h, refl, omega arith, ap (λ b. stop x c ∷ b) (sym (ap (λ k. once_closed k (get_or table here [])) z)))
   opened_kids-matched here x a h t (suc (suc n)) c e ups afters m (suc i) = opened_kids-matched here x a h t (suc n) (suc c) (omega arith) ups afters m i
-
-  get_or-drop_one : {Y : Type 0} (ys : List Y) (i : ℕ) (d : Y) → get_or (drop 1 ys) i d ≡ get_or ys (suc i) d
-  get_or-drop_one [] i d = refl
-  get_or-drop_one (y ∷ ys) i d = refl
 
   dropped-matched : (ups : List (Option (Key × ℕ))) (afters : List (List (Stop Node))) → AreMatched ups afters → AreMatched (drop 1 ups) (drop 1 afters)
   dropped-matched ups afters m i = rw (get_or-drop_one ups i None, get_or-drop_one afters i []) (m (suc i))
@@ -103,6 +103,40 @@ behind-child G r p key k e = rw e at (matched-at G r p)
 
 behind-root : (G : List KeyedRule) (r p : ℕ) → parent_in (nodes_at G r) p ≡ None → behind_node G r p ≡ []
 behind-root G r p e = rw e at (matched-at G r p)
+
+-- the stops behind the nodes of a rule are behind children
+module _ (G : List KeyedRule) (r : ℕ) where
+  abbrev AllBehind : List (List (Stop Node)) → Type 0
+  AllBehind afters = (i : ℕ) → AreBehindChildren G r (get_or afters i [])
+
+  once_closed-behind : (n : ℕ) (a : List (Stop Node)) → AreBehindChildren G r a → AreBehindChildren G r (once_closed n a)
+  once_closed-behind zero a b = b
+  once_closed-behind (suc n) a b = tt
+
+  opened_kids-behind : (p : ℕ) (x : Node) → slice_get (nodes_at G r) p ≡ Some x → (a : List (Stop Node)) → AreBehindChildren G r a → (afters : List (List (Stop Node))) → AllBehind afters
+      → (n c : ℕ) → 0 < c → c + n ≡ suc x.kids → AllBehind (opened_kids x c n a ++ afters)
+  opened_kids-behind p x h a b afters m zero c l e i = m i
+  opened_kids-behind p x h a b afters m (suc zero) c l e zero = (record { place = p; there = h; later = l; within = omega arith }, b)
+  opened_kids-behind p x h a b afters m (suc zero) c l e (suc i) = m i
+  opened_kids-behind p x h a b afters m (suc (suc n)) c l e zero = (record { place = p; there = h; later = l; within = omega arith }, tt)
+  opened_kids-behind p x h a b afters m (suc (suc n)) c l e (suc i) = opened_kids-behind p x h a b afters m (suc n) (suc c) (omega arith) (omega arith) i
+
+  all-behind : (here : ℕ) (afters : List (List (Stop Node))) (xs : List Node) → ((j : ℕ) → slice_get (nodes_at G r) (here + j) ≡ slice_get xs j) → AllBehind afters
+      → (p : ℕ) → AreBehindChildren G r (get_or (behind kids_of afters xs) p [])
+  all-behind here afters [] hx m p = tt
+  all-behind here afters (x ∷ xs) hx m zero = m 0
+  all-behind here afters (x ∷ xs) hx m (suc p) =
+      let h : slice_get (nodes_at G r) here ≡ Some x = rw add-zero at (hx 0) in
+      let others : AllBehind (drop 1 afters) = λ i. rw (get_or-drop_one afters i []) (m (suc i)) in
+      all-behind (suc here) (entered kids_of x afters) xs (λ j. rw (suc-add here j, ← add-suc here j) (hx (suc j)))
+      (opened_kids-behind here x h (get_or afters 0 []) (m 0) (drop 1 afters) others x.kids 1 (omega arith) (omega arith)) p
+
+  pub node-behind : (p : ℕ) → AreBehindChildren G r (behind_node G r p)
+  node-behind p = all-behind 0 ([] ∷ []) (nodes_at G r) (λ j. rw (zero-add j) refl) none p
+    where
+      none : AllBehind ([] ∷ [])
+      none zero = tt
+      none (suc i) = tt
 
 module _ (G : List KeyedRule) (r : ℕ) (walk : TourWalk) (m : Stop Node) (left : List (Stop Node)) (s : StandsBefore G r walk (m ∷ left)) where
   left-next : left ≡ once_closed (s.node.kids - walk.part) (behind_node G r s.place) ++ rest_of G r (suc s.last)
@@ -143,8 +177,9 @@ module _ (G : List KeyedRule) (r : ℕ) (walk : TourWalk) (m : Stop Node) (left 
       let z : s.node.kids - walk.part ≡ 0 = omega arith in
       record { none = ap (λ k. once_closed k (behind_node G r s.place)) z ∙ behind-root G r s.place e }
 
-  pub stands-next : IsNextNew → (key : Key) → key_at G r (s.last + 1) ≡ Some key → StandsBefore G r (record { key = key; part = 0; last = key }) left
-  stands-next n key e =
+  -- a walk to the next node
+  next-node : (key : Key) → key_at G r (s.last + 1) ≡ Some key → StandsBefore G r (record { key = key; part = 0; last = key }) (rest_of G r (suc s.last))
+  next-node key e =
       let f : key_at G r (suc s.last) ≡ Some key = rw (← add-one s.last) e in
       let x = key-node (nodes_at G r) (suc s.last) key f in
       let z : x.0.kids ≡ x.0.kids - 0 = omega arith in
@@ -156,13 +191,44 @@ module _ (G : List KeyedRule) (r : ℕ) (walk : TourWalk) (m : Stop Node) (left 
         key = x.2;
         within = omega arith;
         last_there = f;
-        are_left = left-next ∙ ap (λ a. a ++ rest_of G r (suc s.last)) n.none ∙ tour_from-there kids_of ([] ∷ []) (nodes_at G r) (suc s.last) x.0 x.1 ∙ ap (λ k. stop x.0 0 ∷ (once_closed k (behind_node G r (suc s.last)) ++ rest_of G r (suc (suc s.last)))) z;
+        are_left = tour_from-there kids_of ([] ∷ []) (nodes_at G r) (suc s.last) x.0 x.1 ∙ ap (λ k. stop x.0 0 ∷ (once_closed k (behind_node G r (suc s.last)) ++ rest_of G r (suc (suc s.last)))) z;
       }
 
-  pub stands-end : IsNextNew → key_at G r (s.last + 1) ≡ None → left ≡ []
-  stands-end n e =
+  no-node : key_at G r (s.last + 1) ≡ None → rest_of G r (suc s.last) ≡ []
+  no-node e =
       let f : key_at G r (suc s.last) ≡ None = rw (← add-one s.last) e in
-      left-next ∙ ap (λ a. a ++ rest_of G r (suc s.last)) n.none ∙ tour_from-past kids_of ([] ∷ []) (nodes_at G r) (suc s.last) (no-key (nodes_at G r) (suc s.last) f)
+      tour_from-past kids_of ([] ∷ []) (nodes_at G r) (suc s.last) (no-key (nodes_at G r) (suc s.last) f)
+
+  left-new : IsNextNew → left ≡ rest_of G r (suc s.last)
+  left-new n = left-next ∙ ap (λ a. a ++ rest_of G r (suc s.last)) n.none
+
+  pub stands-next : IsNextNew → (key : Key) → key_at G r (s.last + 1) ≡ Some key → StandsBefore G r (record { key = key; part = 0; last = key }) left
+  stands-next n key e = subst (λ (ms : List (Stop Node)). StandsBefore G r (record { key = key; part = 0; last = key }) ms) (sym (left-new n)) (next-node key e)
+
+  pub stands-end : IsNextNew → key_at G r (s.last + 1) ≡ None → left ≡ []
+  stands-end n e = left-new n ∙ no-node e
+
+  -- past the stops that are left before that node
+  skipped-behind : AreBehindChildren G r (once_closed (s.node.kids - walk.part) (behind_node G r s.place))
+  skipped-behind = once_closed-behind G r (s.node.kids - walk.part) (behind_node G r s.place) (node-behind G r s.place)
+
+  pub skips-to : (key : Key) → key_at G r (s.last + 1) ≡ Some key → StandsBehindSkipped true G r (record { key = key; part = 0; last = key }) left
+  skips-to key e = record {
+    skipped = once_closed (s.node.kids - walk.part) (behind_node G r s.place);
+    rest = rest_of G r (suc s.last);
+    split = left-next;
+    are_behind = skipped-behind;
+    stands = next-node key e;
+  }
+
+  pub skips-all : (after : TourWalk) → key_at G r (s.last + 1) ≡ None → StandsBehindSkipped false G r after left
+  skips-all after e = record {
+    skipped = once_closed (s.node.kids - walk.part) (behind_node G r s.place);
+    rest = rest_of G r (suc s.last);
+    split = left-next;
+    are_behind = skipped-behind;
+    stands = no-node e;
+  }
 
 pub stands-root : (G : List KeyedRule) (r : ℕ) (key : Key) → key_at G r 0 ≡ Some key → StandsBefore G r (record { key = key; part = 0; last = key }) (node_tour G r)
 stands-root G r key e =

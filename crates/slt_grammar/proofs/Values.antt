@@ -79,7 +79,7 @@ module _ (G : List Rule) (g : IsGrammar G) (p : ℕ) (there : p < length (body_a
   last_there = let some = g.some in omega arith
 
   -- no parameters stand around the subterm, nor in it
-  no-params : (params (front_at G p) ≡ 0) × (params (back_at G p) ≡ 0) × (params (subterm (arity (ranks_of G)) (body_at G (length G - 1)) p) ≡ 0)
+  pub no-params : (params (front_at G p) ≡ 0) × (params (back_at G p) ≡ 0) × (params (subterm (arity (ranks_of G)) (body_at G (length G - 1)) p) ≡ 0)
   no-params =
       let ar = arity (ranks_of G) in
       let ls : List Label = body_at G (length G - 1) in

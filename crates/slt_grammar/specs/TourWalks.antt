@@ -1,5 +1,5 @@
 -- Where a walk along the tour of a body stands.
-use Rattle.std.specs.Prelude.{◌≡◌, ℕ, suc, ◌-◌, ◌≤◌, List, [], ◌∷◌, ◌++◌, Some, get_or, slice_get, Bool, true, false}
+use Rattle.std.specs.Prelude.{◌≡◌, ℕ, suc, ◌-◌, ◌<◌, ◌≤◌, List, [], ◌∷◌, ◌++◌, Some, get_or, slice_get, Bool, true, false}
 use Rattle.rule_arena.specs.Terms.{Node, kids_of}
 use Rattle.slt_grammar.specs.Keyed.{KeyedRule, nodes_at, key_at}
 use Rattle.slt_grammar.specs.Tours.{Stop, stop, once_closed, behind, tour_from}
@@ -28,3 +28,22 @@ pub record StandsBefore (G : List KeyedRule) (r : ℕ) (walk : TourWalk) (left :
 abbrev pub StandsNext : Bool → List KeyedRule → ℕ → TourWalk → List (Stop Node) → Type 0
 StandsNext true G r walk left = StandsBefore G r walk left
 StandsNext false G r walk left = left ≡ []
+
+-- a stop of the rule behind one of its nodes' children
+pub record IsBehindChild (G : List KeyedRule) (r : ℕ) (m : Stop Node) : Type 0 where
+  pub place : ℕ
+  pub there : slice_get (nodes_at G r) place ≡ Some m.item
+  pub later : 0 < m.part
+  pub within : m.part ≤ m.item.kids
+
+abbrev pub AreBehindChildren : List KeyedRule → ℕ → List (Stop Node) → Type 0
+AreBehindChildren G r [] = Unit {0}
+AreBehindChildren G r (m ∷ ms) = IsBehindChild G r m × AreBehindChildren G r ms
+
+-- stops behind children were skipped, and the walk stands at the one that comes next, or there is none
+pub record StandsBehindSkipped (found : Bool) (G : List KeyedRule) (r : ℕ) (walk : TourWalk) (left : List (Stop Node)) : Type 0 where
+  pub skipped : List (Stop Node)
+  pub rest : List (Stop Node)
+  pub split : left ≡ skipped ++ rest
+  pub are_behind : AreBehindChildren G r skipped
+  pub stands : StandsNext found G r walk rest

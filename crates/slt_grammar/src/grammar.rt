@@ -5,20 +5,14 @@ use crate::bodies::{body_of, rank_of};
 use crate::body_walk::BodyWalk;
 use crate::building::build_body;
 use crate::counting::count_nodes;
+use crate::order::{Order, place_label};
 use crate::rules::Rule;
+use crate::shape::Shape;
 use read_steps::Steps;
-use rule_arena::{Arena, Item, Key};
+use rule_arena::{Arena, Item, Key, Label};
 use std::alloc::{AllocError, Global};
 use std::marker::Model;
 use std::sync::ledger::Ledger;
-
-// A rule with the root of its body, and how often the rule is called.
-#[derive(Drop)]
-pub(crate) struct StoredRule {
-    pub(crate) rank: usize,
-    pub(crate) root: Key,
-    pub(crate) calls: u64,
-}
 
 /// A straight-line linear grammar.
 ///
@@ -26,27 +20,35 @@ pub(crate) struct StoredRule {
 /// number above those of all nodes.
 #[derive(Drop)]
 pub struct Grammar {
-    arena: Arena,
-    rules: Vec<StoredRule>,
-    size: u64,
+    pub(crate) arena: Arena,
+    // The root, the rank and the number of calls of each rule, by its place.
+    pub(crate) roots: Vec<Key>,
+    pub(crate) ranks: Vec<usize>,
+    pub(crate) calls: Vec<u64>,
+    // The nodes hold identities of the rules that they call, so that no node is written where a rule gets another place.
+    pub(crate) order: Order,
+    pub(crate) size: u64,
+    // Room for the reading and the copying of a body.
+    pub(crate) shapes: Vec<Shape>,
+    pub(crate) stack: Vec<Key>,
 }
 
 impl Model for Grammar {
-    ghost use Rattle.std.specs.Prelude.{◌-◌, vec_capacity, vec_len};
+    ghost use Rattle.std.specs.Prelude.{◌-◌, min, length, vec_capacity, vec_len};
     ghost use Rattle.slt_grammar.specs.Keyed.{Keyed};
 
     ghost Value = { Keyed };
 
-    ghost use Rattle.slt_grammar.specs.Holding.{keyed, IsKept};
+    ghost use Rattle.slt_grammar.specs.Holding.{seen, terms_of, IsKept};
 
     ghost view = { λ g. record {
-      rules = keyed g.arena g.rules.items;
-      spare_nodes = g.arena.spare;
-      spare_rules = vec_capacity g.rules - vec_len g.rules;
+      rules = seen g.order.order g.ranks.items (terms_of g.arena g.roots.items);
+      spare_nodes = min g.arena.spare (min (vec_capacity g.shapes) (length g.stack.items));
+      spare_rules = min g.order.spare (min (vec_capacity g.roots - vec_len g.roots) (min (vec_capacity g.ranks - vec_len g.ranks) (vec_capacity g.calls - vec_len g.calls)));
       limit = g.arena.limit;
     } };
 
-    ghost invariant = { λ g. IsKept g.arena g.rules.items g.size };
+    ghost invariant = { λ g. IsKept g.arena g.roots.items g.ranks.items g.calls.items g.order.order g.size };
 }
 
 impl Grammar {
@@ -72,20 +74,26 @@ impl Grammar {
         let mut arena = Arena::new(alloc);
         arena.reserve(labels)?;
         let mut stack = vec![in alloc; Key::default(); labels]?;
-        let mut stored = Vec::with_capacity(alloc, rules.len())?;
+        let order = Order::of(alloc, rules.len())?;
+        let mut roots = Vec::with_capacity(alloc, rules.len())?;
+        let mut ranks = Vec::with_capacity(alloc, rules.len())?;
+        let mut counts = Vec::with_capacity(alloc, rules.len())?;
         for rule in 0..rules.len() {
             let body = body_of(rules, rule);
             let root = build_body(&mut arena, rules, body, stack.as_mut_slice());
-            stored.push(StoredRule {
-                rank: rank_of(rules, rule),
-                root,
-                calls: calls[rule],
-            })?;
+            roots.push(root)?;
+            ranks.push(rank_of(rules, rule))?;
+            counts.push(calls[rule])?;
         }
         Ok(Grammar {
             arena,
-            rules: stored,
+            roots,
+            ranks,
+            calls: counts,
+            order,
             size: count_nodes(rules) as u64,
+            shapes: Vec::new(alloc),
+            stack,
         })
     }
 
@@ -94,7 +102,7 @@ impl Grammar {
         ensures value { result ≡ length self.now.rules }
         ensures grammar { IsGrammar (rules_of self.now.rules) }
     {
-        self.rules.len()
+        self.roots.len()
     }
 
     /// How many parameters a rule has.
@@ -102,7 +110,7 @@ impl Grammar {
         requires { rule < length self.now.rules }
         ensures { result ≡ rank_at (rules_of self.now.rules) rule }
     {
-        self.rules[rule].rank
+        self.ranks[rule]
     }
 
     /// How often a rule is called, in all bodies together.
@@ -110,7 +118,7 @@ impl Grammar {
         requires { rule < length self.now.rules }
         ensures { result ≡ calls_of (rules_of self.now.rules) rule }
     {
-        self.rules[rule].calls
+        self.calls[rule]
     }
 
     /// How many nodes all bodies have, without parameters.
@@ -127,7 +135,7 @@ impl Grammar {
     {
         // The call tells that each term begins with its root.
         let _limit = self.arena.limit();
-        self.rules[rule].root
+        self.roots[rule]
     }
 
     /// What stands at a node. One step.
@@ -139,7 +147,22 @@ impl Grammar {
         ensures kids { (r p : ℕ) → key_at self.now.rules r p ≡ Some key → kids_in (nodes_at self.now.rules r) p ≡ result.kids }
         ensures step { steps.new ≡ steps.old + 1 }
     {
-        self.arena.item(key, steps)
+        let item = self.arena.item(key, steps);
+        Item {
+            label: place_label(&self.order, item.label),
+            parent: item.parent,
+            kids: item.kids,
+        }
+    }
+
+    /// The label of a node. One step.
+    pub fn label<L: Ledger>(&self, key: Key, steps: &mut Steps<L>) -> Label
+        requires { (r : ℕ) × (p : ℕ) × (key_at self.now.rules r p ≡ Some key) }
+        ensures node { (r p : ℕ) → key_at self.now.rules r p ≡ Some key → (n : ℕ)
+            × (slice_get (nodes_at self.now.rules r) p ≡ Some (record { key = key; label = result; kids = n })) }
+        ensures step { steps.new ≡ steps.old + 1 }
+    {
+        place_label(&self.order, self.arena.label(key, steps))
     }
 
     /// The next node of the same body in preorder, and none behind the last one. One step.

@@ -5,19 +5,41 @@
 //! one. `bodies` scans a body, `counting` counts nodes and calls, `building` puts bodies into the arena. `laws` says what holds
 //! of what grammars mean; contracts see rules whose nodes carry their keys (`specs/Keyed.antt`), and
 //! `proofs/KeyedLemmas.antt` has their laws for the crates above.
+//!
+//! A grammar is changed by the calls of `editing` (one body), `wrap`, `share`, `add_rule` and `rule_edits`, and copied by that of
+//! `listing`. `order` keeps identities of rules, which nodes hold in place of the rules' places. What these calls do in the arena is in
+//! `fold`, `lift` and `inline`, by `reading`, `detaching`, `replacing`, `copying`, and by `collecting` and `shaping`, which make ready
+//! what is copied.
 #![tactic(auto)]
 
+mod add_rule;
 mod bodies;
 mod body_walk;
 mod building;
 mod checking;
+mod collecting;
+mod copying;
 mod counting;
+mod detaching;
+mod editing;
+mod fold;
 mod grammar;
+mod inline;
 mod laws;
 mod level;
+mod lift;
+mod listing;
+mod order;
+mod reading;
+mod replacing;
+mod rule_edits;
 mod rules;
+mod shape;
+mod shaping;
+mod share;
 mod tour_walk;
 mod way;
+mod wrap;
 
 pub use body_walk::BodyWalk;
 pub use checking::{GrammarError, check};

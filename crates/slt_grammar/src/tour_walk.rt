@@ -1,10 +1,10 @@
 // A walk along the tour of one rule's body.
-ghost use Rattle.std.specs.Prelude.{◌≡◌, ◌≤◌, ◌+◌, ◌<◌, ℕ, Some, List, ◌∷◌, length, slice_get};
+ghost use Rattle.std.specs.Prelude.{◌≡◌, ◌≤◌, ◌+◌, ◌<◌, ℕ, true, Some, List, ◌∷◌, length, slice_get};
 ghost use Rattle.rule_arena.specs.Terms.{Node, parent_in};
 ghost use Rattle.slt_grammar.specs.Keyed.{key_at, nodes_at};
 ghost use Rattle.slt_grammar.specs.Segments.{node_tour};
 ghost use Rattle.slt_grammar.specs.Tours.{Stop};
-ghost use Rattle.slt_grammar.specs.TourWalks.{StandsBefore, StandsNext};
+ghost use Rattle.slt_grammar.specs.TourWalks.{StandsBefore, StandsBehindSkipped, StandsNext};
 
 use crate::grammar::Grammar;
 use read_steps::Steps;
@@ -69,5 +69,22 @@ impl TourWalk {
             }
             None => false,
         }
+    }
+
+    /// Goes to the next node, before its children, past the stops behind children, or answers false where no node is left. One step.
+    pub fn advance_to_node<L: Ledger>(&mut self, grammar: &Grammar, steps: &mut Steps<L>) -> bool
+        requires there { (r : ℕ) × (left : List (Stop Node)) × StandsBefore grammar.now.rules r self.old left }
+        ensures next { (r : ℕ) (here : Stop Node) (left : List (Stop Node)) → StandsBefore grammar.now.rules r self.old (here ∷ left)
+            → StandsBehindSkipped result grammar.now.rules r self.new left }
+        ensures before { result ≡ true → self.new.part ≡ 0 }
+        ensures step { steps.new ≡ steps.old + 1 }
+    {
+        let Some(key) = grammar.next_in_preorder(self.last, steps) else {
+            return false;
+        };
+        self.key = key;
+        self.part = 0;
+        self.last = key;
+        true
     }
 }

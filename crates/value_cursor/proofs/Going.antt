@@ -13,7 +13,7 @@ use Rattle.value_cursor.specs.Cursors.{left_at}
 use Rattle.value_cursor.specs.Stops.{AreStops, IsAtStop, behind, segment_left, stops_of}
 use Rattle.value_cursor.specs.Work.{work_at, work_in}
 use Rattle.value_cursor.proofs.CallLemmas.{behind-snoc, lowest-snoc, stops-few, stops-front, stops-last, stops-snoc}
-use Rattle.value_cursor.proofs.Leaving.{last-at, last-below}
+use Rattle.value_cursor.proofs.Leaving.{last-at, last-below, last-node, node-label, node-once}
 use Rattle.value_cursor.proofs.StopSteps.{at, left-call, stops-fewer}
 use Rattle.value_cursor.proofs.Working.{work-below, work_behind-snoc}
 
@@ -27,7 +27,16 @@ module _ (g : Keyed) (k : IsKeyed g) (calls : List RuleStop) (s : RuleStop) (a :
   calls-few =
       omega (arith, (stops-last g.rules (length g.rules) calls s a).0, stops-few g.rules (length g.rules) calls (stops-front g.rules (length g.rules) calls s a))
 
-  module _ (x : Node) (item : (r p : ℕ) → key_at g.rules r p ≡ Some s.walk.key → slice_get (nodes_at g.rules r) p ≡ Some x) (q : ℕ) (call : x.label ≡ Call q) where
+  module _ (q : ℕ) (node : (r p : ℕ) → key_at g.rules r p ≡ Some s.walk.key → (n : ℕ) × (slice_get (nodes_at g.rules r) p ≡ Some (record { key = s.walk.key; label = (Call q); kids = n }))) where
+    abbrev x : Node
+    x = last-node g k calls s a
+
+    item : (r p : ℕ) → key_at g.rules r p ≡ Some s.walk.key → slice_get (nodes_at g.rules r) p ≡ Some x
+    item = node-once g k calls s a
+
+    call : x.label ≡ Call q
+    call = node-label g k calls s a (Call q) node
+
     pub call-below : q < s.rule
     call-below =
         let h = last-below g k calls s a in

@@ -2,6 +2,7 @@
 use Rattle.std.proofs.Common.{◌≡◌, ℕ, ◌-◌, ◌<◌, ◌≤◌, List, [], ◌∷◌, ◌++◌, length, drop, ap, sym, ◌∙◌, arith, subst, true, false, Some, length-drop}
 use Rattle.std.specs.Prelude.{slice_get, vec_capacity}
 use Rattle.rule_arena.specs.Terms.{Node}
+use Rattle.rule_arena.specs.declared.label.Label.{Label}
 use Rattle.rule_arena.specs.declared.label.Label.TheVariants.{Call, Param}
 use Rattle.slt_grammar.specs.Keyed.{Keyed, KeyedRule, IsKeyed, key_at, nodes_at}
 use Rattle.slt_grammar.specs.Tours.{Stop}
@@ -36,6 +37,22 @@ module _ (g : Keyed) (k : IsKeyed g) (calls : List RuleStop) (s : RuleStop) (a :
 
   pub last-key : (r : ℕ) × (p : ℕ) × (key_at g.rules r p ≡ Some s.walk.key)
   last-key = (s.rule, last-at.place, node-here g.rules s.rule s.walk (stops_of g.rules s) last-at)
+
+  -- the node at which the walk stands
+  abbrev pub last-node : Node
+  last-node = last-at.node
+
+  pub node-once : (r p : ℕ) → key_at g.rules r p ≡ Some s.walk.key → slice_get (nodes_at g.rules r) p ≡ Some last-node
+  node-once r p e =
+      let o = k.once s.walk.key r p s.rule last-at.place e (node-here g.rules s.rule s.walk (stops_of g.rules s) last-at) in
+      rw (o.0, o.1) last-at.there
+
+  pub node-label : (l : Label) → ((r p : ℕ) → key_at g.rules r p ≡ Some s.walk.key → (n : ℕ) × (slice_get (nodes_at g.rules r) p ≡ Some (record { key = s.walk.key; label = l; kids = n }))) → last-node.label ≡ l
+  node-label l h =
+      let t = h s.rule last-at.place (node-here g.rules s.rule s.walk (stops_of g.rules s) last-at) in
+      let same : Some last-node ≡ Some (record { key = s.walk.key; label = l; kids = t.0 }) = sym last-at.there ∙ t.1 in
+      let e : last-node ≡ record { key = s.walk.key; label = l; kids = t.0 } = cc in
+      ap (λ (x : Node). x.label) e
 
   pub last-stands : (r : ℕ) × (left : List (Stop Node)) × StandsBefore g.rules r s.walk left
   last-stands = (s.rule, stops_of g.rules s, last-at)
@@ -89,13 +106,16 @@ module _ (g : Keyed) (k : IsKeyed g) (calls : List RuleStop) (s : RuleStop) (a :
       let few : 0 < n = omega (arith, stops-fewer g k s last-below last-at) in
       omega (arith, work-fewer g.rules s 0 n few)
 
-  module _ (x : Node) (item : (r p : ℕ) → key_at g.rules r p ≡ Some s.walk.key → slice_get (nodes_at g.rules r) p ≡ Some x) where
+  module _ (l : Label) (node : (r p : ℕ) → key_at g.rules r p ≡ Some s.walk.key → (n : ℕ) × (slice_get (nodes_at g.rules r) p ≡ Some (record { key = s.walk.key; label = l; kids = n }))) where
     -- a parameter ends what is left of the rule
-    pub left-behind : x.label ≡ Param → behind g.rules calls [] ≡ left_at g.rules (Some s) calls
-    left-behind e = sym (ap (λ ls. ls ++ behind g.rules calls []) (left-param g k s last-below last-at x item e))
+    pub left-behind : l ≡ Param → behind g.rules calls [] ≡ left_at g.rules (Some s) calls
+    left-behind e = sym (ap (λ ls. ls ++ behind g.rules calls []) (left-param g k s last-below last-at last-node node-once (node-label l node ∙ e)))
 
-    pub left-passed : IsSilent x.label s.walk.part → ((q : ℕ) → x.label ≡ Call q → ⊥) → (x.label ≡ Param → ⊥) → segment_left g.rules (drop 1 (stops_of g.rules s)) ++ behind g.rules calls [] ≡ left_at g.rules (Some s) calls
-    left-passed h c p = sym (ap (λ ls. ls ++ behind g.rules calls []) (left-silent g k s last-below last-at x item h c p))
+    pub left-passed : IsSilent l s.walk.part → ((q : ℕ) → l ≡ Call q → ⊥) → (l ≡ Param → ⊥) → segment_left g.rules (drop 1 (stops_of g.rules s)) ++ behind g.rules calls [] ≡ left_at g.rules (Some s) calls
+    left-passed h c p =
+        let e = node-label l node in
+        let silent = subst (λ (m : Label). IsSilent m s.walk.part) (sym e) h in
+        sym (ap (λ ls. ls ++ behind g.rules calls []) (left-silent g k s last-below last-at last-node node-once silent (λ q f. c q (sym e ∙ f)) (λ f. p (sym e ∙ f))))
 
   pub front-work : work_behind g.rules calls ≤ work_behind g.rules (calls ++ s ∷ [])
   front-work = omega (arith, work_behind-snoc g.rules calls s)

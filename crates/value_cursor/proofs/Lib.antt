@@ -3,6 +3,7 @@ pub mod StopSteps
 pub mod CallLemmas
 pub mod Working
 pub mod Leaving
+pub mod FirstRule
 pub mod SegmentStarts
 pub mod Going
 pub mod Telling

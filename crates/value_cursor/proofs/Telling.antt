@@ -18,7 +18,7 @@ use Rattle.value_cursor.specs.declared.cursor.Cursor.{Cursor}
 use Rattle.value_cursor.specs.declared.cursor.Token.{Token}
 use Rattle.value_cursor.specs.declared.cursor.Token.TheVariants.{Open, Close}
 use Rattle.value_cursor.proofs.CallLemmas.{stops-front}
-use Rattle.value_cursor.proofs.Leaving.{last-at, last-below}
+use Rattle.value_cursor.proofs.Leaving.{last-at, last-below, last-node, node-label, node-once}
 use Rattle.value_cursor.proofs.StopSteps.{left-bottom, left-symbol}
 
 -- no token was given so far
@@ -73,45 +73,54 @@ module _ (g : Keyed) (k : IsKeyed g) (first now : Cursor) (i : Tells g.rules fir
         same = i.same ∙ ap (tokens now.opened) same ∙ ap (λ n. tokens n (left_of g.rules later)) (sym o);
       }
 
-  module _ (x : Node) (item : (r p : ℕ) → key_at g.rules r p ≡ Some s.walk.key → slice_get (nodes_at g.rules r) p ≡ Some x) where
-    symbol-now : (f : ℕ) → x.label ≡ Symbol f → s.walk.part ≡ 0 → left_of g.rules now ≡ Symbol f ∷ later-labels
-    symbol-now f e z =
-        left-now ∙ ap (λ ls. ls ++ behind g.rules now.calls.items []) (left-symbol g k s (last-below g k now.calls.items s stops-now) (last-at g k now.calls.items s stops-now) x item f e z)
+  module _ (l : Label) (node : (r p : ℕ) → key_at g.rules r p ≡ Some s.walk.key → (n : ℕ) × (slice_get (nodes_at g.rules r) p ≡ Some (record { key = s.walk.key; label = l; kids = n }))) where
+    abbrev x : Node
+    x = last-node g k now.calls.items s stops-now
 
-    bottom-now : x.label ≡ Bottom → s.walk.part ≡ 0 → left_of g.rules now ≡ Bottom ∷ later-labels
+    item : (r p : ℕ) → key_at g.rules r p ≡ Some s.walk.key → slice_get (nodes_at g.rules r) p ≡ Some x
+    item = node-once g k now.calls.items s stops-now
+
+    label : x.label ≡ l
+    label = node-label g k now.calls.items s stops-now l node
+
+    symbol-now : (f : ℕ) → l ≡ Symbol f → s.walk.part ≡ 0 → left_of g.rules now ≡ Symbol f ∷ later-labels
+    symbol-now f e z =
+        left-now ∙ ap (λ ls. ls ++ behind g.rules now.calls.items []) (left-symbol g k s (last-below g k now.calls.items s stops-now) (last-at g k now.calls.items s stops-now) x item f (label ∙ e) z)
+
+    bottom-now : l ≡ Bottom → s.walk.part ≡ 0 → left_of g.rules now ≡ Bottom ∷ later-labels
     bottom-now e z =
-        left-now ∙ ap (λ ls. ls ++ behind g.rules now.calls.items []) (left-bottom g k s (last-below g k now.calls.items s stops-now) (last-at g k now.calls.items s stops-now) x item e z)
+        left-now ∙ ap (λ ls. ls ++ behind g.rules now.calls.items []) (left-bottom g k s (last-below g k now.calls.items s stops-now) (last-at g k now.calls.items s stops-now) x item (label ∙ e) z)
 
     -- a node is opened
-    module _ (f : ℕ) (e : x.label ≡ Symbol f) (z : s.walk.part ≡ 0) where
+    module _ (f : ℕ) (e : l ≡ Symbol f) (z : s.walk.part ≡ 0) where
       pub opens-few : now.opened + 1 < 2 ^ 64
       opens-few = omega (arith, i.inside.few, ap (sum_by node_weight) (symbol-now f e z), sum_by-cons node_weight (Symbol f) later-labels)
 
       pub opens : (later : Cursor) → left_of g.rules later ≡ segment_left g.rules (drop 1 (stops_of g.rules s)) ++ behind g.rules now.calls.items []
           → AreStops g.rules (length g.rules) (later.calls.items ++ option_to_list later.here) → length g.rules ≤ vec_capacity later.calls → later.opened ≡ now.opened + 1 → Gives g.rules first (Open f) later
-      opens later l a room o =
+      opens later left a room o =
           let n : suc now.opened ≡ later.opened = sym (o ∙ add-one now.opened) in
           record {
-            token = i.same ∙ ap (tokens now.opened) (symbol-now f e z) ∙ ap (λ m. Open f ∷ tokens m later-labels) n ∙ ap (λ ls. Open f ∷ tokens later.opened ls) (sym l);
+            token = i.same ∙ ap (tokens now.opened) (symbol-now f e z) ∙ ap (λ m. Open f ∷ tokens m later-labels) n ∙ ap (λ ls. Open f ∷ tokens later.opened ls) (sym left);
             inside = record {
               stops = a;
               room = room;
-              few = omega (arith, i.inside.few, o, ap (sum_by node_weight) l, ap (sum_by node_weight) (symbol-now f e z), sum_by-cons node_weight (Symbol f) later-labels);
+              few = omega (arith, i.inside.few, o, ap (sum_by node_weight) left, ap (sum_by node_weight) (symbol-now f e z), sum_by-cons node_weight (Symbol f) later-labels);
             };
           }
 
     -- one is closed, and others are open
-    module _ (e : x.label ≡ Bottom) (z : s.walk.part ≡ 0) where
+    module _ (e : l ≡ Bottom) (z : s.walk.part ≡ 0) where
       pub closes : 1 < now.opened → (later : Cursor) → left_of g.rules later ≡ segment_left g.rules (drop 1 (stops_of g.rules s)) ++ behind g.rules now.calls.items []
           → AreStops g.rules (length g.rules) (later.calls.items ++ option_to_list later.here) → length g.rules ≤ vec_capacity later.calls → later.opened ≡ now.opened - 1 → Gives g.rules first Close later
-      closes h later l a room o = record {
+      closes h later left a room o = record {
         token =
             i.same ∙ ap (tokens now.opened) (bottom-now e z) ∙ ap (λ b. Close ∷ (if b then tokens (now.opened - 1) later-labels else [])) (lt-ltb 1 now.opened h) ∙ ap (λ m. Close ∷ tokens m later-labels) (sym o)
-            ∙ ap (λ ls. Close ∷ tokens later.opened ls) (sym l);
+            ∙ ap (λ ls. Close ∷ tokens later.opened ls) (sym left);
         inside = record {
           stops = a;
           room = room;
-          few = omega (arith, i.inside.few, o, ap (sum_by node_weight) l, ap (sum_by node_weight) (bottom-now e z), sum_by-cons node_weight Bottom later-labels);
+          few = omega (arith, i.inside.few, o, ap (sum_by node_weight) left, ap (sum_by node_weight) (bottom-now e z), sum_by-cons node_weight Bottom later-labels);
         };
       }
 

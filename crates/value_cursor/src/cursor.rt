@@ -1,7 +1,6 @@
 // A cursor over a subtree's tokens.
 ghost use Rattle.std.specs.Prelude.{◌≡◌, ◌↔◌, ◌<◌, ◌≤◌, ◌++◌, ◌-◌, ◌+◌, ℕ, [], ◌∷◌, drop, length, sum_by, slice_get, vec_capacity, Some, IsSome, IfSome, IfOk};
 ghost use Rattle.std.specs.Option.{option_to_list};
-ghost use Rattle.rule_arena.specs.Terms.{parent_in};
 ghost use Rattle.slt_grammar.specs.Grammars.{value};
 ghost use Rattle.slt_grammar.specs.Keyed.{IsKeyed, key_at, nodes_at, rules_of};
 ghost use Rattle.slt_grammar.specs.Segments.{listed};
@@ -15,7 +14,7 @@ use crate::entering::segment_start;
 use preorder_address::{RuleStop, locate};
 use read_steps::Steps;
 use segment_counts::Counts;
-use slt_grammar::{Grammar, Item, Label};
+use slt_grammar::{Grammar, Label};
 use std::alloc::{AllocError, Global};
 use std::sync::ledger::Ledger;
 
@@ -80,12 +79,12 @@ impl Cursor {
         // The call tells what is true of every grammar.
         let _limit = grammar.limit();
         while let Some(RuleStop { rule, walk }) = self.here.take() {
-            let item = grammar.item(walk.key, steps);
+            let label = grammar.label(walk.key, steps);
             let part = walk.part;
             let stop = RuleStop { rule, walk };
-            match (item.label, part) {
+            match (label, part) {
                 (Label::Symbol(symbol), 0) => {
-                    self.pass(grammar, stop, &item, steps);
+                    self.pass(grammar, stop, steps);
                     self.opened += 1;
                     return Some(Token::Open { symbol });
                 }
@@ -93,11 +92,11 @@ impl Cursor {
                     // Where this ends the node that was opened first, no stop is next any more.
                     if self.opened > 1 {
                         self.opened -= 1;
-                        self.pass(grammar, stop, &item, steps);
+                        self.pass(grammar, stop, steps);
                     }
                     return Some(Token::Close);
                 }
-                _ => self.go_on(grammar, stop, &item, steps),
+                _ => self.go_on(grammar, stop, label, steps),
             }
         }
         None
@@ -108,26 +107,25 @@ impl Cursor {
         &mut self,
         grammar: &Grammar,
         stop: RuleStop,
-        item: &Item,
+        label: Label,
         steps: &mut Steps<L>,
     )
         requires keyed { IsKeyed grammar.now }
         requires stops { AreStops grammar.now.rules (length grammar.now.rules) (self.old.calls.items ++ stop ∷ []) }
         requires room { length grammar.now.rules ≤ vec_capacity self.old.calls }
-        requires silent { IsSilent item.now.label stop.walk.part }
-        requires node { (r p : ℕ) → key_at grammar.now.rules r p ≡ Some stop.walk.key → slice_get (nodes_at grammar.now.rules r) p
-            ≡ Some (record { key = stop.walk.key; label = item.now.label; kids = length item.now.kids }) }
-        requires parent { (r p : ℕ) → key_at grammar.now.rules r p ≡ Some stop.walk.key → parent_in (nodes_at grammar.now.rules r) p ≡ item.now.parent }
+        requires silent { IsSilent label stop.walk.part }
+        requires node { (r p : ℕ) → key_at grammar.now.rules r p ≡ Some stop.walk.key → (n : ℕ)
+            × (slice_get (nodes_at grammar.now.rules r) p ≡ Some (record { key = stop.walk.key; label = label; kids = n })) }
         ensures left { left_at grammar.now.rules self.new.here self.new.calls.items ≡ left_at grammar.now.rules (Some stop) self.old.calls.items }
         ensures stops { AreStops grammar.now.rules (length grammar.now.rules) (self.new.calls.items ++ option_to_list self.new.here) }
         ensures room { length grammar.now.rules ≤ vec_capacity self.new.calls }
         ensures opened { self.new.opened ≡ self.old.opened }
         ensures work { work_of grammar.now.rules self.new < work_at grammar.now.rules (Some stop) self.old.calls.items }
     {
-        match item.label {
-            Label::Call(called) => self.enter(grammar, stop, called, item, steps),
+        match label {
+            Label::Call(called) => self.enter(grammar, stop, called, steps),
             Label::Param => self.leave(grammar, steps),
-            _ => self.pass(grammar, stop, item, steps),
+            _ => self.pass(grammar, stop, steps),
         }
     }
 
@@ -137,16 +135,13 @@ impl Cursor {
         grammar: &Grammar,
         stop: RuleStop,
         rule: usize,
-        item: &Item,
         steps: &mut Steps<L>,
     )
         requires keyed { IsKeyed grammar.now }
         requires stops { AreStops grammar.now.rules (length grammar.now.rules) (self.old.calls.items ++ stop ∷ []) }
         requires room { length grammar.now.rules ≤ vec_capacity self.old.calls }
-        requires call { item.now.label ≡ Label.Call rule }
-        requires node { (r p : ℕ) → key_at grammar.now.rules r p ≡ Some stop.walk.key → slice_get (nodes_at grammar.now.rules r) p
-            ≡ Some (record { key = stop.walk.key; label = item.now.label; kids = length item.now.kids }) }
-        requires parent { (r p : ℕ) → key_at grammar.now.rules r p ≡ Some stop.walk.key → parent_in (nodes_at grammar.now.rules r) p ≡ item.now.parent }
+        requires node { (r p : ℕ) → key_at grammar.now.rules r p ≡ Some stop.walk.key → (n : ℕ)
+            × (slice_get (nodes_at grammar.now.rules r) p ≡ Some (record { key = stop.walk.key; label = Label.Call rule; kids = n })) }
         ensures left { left_at grammar.now.rules self.new.here self.new.calls.items ≡ left_at grammar.now.rules (Some stop) self.old.calls.items }
         ensures stops { AreStops grammar.now.rules (length grammar.now.rules) (self.new.calls.items ++ option_to_list self.new.here) }
         ensures room { length grammar.now.rules ≤ vec_capacity self.new.calls }
@@ -159,23 +154,14 @@ impl Cursor {
                 self.calls.push(stop).unwrap();
                 self.here = Some(first);
             }
-            None => self.pass(grammar, stop, item, steps),
+            None => self.pass(grammar, stop, steps),
         }
     }
 
     // Goes past a stop, and at the end of its tour past the call that led there.
-    fn pass<L: Ledger>(
-        &mut self,
-        grammar: &Grammar,
-        mut stop: RuleStop,
-        item: &Item,
-        steps: &mut Steps<L>,
-    )
+    fn pass<L: Ledger>(&mut self, grammar: &Grammar, stop: RuleStop, steps: &mut Steps<L>)
         requires keyed { IsKeyed grammar.now }
         requires stops { AreStops grammar.now.rules (length grammar.now.rules) (self.old.calls.items ++ stop ∷ []) }
-        requires node { (r p : ℕ) → key_at grammar.now.rules r p ≡ Some stop.walk.key → slice_get (nodes_at grammar.now.rules r) p
-            ≡ Some (record { key = stop.walk.key; label = item.now.label; kids = length item.now.kids }) }
-        requires parent { (r p : ℕ) → key_at grammar.now.rules r p ≡ Some stop.walk.key → parent_in (nodes_at grammar.now.rules r) p ≡ item.now.parent }
         ensures left { left_at grammar.now.rules self.new.here self.new.calls.items
             ≡ segment_left grammar.now.rules (drop 1 (stops_of grammar.now.rules stop)) ++ behind grammar.now.rules self.old.calls.items [] }
         ensures stops { AreStops grammar.now.rules (length grammar.now.rules) (self.new.calls.items ++ option_to_list self.new.here) }
@@ -183,7 +169,32 @@ impl Cursor {
         ensures opened { self.new.opened ≡ self.old.opened }
         ensures work { work_of grammar.now.rules self.new < work_at grammar.now.rules (Some stop) self.old.calls.items }
     {
-        if stop.walk.advance(grammar, item, steps) {
+        if stop.rule == 0 {
+            self.skip(grammar, stop, steps);
+            return;
+        }
+        let RuleStop { rule, mut walk } = stop;
+        let item = grammar.item(walk.key, steps);
+        if walk.advance(grammar, &item, steps) {
+            self.here = Some(RuleStop { rule, walk });
+        } else {
+            self.leave(grammar, steps);
+        }
+    }
+
+    // Goes past a stop of the first rule. It calls none, so that its stops behind children give nothing.
+    fn skip<L: Ledger>(&mut self, grammar: &Grammar, mut stop: RuleStop, steps: &mut Steps<L>)
+        requires keyed { IsKeyed grammar.now }
+        requires stops { AreStops grammar.now.rules (length grammar.now.rules) (self.old.calls.items ++ stop ∷ []) }
+        requires first { stop.rule ≡ 0 }
+        ensures left { left_at grammar.now.rules self.new.here self.new.calls.items
+            ≡ segment_left grammar.now.rules (drop 1 (stops_of grammar.now.rules stop)) ++ behind grammar.now.rules self.old.calls.items [] }
+        ensures stops { AreStops grammar.now.rules (length grammar.now.rules) (self.new.calls.items ++ option_to_list self.new.here) }
+        ensures room { vec_capacity self.new.calls ≡ vec_capacity self.old.calls }
+        ensures opened { self.new.opened ≡ self.old.opened }
+        ensures work { work_of grammar.now.rules self.new < work_at grammar.now.rules (Some stop) self.old.calls.items }
+    {
+        if stop.walk.advance_to_node(grammar, steps) {
             self.here = Some(stop);
         } else {
             self.leave(grammar, steps);

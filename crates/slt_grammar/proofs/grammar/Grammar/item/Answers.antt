@@ -1,32 +1,43 @@
-use Rattle.std.proofs.Common.{List, ap, ◌∙◌, slice_get}
-use Rattle.rule_arena.specs.Terms.{Node, parent_in, kids_in}
+use Rattle.std.proofs.Common.{◌≡◌, ◌∙◌, List, [], Some, length, get_or, slice_get, ap, sym}
+use Rattle.rule_arena.specs.Terms.{Node, kids_in, parent_in}
+use Rattle.rule_arena.specs.declared.label.Label.{Label}
 use Rattle.slt_grammar.specs.Keyed.{Keyed}
-use Rattle.slt_grammar.proofs.Held.{seen, seen_nodes, at_place}
+use Rattle.slt_grammar.specs.Holding.{seen, terms_of}
+use Rattle.slt_grammar.proofs.Seen.{known-at, known-node, node-placed, parent-placed, kids_in-placed}
+use Rattle.slt_grammar.proofs.Held.{node-is, nodes-are}
 use Rattle.slt_grammar.proofs.grammar.Grammar.item.Goals as goal
 
-pub item-requires : goal.item-requires
-item-requires g c =
-    let r = c.requires in
-    let e = ap (λ (G : Keyed). G.rules) c.self.view_is in
-    at_place c.self.inside.arena c.self.inside.rules.items r.0 r.1 c.args.key (seen c.self.inside.arena c.self.inside.rules.items c.args.self.now r.0 r.1 c.args.key e r.2)
+pub item-item-requires : goal.item-item-requires
+item-item-requires g c =
+    let see : seen c.self.inside.order.order c.self.inside.ranks.items (terms_of c.self.inside.arena c.self.inside.roots.items) ≡ c.args.self.now.rules = ap (λ (k : Keyed). k.rules) c.self.view_is in
+    node-is c.self.inside.arena c.self.inside.roots.items c.self.inside.ranks.items c.self.inside.order.order c.args.self.now.rules c.self.invariant.rules see c.requires.0 c.requires.1 c.args.key c.requires.2
+
+pub place_label-requires : goal.place_label-requires
+place_label-requires g c =
+    let see : seen c.self.inside.order.order c.self.inside.ranks.items (terms_of c.self.inside.arena c.self.inside.roots.items) ≡ c.args.self.now.rules = ap (λ (k : Keyed). k.rules) c.self.view_is in
+    let n : Node = record { key = c.args.key; label = c.item-item.result.label; kids = length c.item-item.result.kids } in
+    let r = c.requires.0 in
+    known-node c.self.inside.order.order (get_or (terms_of c.self.inside.arena c.self.inside.roots.items) r []) c.requires.1 n (c.item-item.ensures.node (node-is c.self.inside.arena c.self.inside.roots.items c.self.inside.ranks.items c.self.inside.order.order c.args.self.now.rules c.self.invariant.rules see r c.requires.1 c.args.key c.requires.2))
+    (known-at c.self.inside.order.order (terms_of c.self.inside.arena c.self.inside.roots.items) r c.self.invariant.rules.known)
 
 pub returns-clause-node : goal.returns-clause-node
-returns-clause-node g c = λ r p k.
-    let e = ap (λ (G : Keyed). G.rules) c.self.view_is in
-    let P = seen c.self.inside.arena c.self.inside.rules.items c.args.self.now r p c.args.key e k in
-    ap (λ (ns : List Node). slice_get ns p) (seen_nodes c.self.inside.arena c.self.inside.rules.items c.args.self.now r p c.args.key e P)
-    ∙ c.item.ensures.node (at_place c.self.inside.arena c.self.inside.rules.items r p c.args.key P)
+returns-clause-node g c = λ r p e.
+    let see : seen c.self.inside.order.order c.self.inside.ranks.items (terms_of c.self.inside.arena c.self.inside.roots.items) ≡ c.args.self.now.rules = ap (λ (k : Keyed). k.rules) c.self.view_is in
+    let n : Node = record { key = c.args.key; label = c.item-item.result.label; kids = length c.item-item.result.kids } in
+    ap (λ (ns : List Node). slice_get ns p) (nodes-are c.self.inside.arena c.self.inside.roots.items c.self.inside.ranks.items c.self.inside.order.order c.args.self.now.rules c.self.invariant.rules see r)
+    ∙ node-placed c.self.inside.order.order (get_or (terms_of c.self.inside.arena c.self.inside.roots.items) r []) p n (c.item-item.ensures.node (node-is c.self.inside.arena c.self.inside.roots.items c.self.inside.ranks.items c.self.inside.order.order c.args.self.now.rules c.self.invariant.rules see r p c.args.key e))
+    ∙ ap (λ (l : Label). let m : Node = record { key = c.args.key; label = l; kids = length c.item-item.result.kids } in Some m) (sym c.place_label.ensures)
 
 pub returns-clause-parent : goal.returns-clause-parent
-returns-clause-parent g c = λ r p k.
-    let e = ap (λ (G : Keyed). G.rules) c.self.view_is in
-    let P = seen c.self.inside.arena c.self.inside.rules.items c.args.self.now r p c.args.key e k in
-    ap (λ (ns : List Node). parent_in ns p) (seen_nodes c.self.inside.arena c.self.inside.rules.items c.args.self.now r p c.args.key e P)
-    ∙ c.item.ensures.parent (at_place c.self.inside.arena c.self.inside.rules.items r p c.args.key P)
+returns-clause-parent g c = λ r p e.
+    let see : seen c.self.inside.order.order c.self.inside.ranks.items (terms_of c.self.inside.arena c.self.inside.roots.items) ≡ c.args.self.now.rules = ap (λ (k : Keyed). k.rules) c.self.view_is in
+    ap (λ (ns : List Node). parent_in ns p) (nodes-are c.self.inside.arena c.self.inside.roots.items c.self.inside.ranks.items c.self.inside.order.order c.args.self.now.rules c.self.invariant.rules see r)
+    ∙ parent-placed c.self.inside.order.order (get_or (terms_of c.self.inside.arena c.self.inside.roots.items) r []) p
+    ∙ c.item-item.ensures.parent (node-is c.self.inside.arena c.self.inside.roots.items c.self.inside.ranks.items c.self.inside.order.order c.args.self.now.rules c.self.invariant.rules see r p c.args.key e)
 
 pub returns-clause-kids : goal.returns-clause-kids
-returns-clause-kids g c = λ r p k.
-    let e = ap (λ (G : Keyed). G.rules) c.self.view_is in
-    let P = seen c.self.inside.arena c.self.inside.rules.items c.args.self.now r p c.args.key e k in
-    ap (λ (ns : List Node). kids_in ns p) (seen_nodes c.self.inside.arena c.self.inside.rules.items c.args.self.now r p c.args.key e P)
-    ∙ c.item.ensures.kids (at_place c.self.inside.arena c.self.inside.rules.items r p c.args.key P)
+returns-clause-kids g c = λ r p e.
+    let see : seen c.self.inside.order.order c.self.inside.ranks.items (terms_of c.self.inside.arena c.self.inside.roots.items) ≡ c.args.self.now.rules = ap (λ (k : Keyed). k.rules) c.self.view_is in
+    ap (λ (ns : List Node). kids_in ns p) (nodes-are c.self.inside.arena c.self.inside.roots.items c.self.inside.ranks.items c.self.inside.order.order c.args.self.now.rules c.self.invariant.rules see r)
+    ∙ kids_in-placed c.self.inside.order.order (get_or (terms_of c.self.inside.arena c.self.inside.roots.items) r []) p
+    ∙ c.item-item.ensures.kids (node-is c.self.inside.arena c.self.inside.roots.items c.self.inside.ranks.items c.self.inside.order.order c.args.self.now.rules c.self.invariant.rules see r p c.args.key e)

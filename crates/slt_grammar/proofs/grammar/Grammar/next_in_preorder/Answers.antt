@@ -1,18 +1,19 @@
-use Rattle.std.proofs.Common.{◌+◌, List, ap, ◌∙◌}
+use Rattle.std.proofs.Common.{◌≡◌, ◌∙◌, ◌+◌, List, [], get_or, ap}
 use Rattle.rule_arena.specs.Terms.{Node, key_in}
 use Rattle.slt_grammar.specs.Keyed.{Keyed}
-use Rattle.slt_grammar.proofs.Held.{seen, seen_nodes, at_place}
+use Rattle.slt_grammar.specs.Holding.{seen, terms_of}
+use Rattle.slt_grammar.proofs.Seen.{key-placed}
+use Rattle.slt_grammar.proofs.Held.{node-is, nodes-are}
 use Rattle.slt_grammar.proofs.grammar.Grammar.next_in_preorder.Goals as goal
 
 pub next_in_preorder-requires : goal.next_in_preorder-requires
 next_in_preorder-requires g c =
-    let r = c.requires in
-    let e = ap (λ (G : Keyed). G.rules) c.self.view_is in
-    at_place c.self.inside.arena c.self.inside.rules.items r.0 r.1 c.args.key (seen c.self.inside.arena c.self.inside.rules.items c.args.self.now r.0 r.1 c.args.key e r.2)
+    let see : seen c.self.inside.order.order c.self.inside.ranks.items (terms_of c.self.inside.arena c.self.inside.roots.items) ≡ c.args.self.now.rules = ap (λ (k : Keyed). k.rules) c.self.view_is in
+    node-is c.self.inside.arena c.self.inside.roots.items c.self.inside.ranks.items c.self.inside.order.order c.args.self.now.rules c.self.invariant.rules see c.requires.0 c.requires.1 c.args.key c.requires.2
 
 pub returns-clause-next : goal.returns-clause-next
-returns-clause-next g c = λ r p k.
-    let e = ap (λ (G : Keyed). G.rules) c.self.view_is in
-    let P = seen c.self.inside.arena c.self.inside.rules.items c.args.self.now r p c.args.key e k in
-    ap (λ (ns : List Node). key_in ns (p + 1)) (seen_nodes c.self.inside.arena c.self.inside.rules.items c.args.self.now r p c.args.key e P)
-    ∙ c.next_in_preorder.ensures.next (at_place c.self.inside.arena c.self.inside.rules.items r p c.args.key P)
+returns-clause-next g c = λ r p e.
+    let see : seen c.self.inside.order.order c.self.inside.ranks.items (terms_of c.self.inside.arena c.self.inside.roots.items) ≡ c.args.self.now.rules = ap (λ (k : Keyed). k.rules) c.self.view_is in
+    ap (λ (ns : List Node). key_in ns (p + 1)) (nodes-are c.self.inside.arena c.self.inside.roots.items c.self.inside.ranks.items c.self.inside.order.order c.args.self.now.rules c.self.invariant.rules see r)
+    ∙ key-placed c.self.inside.order.order (get_or (terms_of c.self.inside.arena c.self.inside.roots.items) r []) (p + 1)
+    ∙ c.next_in_preorder.ensures.next (node-is c.self.inside.arena c.self.inside.roots.items c.self.inside.ranks.items c.self.inside.order.order c.args.self.now.rules c.self.invariant.rules see r p c.args.key e)

@@ -1,10 +1,15 @@
-use Rattle.std.proofs.Common.{◌∙◌, ap, arith}
-use Rattle.slt_grammar.specs.Grammars.{rank_at}
-use Rattle.slt_grammar.specs.Keyed.{Keyed, rules_of}
-use Rattle.slt_grammar.proofs.Held.{length-keyed, rank-keyed}
+use Rattle.std.proofs.Common.{◌≡◌, ap, arith}
+use Rattle.slt_grammar.specs.Keyed.{Keyed}
+use Rattle.slt_grammar.specs.Holding.{seen, terms_of}
+use Rattle.slt_grammar.proofs.Held.{many-rules, rank-is}
 use Rattle.slt_grammar.proofs.grammar.Grammar.rank.Goals as goal
+
+pub index-requires : goal.index-requires
+index-requires c =
+    let see : seen c.self.inside.order.order c.self.inside.ranks.items (terms_of c.self.inside.arena c.self.inside.roots.items) ≡ c.args.self.now.rules = ap (λ (k : Keyed). k.rules) c.self.view_is in
+    omega (arith, many-rules c.self.inside.arena c.self.inside.roots.items c.self.inside.ranks.items c.self.inside.order.order c.args.self.now.rules c.self.invariant.rules see, c.self.invariant.rules.ranked, c.requires, c.self.inside.ranks.ok)
 
 pub returns : goal.returns
 returns c =
-    rank-keyed c.self.inside.arena c.self.inside.rules.items c.args.rule c.index.result.now (omega (arith, length-keyed c.self.inside.arena c.self.inside.rules.items c.args.self.now (ap (λ (G : Keyed). G.rules) c.self.view_is))) c.index.ensures
-    ∙ ap (λ (G : Keyed). rank_at (rules_of G.rules) c.args.rule) c.self.view_is
+    let see : seen c.self.inside.order.order c.self.inside.ranks.items (terms_of c.self.inside.arena c.self.inside.roots.items) ≡ c.args.self.now.rules = ap (λ (k : Keyed). k.rules) c.self.view_is in
+    rank-is c.self.inside.arena c.self.inside.roots.items c.self.inside.ranks.items c.self.inside.order.order c.args.self.now.rules c.self.invariant.rules see c.args.rule c.index.result.now c.requires c.index.ensures

@@ -1,6 +1,5 @@
 use Rattle.std.proofs.Common.{◌≡◌, ◌++◌, ◌<◌, [], ◌∷◌, List, length, ap, sym, subst, ◌∙◌, arith, Some}
 use Rattle.std.specs.Prelude.{if◌then◌else◌, is_ok}
-use Rattle.rule_arena.specs.Terms.{Node}
 use Rattle.preorder_address.specs.declared.descent.RuleStop.{RuleStop}
 use Rattle.value_cursor.specs.Cursors.{left_at}
 use Rattle.value_cursor.specs.Stops.{AreStops}
@@ -11,32 +10,27 @@ use Rattle.value_cursor.proofs.cursor.Cursor.enter.Goals as goal
 
 pub segment_start-requires-clause-rule : goal.segment_start-requires-clause-rule
 segment_start-requires-clause-rule g c =
-    let x : Node = record { key = c.args.stop.walk.key; label = c.args.item.now.label; kids = length c.args.item.now.kids } in
-    omega (arith, call-below c.args.grammar.now c.requires.keyed c.args.self.now.calls.items c.args.stop c.requires.stops x c.requires.node c.args.rule c.requires.call, last-below c.args.grammar.now c.requires.keyed c.args.self.now.calls.items c.args.stop c.requires.stops)
+    omega (arith, call-below c.args.grammar.now c.requires.keyed c.args.self.now.calls.items c.args.stop c.requires.stops c.args.rule c.requires.node, last-below c.args.grammar.now c.requires.keyed c.args.self.now.calls.items c.args.stop c.requires.stops)
 
 pub unwrap-requires : goal.unwrap-requires
 unwrap-requires g c = c.push.ensures.succeeds (omega (arith, calls-few c.args.grammar.now c.requires.keyed c.args.self.now.calls.items c.args.stop c.requires.stops, c.args.self.now.calls.ok.0, c.requires.room))
 
 pub returns-in-Some-clause-left : goal.returns-in-Some-clause-left
 returns-in-Some-clause-left g c =
-    let x : Node = record { key = c.args.stop.walk.key; label = c.args.item.now.label; kids = length c.args.item.now.kids } in
     let e : c.push.new.self.items ≡ c.args.self.now.calls.items ++ c.args.stop ∷ [] = c.push.ensures.items ∙ ap (λ b. if b then c.args.self.now.calls.items ++ c.args.stop ∷ [] else c.args.self.now.calls.items) (ap is_ok c.unwrap.ensures) in
     ap (λ (ss : List RuleStop). left_at c.args.grammar.now.rules (Some c.in-Some.first) ss) e
-    ∙ entered-left c.args.grammar.now c.requires.keyed c.args.self.now.calls.items c.args.stop c.requires.stops x c.requires.node c.args.rule c.requires.call c.in-Some.first c.in-Some.ensures.rule c.in-Some.ensures.at c.in-Some.ensures.some
+    ∙ entered-left c.args.grammar.now c.requires.keyed c.args.self.now.calls.items c.args.stop c.requires.stops c.args.rule c.requires.node c.in-Some.first c.in-Some.ensures.rule c.in-Some.ensures.at c.in-Some.ensures.some
 
 pub returns-in-Some-clause-stops : goal.returns-in-Some-clause-stops
 returns-in-Some-clause-stops g c =
-    let x : Node = record { key = c.args.stop.walk.key; label = c.args.item.now.label; kids = length c.args.item.now.kids } in
     let e : c.push.new.self.items ≡ c.args.self.now.calls.items ++ c.args.stop ∷ [] = c.push.ensures.items ∙ ap (λ b. if b then c.args.self.now.calls.items ++ c.args.stop ∷ [] else c.args.self.now.calls.items) (ap is_ok c.unwrap.ensures) in
-    subst (λ (ss : List RuleStop). AreStops c.args.grammar.now.rules (length c.args.grammar.now.rules) (ss ++ c.in-Some.first ∷ [])) (sym e) (entered-stops c.args.grammar.now c.requires.keyed c.args.self.now.calls.items c.args.stop c.requires.stops x c.requires.node c.args.rule c.requires.call c.in-Some.first c.in-Some.ensures.rule c.in-Some.ensures.at c.in-Some.ensures.some)
+    subst (λ (ss : List RuleStop). AreStops c.args.grammar.now.rules (length c.args.grammar.now.rules) (ss ++ c.in-Some.first ∷ [])) (sym e) (entered-stops c.args.grammar.now c.requires.keyed c.args.self.now.calls.items c.args.stop c.requires.stops c.args.rule c.requires.node c.in-Some.first c.in-Some.ensures.rule c.in-Some.ensures.at c.in-Some.ensures.some)
 
 pub returns-in-Some-clause-work : goal.returns-in-Some-clause-work
 returns-in-Some-clause-work g c =
-    let x : Node = record { key = c.args.stop.walk.key; label = c.args.item.now.label; kids = length c.args.item.now.kids } in
     let e : c.push.new.self.items ≡ c.args.self.now.calls.items ++ c.args.stop ∷ [] = c.push.ensures.items ∙ ap (λ b. if b then c.args.self.now.calls.items ++ c.args.stop ∷ [] else c.args.self.now.calls.items) (ap is_ok c.unwrap.ensures) in
-    subst (λ (ss : List RuleStop). work_at c.args.grammar.now.rules (Some c.in-Some.first) ss < work_at c.args.grammar.now.rules (Some c.args.stop) c.args.self.now.calls.items) (sym e) (entered-work c.args.grammar.now c.requires.keyed c.args.self.now.calls.items c.args.stop c.requires.stops x c.requires.node c.args.rule c.requires.call c.in-Some.first c.in-Some.ensures.rule c.in-Some.ensures.at c.in-Some.ensures.some)
+    subst (λ (ss : List RuleStop). work_at c.args.grammar.now.rules (Some c.in-Some.first) ss < work_at c.args.grammar.now.rules (Some c.args.stop) c.args.self.now.calls.items) (sym e) (entered-work c.args.grammar.now c.requires.keyed c.args.self.now.calls.items c.args.stop c.requires.stops c.args.rule c.requires.node c.in-Some.first c.in-Some.ensures.rule c.in-Some.ensures.at c.in-Some.ensures.some)
 
 pub returns-in-None-clause-left : goal.returns-in-None-clause-left
 returns-in-None-clause-left g c =
-    let x : Node = record { key = c.args.stop.walk.key; label = c.args.item.now.label; kids = length c.args.item.now.kids } in
-    c.pass.ensures.left ∙ sym (passed-left c.args.grammar.now c.requires.keyed c.args.self.now.calls.items c.args.stop c.requires.stops x c.requires.node c.args.rule c.requires.call c.in-None.ensures.none)
+    c.pass.ensures.left ∙ sym (passed-left c.args.grammar.now c.requires.keyed c.args.self.now.calls.items c.args.stop c.requires.stops c.args.rule c.requires.node c.in-None.ensures.none)

@@ -1,5 +1,4 @@
 use Rattle.std.proofs.Common.{length, ◌∙◌, arith}
-use Rattle.rule_arena.specs.Terms.{Node}
 use Rattle.value_cursor.proofs.CallLemmas.{stops-front}
 use Rattle.value_cursor.proofs.Leaving.{left-behind, left-passed, some-work}
 use Rattle.value_cursor.proofs.cursor.Cursor.go_on.Goals as goal
@@ -9,13 +8,11 @@ leave-requires-clause-stops g c = stops-front c.args.grammar.now.rules (length c
 
 pub returns-in-Param-clause-left : goal.returns-in-Param-clause-left
 returns-in-Param-clause-left g c =
-    let x : Node = record { key = c.args.stop.walk.key; label = c.args.item.now.label; kids = length c.args.item.now.kids } in
-    c.leave.ensures.left ∙ left-behind c.args.grammar.now c.requires.keyed c.args.self.now.calls.items c.args.stop c.requires.stops x c.requires.node c.in-Param.is
+    c.leave.ensures.left ∙ left-behind c.args.grammar.now c.requires.keyed c.args.self.now.calls.items c.args.stop c.requires.stops c.args.label c.requires.node c.in-Param.is
 
 pub returns-in-Param-clause-work : goal.returns-in-Param-clause-work
 returns-in-Param-clause-work g c = omega (arith, c.leave.ensures.work, some-work c.args.grammar.now c.requires.keyed c.args.self.now.calls.items c.args.stop c.requires.stops)
 
 pub returns-in_default-clause-left : goal.returns-in_default-clause-left
 returns-in_default-clause-left g c =
-    let x : Node = record { key = c.args.stop.walk.key; label = c.args.item.now.label; kids = length c.args.item.now.kids } in
-    c.pass.ensures.left ∙ left-passed c.args.grammar.now c.requires.keyed c.args.self.now.calls.items c.args.stop c.requires.stops x c.requires.node c.requires.silent c.in_default.not-Call c.in_default.not-Param
+    c.pass.ensures.left ∙ left-passed c.args.grammar.now c.requires.keyed c.args.self.now.calls.items c.args.stop c.requires.stops c.args.label c.requires.node c.requires.silent c.in_default.not-Call c.in_default.not-Param

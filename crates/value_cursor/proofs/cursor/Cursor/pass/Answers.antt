@@ -2,8 +2,11 @@ use Rattle.std.proofs.Common.{◌++◌, [], List, length, ap, sym, ◌∙◌, ar
 use Rattle.rule_arena.specs.declared.label.Label.{Label}
 use Rattle.value_cursor.specs.Stops.{behind}
 use Rattle.value_cursor.proofs.CallLemmas.{stops-front}
-use Rattle.value_cursor.proofs.Leaving.{last-stands, moved-left, moved-stops, moved-work, none-left, some-work}
+use Rattle.value_cursor.proofs.Leaving.{last-key, last-stands, moved-left, moved-stops, moved-work, none-left, some-work}
 use Rattle.value_cursor.proofs.cursor.Cursor.pass.Goals as goal
+
+pub item-item-requires : goal.item-item-requires
+item-item-requires g c = last-key c.args.grammar.now c.requires.keyed c.args.self.now.calls.items c.args.stop c.requires.stops
 
 pub advance-requires-clause-there : goal.advance-requires-clause-there
 advance-requires-clause-there g c = last-stands c.args.grammar.now c.requires.keyed c.args.self.now.calls.items c.args.stop c.requires.stops
@@ -23,11 +26,11 @@ pub returns-then-advance-clause-work : goal.returns-then-advance-clause-work
 returns-then-advance-clause-work g c =
     moved-work c.args.grammar.now c.requires.keyed c.args.self.now.calls.items c.args.stop c.requires.stops c.advance.new.self c.if-advance.ensures.next
 
-pub returns-else-advance-clause-left : goal.returns-else-advance-clause-left
-returns-else-advance-clause-left g c =
+pub returns-clause-left : goal.returns-clause-left
+returns-clause-left g c =
     c.leave.ensures.left
     ∙ sym (ap (λ (ls : List Label). ls ++ behind c.args.grammar.now.rules c.args.self.now.calls.items []) (none-left c.args.grammar.now c.requires.keyed c.args.self.now.calls.items c.args.stop c.requires.stops c.advance.new.self c.if-advance.ensures.next))
 
-pub returns-else-advance-clause-work : goal.returns-else-advance-clause-work
-returns-else-advance-clause-work g c =
+pub returns-clause-work : goal.returns-clause-work
+returns-clause-work g c =
     omega (arith, c.leave.ensures.work, some-work c.args.grammar.now c.requires.keyed c.args.self.now.calls.items c.args.stop c.requires.stops)

@@ -1,0 +1,4 @@
+mod Edited
+pub mod KeyedNodes
+pub mod LawfulBodies
+pub mod Rooted

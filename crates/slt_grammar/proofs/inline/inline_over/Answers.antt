@@ -1,0 +1,105 @@
+use Rattle.std.proofs.Common.{◌≡◌, ◌↔◌, ◌∙◌, ◌≤◌, ◌∷◌, [], ℕ, IsTrue, refl, subst, List, set, Some, length, take, ap, sym, arith}
+use Rattle.rule_arena.specs.Preorder.{with_subterm}
+use Rattle.rule_arena.specs.Terms.{Node, kids_of}
+use Rattle.slt_grammar.specs.Copying.{args_at, back_at, copied, holes_in}
+use Rattle.slt_grammar.specs.Holding.{terms_of}
+use Rattle.slt_grammar.proofs.Copies.{hole-le}
+use Rattle.slt_grammar.proofs.Inlinings.{cut-at, told-args, call-at, held-on, new-apart, new-stands, remade}
+use Rattle.slt_grammar.proofs.inline.inline_over.Goals as goal
+
+few-holes : (ns : List Node) → holes_in ns ≤ length ns
+few-holes [] = omega arith
+few-holes (n ∷ ns) = omega (arith, few-holes ns, hole-le n.label)
+
+pub detach_all-requires-clause-room : goal.detach_all-requires-clause-room
+detach_all-requires-clause-room c =
+    let x = c.requires.there.2 in
+    let C = cut-at x.nodes x.place c.args.call (c.limit-before.ensures.sound.term x.root x.nodes x.stands) x.there in
+    let A = told-args x.nodes x.place c.args.call c.args.kids.now c.args.kids.now C (c.requires.kids x) refl in
+    omega (arith, A.1, C.kids, c.requires.there.5, few-holes c.args.shapes.now, c.requires.room)
+
+pub detach_all-requires-clause-there : goal.detach_all-requires-clause-there
+detach_all-requires-clause-there c =
+    let x = c.requires.there.2 in
+    let C = cut-at x.nodes x.place c.args.call (c.limit-before.ensures.sound.term x.root x.nodes x.stands) x.there in
+    let A = told-args x.nodes x.place c.args.call c.args.kids.now c.args.kids.now C (c.requires.kids x) refl in
+    (x.root, take x.place x.nodes, back_at x.nodes x.place, C.node, args_at x.nodes x.place, x.stands ∙ ap (λ (ns : List Node). Some ns) C.whole, A.0)
+
+pub build_over-copied-requires-clause-linear : goal.build_over-copied-requires-clause-linear
+build_over-copied-requires-clause-linear c =
+    let x = c.requires.there.2 in
+    let C = cut-at x.nodes x.place c.args.call (c.limit-before.ensures.sound.term x.root x.nodes x.stands) x.there in
+    let A = told-args x.nodes x.place c.args.call c.args.kids.now c.args.kids.now C (c.requires.kids x) refl in
+    sym c.requires.there.5 ∙ C.kids ∙ sym A.1
+
+pub build_over-copied-requires-clause-roots : goal.build_over-copied-requires-clause-roots
+build_over-copied-requires-clause-roots c =
+    let x = c.requires.there.2 in
+    let C = cut-at x.nodes x.place c.args.call (c.limit-before.ensures.sound.term x.root x.nodes x.stands) x.there in
+    let A = told-args x.nodes x.place c.args.call c.args.kids.now c.args.kids.now C (c.requires.kids x) refl in
+    let D = c.detach_all.ensures.detached x.root (take x.place x.nodes) (back_at x.nodes x.place) C.node (args_at x.nodes x.place) (x.stands ∙ ap (λ (ns : List Node). Some ns) C.whole) A.0 in
+    D.roots
+
+pub build_over-copied-requires-clause-distinct : goal.build_over-copied-requires-clause-distinct
+build_over-copied-requires-clause-distinct c =
+    let x = c.requires.there.2 in
+    let C = cut-at x.nodes x.place c.args.call (c.limit-before.ensures.sound.term x.root x.nodes x.stands) x.there in
+    let A = told-args x.nodes x.place c.args.call c.args.kids.now c.args.kids.now C (c.requires.kids x) refl in
+    let D = c.detach_all.ensures.detached x.root (take x.place x.nodes) (back_at x.nodes x.place) C.node (args_at x.nodes x.place) (x.stands ∙ ap (λ (ns : List Node). Some ns) C.whole) A.0 in
+    D.distinct
+
+pub replace-requires-clause-held : goal.replace-requires-clause-held
+replace-requires-clause-held c =
+    let x = c.requires.there.2 in
+    let C = cut-at x.nodes x.place c.args.call (c.limit-before.ensures.sound.term x.root x.nodes x.stands) x.there in
+    let A = told-args x.nodes x.place c.args.call c.args.kids.now c.args.kids.now C (c.requires.kids x) refl in
+    let D = c.detach_all.ensures.detached x.root (take x.place x.nodes) (back_at x.nodes x.place) C.node (args_at x.nodes x.place) (x.stands ∙ ap (λ (ns : List Node). Some ns) C.whole) A.0 in
+    held-on c.args.arena.now c.detach_all.new.arena c.build_over-copied.new.arena c.args.roots.now c.args.call c.args.kids.now c.build_over-copied.result.root (copied c.args.shapes.now (terms_of c.detach_all.new.arena c.args.kids.now) c.build_over-copied.ensures.built.keys) c.requires.held c.requires.there.0 c.requires.there.1 x c.requires.there.3 c.requires.there.4 C D A.1 (record { term = c.build_over-copied.ensures.built.term; origin = c.build_over-copied.ensures.built.origin; others = c.build_over-copied.ensures.built.others })
+
+pub replace-requires-clause-there : goal.replace-requires-clause-there
+replace-requires-clause-there c =
+    let x = c.requires.there.2 in
+    let C = cut-at x.nodes x.place c.args.call (c.limit-before.ensures.sound.term x.root x.nodes x.stands) x.there in
+    let A = told-args x.nodes x.place c.args.call c.args.kids.now c.args.kids.now C (c.requires.kids x) refl in
+    let D = c.detach_all.ensures.detached x.root (take x.place x.nodes) (back_at x.nodes x.place) C.node (args_at x.nodes x.place) (x.stands ∙ ap (λ (ns : List Node). Some ns) C.whole) A.0 in
+    (c.requires.there.0, c.requires.there.1, call-at c.args.arena.now c.detach_all.new.arena c.build_over-copied.new.arena c.args.roots.now c.args.call c.args.kids.now c.build_over-copied.result.root (copied c.args.shapes.now (terms_of c.detach_all.new.arena c.args.kids.now) c.build_over-copied.ensures.built.keys) c.requires.held c.requires.there.0 c.requires.there.1 x c.requires.there.3 c.requires.there.4 C D A.1 (record { term = c.build_over-copied.ensures.built.term; origin = c.build_over-copied.ensures.built.origin; others = c.build_over-copied.ensures.built.others }), c.requires.there.3, c.requires.there.4)
+
+pub replace-requires-clause-apart : goal.replace-requires-clause-apart
+replace-requires-clause-apart c =
+    let x = c.requires.there.2 in
+    let C = cut-at x.nodes x.place c.args.call (c.limit-before.ensures.sound.term x.root x.nodes x.stands) x.there in
+    let A = told-args x.nodes x.place c.args.call c.args.kids.now c.args.kids.now C (c.requires.kids x) refl in
+    let D = c.detach_all.ensures.detached x.root (take x.place x.nodes) (back_at x.nodes x.place) C.node (args_at x.nodes x.place) (x.stands ∙ ap (λ (ns : List Node). Some ns) C.whole) A.0 in
+    new-apart c.args.arena.now c.detach_all.new.arena c.build_over-copied.new.arena c.args.roots.now c.args.call c.args.kids.now c.build_over-copied.result.root (copied c.args.shapes.now (terms_of c.detach_all.new.arena c.args.kids.now) c.build_over-copied.ensures.built.keys) c.requires.held c.requires.there.0 c.requires.there.1 x c.requires.there.3 c.requires.there.4 C D A.1 (record { term = c.build_over-copied.ensures.built.term; origin = c.build_over-copied.ensures.built.origin; others = c.build_over-copied.ensures.built.others })
+
+pub replace-requires-clause-new : goal.replace-requires-clause-new
+replace-requires-clause-new c =
+    let x = c.requires.there.2 in
+    let C = cut-at x.nodes x.place c.args.call (c.limit-before.ensures.sound.term x.root x.nodes x.stands) x.there in
+    let A = told-args x.nodes x.place c.args.call c.args.kids.now c.args.kids.now C (c.requires.kids x) refl in
+    let D = c.detach_all.ensures.detached x.root (take x.place x.nodes) (back_at x.nodes x.place) C.node (args_at x.nodes x.place) (x.stands ∙ ap (λ (ns : List Node). Some ns) C.whole) A.0 in
+    new-stands c.args.arena.now c.detach_all.new.arena c.build_over-copied.new.arena c.args.roots.now c.args.call c.args.kids.now c.build_over-copied.result.root (copied c.args.shapes.now (terms_of c.detach_all.new.arena c.args.kids.now) c.build_over-copied.ensures.built.keys) c.requires.held c.requires.there.0 c.requires.there.1 x c.requires.there.3 c.requires.there.4 C D A.1 (record { term = c.build_over-copied.ensures.built.term; origin = c.build_over-copied.ensures.built.origin; others = c.build_over-copied.ensures.built.others })
+
+pub replace-requires-clause-root : goal.replace-requires-clause-root
+replace-requires-clause-root c = λ y.
+    let x = c.requires.there.2 in
+    let C = cut-at x.nodes x.place c.args.call (c.limit-before.ensures.sound.term x.root x.nodes x.stands) x.there in
+    let A = told-args x.nodes x.place c.args.call c.args.kids.now c.args.kids.now C (c.requires.kids x) refl in
+    let D = c.detach_all.ensures.detached x.root (take x.place x.nodes) (back_at x.nodes x.place) C.node (args_at x.nodes x.place) (x.stands ∙ ap (λ (ns : List Node). Some ns) C.whole) A.0 in
+    let z = call-at c.args.arena.now c.detach_all.new.arena c.build_over-copied.new.arena c.args.roots.now c.args.call c.args.kids.now c.build_over-copied.result.root (copied c.args.shapes.now (terms_of c.detach_all.new.arena c.args.kids.now) c.build_over-copied.ensures.built.keys) c.requires.held c.requires.there.0 c.requires.there.1 x c.requires.there.3 c.requires.there.4 C D A.1 (record { term = c.build_over-copied.ensures.built.term; origin = c.build_over-copied.ensures.built.origin; others = c.build_over-copied.ensures.built.others }) in
+    let q = (c.limit-after.ensures.sound.once c.args.call y z).1 in
+    subst (λ (p : ℕ). IsTrue c.is_root-is_root.result ↔ (p ≡ 0)) (sym q) (c.is_root-is_root.ensures x)
+
+pub returns-clause-inlined : goal.returns-clause-inlined
+returns-clause-inlined c = λ i k x e f.
+    let C = cut-at x.nodes x.place c.args.call (c.limit-before.ensures.sound.term x.root x.nodes x.stands) x.there in
+    let A = told-args x.nodes x.place c.args.call c.args.kids.now c.args.kids.now C (c.requires.kids x) refl in
+    let D = c.detach_all.ensures.detached x.root (take x.place x.nodes) (back_at x.nodes x.place) C.node (args_at x.nodes x.place) (x.stands ∙ ap (λ (ns : List Node). Some ns) C.whole) A.0 in
+    let B = c.build_over-copied.ensures.built in
+    let R = c.replace.ensures.changed i k (call-at c.args.arena.now c.detach_all.new.arena c.build_over-copied.new.arena c.args.roots.now c.args.call c.args.kids.now c.build_over-copied.result.root (copied c.args.shapes.now (terms_of c.detach_all.new.arena c.args.kids.now) c.build_over-copied.ensures.built.keys) c.requires.held i k x e f C D A.1 (record { term = c.build_over-copied.ensures.built.term; origin = c.build_over-copied.ensures.built.origin; others = c.build_over-copied.ensures.built.others })) (copied c.args.shapes.now (terms_of c.detach_all.new.arena c.args.kids.now) B.keys) e f B.term in
+    record {
+      keys = B.keys;
+      many = B.many;
+      changed = record { held = R.held; bodies = remade c.args.arena.now c.detach_all.new.arena c.build_over-copied.new.arena c.args.roots.now c.args.call c.args.kids.now c.build_over-copied.result.root (copied c.args.shapes.now (terms_of c.detach_all.new.arena c.args.kids.now) c.build_over-copied.ensures.built.keys) c.requires.held i k x e f C D A.1 (record { term = c.build_over-copied.ensures.built.term; origin = c.build_over-copied.ensures.built.origin; others = c.build_over-copied.ensures.built.others }) c.replace.new.arena c.replace.new.roots R.bodies ∙ ap (λ (gs : List (List Node)). set (terms_of c.args.arena.now c.args.roots.now) i (with_subterm kids_of x.nodes x.place (copied c.args.shapes.now gs B.keys))) D.given };
+      follows = B.follows c.requires.once;
+    }

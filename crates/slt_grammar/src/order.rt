@@ -1,0 +1,146 @@
+// Rules under identities that stay while the rules are there.
+ghost use Rattle.std.specs.Prelude.{◌≡◌, ◌+◌, ◌<◌, ◌≤◌, ◌++◌, ◌∷◌, [], ℕ, IfOk, OnOk, OnErr, IsOk, length, slice_index, insert, remove};
+ghost use Rattle.slt_grammar.specs.Placing.{IsKnown, placed_label};
+ghost use Rattle.slt_grammar.specs.Ordering.{Fresh, Distinct, Inverse, AllBelow, IsThere, place_of};
+
+use rule_arena::Label;
+use std::alloc::{AllocError, Global};
+use std::marker::Model;
+
+// The identities of rules in the order of the rules, beside how many more there is room for.
+//
+// An insertion or a removal moves words of two lists, and the identities of all other rules stay.
+#[derive(Drop)]
+pub(crate) struct Order {
+    // A permutation: the first `used` are those of the rules, the others are free.
+    ids: Vec<usize>,
+    // Where each identity stands.
+    places: Vec<usize>,
+    used: usize,
+}
+
+impl Model for Order {
+    ghost use Rattle.std.specs.Prelude.{◌-◌, take, length};
+    ghost use Rattle.slt_grammar.specs.Ordering.{Ordered, IsOrder};
+
+    ghost Value = { Ordered };
+
+    ghost view = { λ o. record { order = take o.used o.ids.items; spare = length o.ids.items - o.used } };
+
+    ghost invariant = { λ o. IsOrder o.ids.items o.places.items o.used };
+}
+
+impl Order {
+    // The identities of so many rules: each has its own place.
+    pub(crate) fn of(alloc: Global, rules: usize) -> Result<Order, AllocError>
+        ensures len { IfOk result (λ o. length o.order ≡ rules) }
+        ensures there { IfOk result (λ o. (q : ℕ) → q < rules → IsThere o.order q) }
+        ensures places { IfOk result (λ o. (q : ℕ) → q < rules → place_of o.order q ≡ q) }
+    {
+        let mut ids = Vec::with_capacity(alloc, rules)?;
+        let mut places = Vec::with_capacity(alloc, rules)?;
+        for id in 0..rules {
+            ids.push(id)?;
+            places.push(id)?;
+        }
+        Ok(Order {
+            ids,
+            places,
+            used: rules,
+        })
+    }
+
+    // Makes room for so many more rules.
+    pub(crate) fn reserve(&mut self, more: usize) -> Result<(), AllocError>
+        ensures order { self.new.order ≡ self.old.order }
+        ensures room { OnOk result (more ≤ self.new.spare) }
+        ensures grown { self.old.spare ≤ self.new.spare }
+        ensures succeeds { more ≤ self.old.spare → IsOk result }
+    {
+        while self.ids.len() - self.used < more {
+            add_free(&mut self.ids, &mut self.places)?;
+        }
+        Ok(())
+    }
+
+    // The place of the rule with this identity.
+    pub(crate) fn place(&self, id: usize) -> usize
+        requires { IsThere self.now.order id }
+        ensures { result ≡ place_of self.now.order id }
+    {
+        self.places[id]
+    }
+
+    // The identity of the rule at a place.
+    pub(crate) fn id(&self, place: usize) -> usize
+        requires { place < length self.now.order }
+        ensures value { result ≡ slice_index self.now.order place }
+        ensures there { IsThere self.now.order result }
+        ensures place { place_of self.now.order result ≡ place }
+    {
+        self.ids[place]
+    }
+
+    // Puts a new identity before the rule at a place, or behind all. It takes no memory.
+    pub(crate) fn insert(&mut self, place: usize) -> usize
+        requires within { place ≤ length self.old.order }
+        requires room { 0 < self.old.spare }
+        ensures order { self.new.order ≡ insert self.old.order place result }
+        ensures fresh { Fresh result self.old.order }
+        ensures spare { self.new.spare + 1 ≡ self.old.spare }
+    {
+        let id = self.ids.pop().unwrap();
+        self.ids.insert(place, id).unwrap();
+        self.used += 1;
+        renumber(&self.ids, &mut self.places, place);
+        id
+    }
+
+    // Takes the identity of the rule at a place away. It takes no memory.
+    pub(crate) fn remove(&mut self, place: usize)
+        requires { place < length self.old.order }
+        ensures order { self.new.order ≡ remove self.old.order place }
+        ensures spare { self.new.spare ≡ self.old.spare + 1 }
+    {
+        let id = self.ids.remove(place);
+        self.ids.push(id).unwrap();
+        self.used -= 1;
+        renumber(&self.ids, &mut self.places, place);
+    }
+}
+
+// One more identity that is free.
+fn add_free(ids: &mut Vec<usize>, places: &mut Vec<usize>) -> Result<(), AllocError>
+    ensures ok { OnOk result ((ids.new.items ≡ ids.old.items ++ length ids.old.items ∷ []) × (places.new.items ≡ places.old.items ++ length ids.old.items ∷ [])) }
+    ensures err { OnErr result ((ids.new.items ≡ ids.old.items) × (places.new.items ≡ places.old.items)) }
+{
+    let id = ids.len();
+    places.reserve(1)?;
+    ids.push(id)?;
+    places.push(id).unwrap();
+    Ok(())
+}
+
+// Writes the places of the identities from one place on.
+fn renumber(ids: &Vec<usize>, places: &mut Vec<usize>, from: usize)
+    requires distinct { Distinct ids.now.items }
+    requires below { AllBelow (length places.old.items) ids.now.items }
+    requires before { (p : ℕ) → p < from → p < length ids.now.items → slice_index places.old.items (slice_index ids.now.items p) ≡ p }
+    ensures inverse { Inverse ids.now.items places.new.items }
+    ensures len { length places.new.items ≡ length places.old.items }
+{
+    for p in from..ids.len() {
+        places[ids[p]] = p;
+    }
+}
+
+// A label with the place of the rule that it calls.
+pub(crate) fn place_label(order: &Order, label: Label) -> Label
+    requires { IsKnown order.now.order label }
+    ensures { result ≡ placed_label order.now.order label }
+{
+    match label {
+        Label::Call(id) => Label::Call(order.place(id)),
+        other => other,
+    }
+}

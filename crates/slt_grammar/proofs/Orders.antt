@@ -1,9 +1,11 @@
 -- Identities that are put in and taken out.
 use Rattle.std.proofs.Common.{◌≡◌, ◌⊎◌, inl, inr, ℕ, zero, suc, ◌+◌, ◌-◌, ◌<◌, ◌≤◌, List, [], ◌∷◌, ◌++◌, length, get_or, set, take, Bool, true, false, refl, sym, ap, ◌∙◌, subst, arith, insert, remove, length-append}
 use Rattle.std.specs.Prelude.{eqb, cond}
-use Rattle.std.proofs.lemmas.Bool.{ne_eqb, eq-eqb, cases_eq}
-use Rattle.std.proofs.lemmas.List.{get_or-set_other, get_or-set_same, length-take-le}
-use Rattle.slt_grammar.specs.Ordering.{place_of, IsThere, Fresh, Distinct, AllBelow, IsOrder}
+use Rattle.std.specs.List.{CopiedTo, SameBelow, SameFrom}
+use Rattle.std.proofs.lemmas.Bool.{ne_eqb, eq-eqb, cases_eq, cases_lt}
+use Rattle.std.proofs.lemmas.List.{ext_get_or, get_or-set_other, get_or-set_same, length-set, length-take-le}
+use Rattle.std.proofs.lemmas.List.Edits.{get_or-insert_at, get_or-insert_above, get_or-insert_below, get_or-remove_above, get_or-remove_below}
+use Rattle.slt_grammar.specs.Ordering.{Ordered, place_of, IsThere, Fresh, Distinct, AllBelow, IsOrder}
 
 pub fresh-index : (x : ℕ) (xs : List ℕ) (p : ℕ) → Fresh x xs → p < length xs → get_or xs p 0 ≡ x → ⊥
 fresh-index x [] p f h e = omega arith
@@ -61,21 +63,6 @@ below-index n (x ∷ xs) zero b h = b.0
 below-index n (x ∷ xs) (suc p) b h = below-index n xs p b.1 (omega arith)
 
 -- one behind the others
-pub distinct-last : (xs : List ℕ) (y : ℕ) → Distinct (xs ++ y ∷ []) → Distinct xs × Fresh y xs
-distinct-last [] y d = (tt, tt)
-distinct-last (x ∷ xs) y d =
-    let h = distinct-last xs y d.1 in
-    let l = last xs d.0 in
-    ((l.0, h.0), (λ e. l.1 (sym e), h.1))
-  where
-    last : (zs : List ℕ) → Fresh x (zs ++ y ∷ []) → Fresh x zs × (y ≡ x → ⊥)
-    last [] f = (tt, f.0)
-    last (z ∷ zs) f = let h = last zs f.1 in ((f.0, h.0), h.1)
-
-pub below-last : (n : ℕ) (xs : List ℕ) (y : ℕ) → AllBelow n (xs ++ y ∷ []) → AllBelow n xs × (y < n)
-below-last n [] y b = (tt, b.0)
-below-last n (x ∷ xs) y b = let h = below-last n xs y b.1 in ((b.0, h.0), h.1)
-
 pub distinct-push : (xs : List ℕ) (y : ℕ) → Distinct xs → Fresh y xs → Distinct (xs ++ y ∷ [])
 distinct-push [] y d f = (tt, tt)
 distinct-push (x ∷ xs) y d f = (more xs d.0, distinct-push xs y d.1 f.1)
@@ -103,18 +90,26 @@ take-insert xs (suc i) y zero h l = absurd (omega arith)
 take-insert [] (suc i) y (suc n) h l = absurd (omega arith)
 take-insert (x ∷ xs) (suc i) y (suc n) h l = let e : suc n + 1 ≡ suc (n + 1) = omega arith in rw e (ap (λ zs. x ∷ zs) (take-insert xs i y n (omega arith) (omega arith)))
 
-pub take-remove : (xs ys : List ℕ) (i n : ℕ) → i < n → n ≤ length xs → take (n - 1) (remove xs i ++ ys) ≡ remove (take n xs) i
-take-remove xs ys i zero h l = absurd (omega arith)
-take-remove [] ys i (suc n) h l = absurd (omega arith)
-take-remove (x ∷ xs) ys zero (suc n) h l = let e : suc n - 1 ≡ n = omega arith in rw e (front xs n (omega arith))
-  where
-    front : (zs : List ℕ) (n : ℕ) → n ≤ length zs → take n (zs ++ ys) ≡ take n zs
-    front zs zero h = refl
-    front [] (suc n) h = absurd (omega arith)
-    front (z ∷ zs) (suc n) h = ap (λ ws. z ∷ ws) (front zs n (omega arith))
-take-remove (x ∷ xs) ys (suc i) (suc n) h l =
-    let e : suc n - 1 ≡ suc (n - 1) = omega arith in
-    rw e (ap (λ zs. x ∷ zs) (take-remove xs ys i n (omega arith) (omega arith)))
+pub take-remove : (xs : List ℕ) (i n : ℕ) → i < n → n ≤ length xs → take (n - 1) (remove xs i) ≡ remove (take n xs) i
+take-remove xs i zero h l = absurd (omega arith)
+take-remove [] i (suc n) h l = absurd (omega arith)
+take-remove (x ∷ xs) zero (suc n) h l = let e : suc n - 1 ≡ n = omega arith in rw e refl
+take-remove (x ∷ xs) (suc i) (suc zero) h l = absurd (omega arith)
+take-remove (x ∷ xs) (suc i) (suc (suc n)) h l =
+    let e : suc (suc n) - 1 ≡ suc n = omega arith in
+    let f : suc n - 1 ≡ n = omega arith in
+    rw e (ap (λ zs. x ∷ zs) (sym (ap (λ (m : ℕ). take m (remove xs i)) f) ∙ take-remove xs i (suc n) (omega arith) (omega arith)))
+
+-- what is changed behind the first n doesn't change these
+pub take-inserted : (xs : List ℕ) (n y : ℕ) → n ≤ length xs → take n (insert xs n y) ≡ take n xs
+take-inserted xs zero y h = refl
+take-inserted [] (suc n) y h = absurd (omega arith)
+take-inserted (x ∷ xs) (suc n) y h = ap (λ zs. x ∷ zs) (take-inserted xs n y (omega arith))
+
+pub take-removed : (xs : List ℕ) (n : ℕ) → take n (remove xs n) ≡ take n xs
+take-removed xs zero = refl
+take-removed [] (suc n) = refl
+take-removed (x ∷ xs) (suc n) = ap (λ zs. x ∷ zs) (take-removed xs n)
 
 pub fresh-take : (x : ℕ) (xs : List ℕ) (n : ℕ) → Fresh x xs → Fresh x (take n xs)
 fresh-take x xs zero f = tt
@@ -136,11 +131,10 @@ get-any (x ∷ xs) (suc p) a b h = get-any xs p a b (omega arith)
 
 -- one more place is written
 pub written : (ids places : List ℕ) (p x : ℕ) → Distinct ids → x < length places → p < length ids → x ≡ get_or ids p 0
-    → ((q : ℕ) → q < p → q < length ids → get_or places (get_or ids q 0) 0 ≡ q)
-    → (q : ℕ) → q < p + 1 → q < length ids → get_or (set places x p) (get_or ids q 0) 0 ≡ q
-written ids places p x d b h e I q l k = elim (cases_eq q p) [
+    → (q : ℕ) → q < length ids → ((q ≡ p → ⊥) → get_or places (get_or ids q 0) 0 ≡ q) → get_or (set places x p) (get_or ids q 0) 0 ≡ q
+written ids places p x d b h e q k I = elim (cases_eq q p) [
   | inl z ↦ ap (λ (j : ℕ). get_or (set places x p) (get_or ids j 0) 0) z ∙ ap (λ (j : ℕ). get_or (set places x p) j 0) (sym e) ∙ get_or-set_same places x p 0 b ∙ sym z
-  | inr n ↦ get_or-set_other places x (get_or ids q 0) p 0 (λ w. n (distinct-index ids q p d k h (w ∙ e))) ∙ I q (omega arith) k
+  | inr n ↦ get_or-set_other places x (get_or ids q 0) p 0 (λ w. n (distinct-index ids q p d k h (w ∙ e))) ∙ I n
 ]
 
 pub length-insert : (xs : List ℕ) (i y : ℕ) → length (insert xs i y) ≡ suc (length xs)
@@ -153,76 +147,151 @@ length-remove [] i h = absurd (omega arith)
 length-remove (x ∷ xs) zero h = omega arith
 length-remove (x ∷ xs) (suc i) h = omega (arith, length-remove xs i (omega arith))
 
-take-front : (xs ys : List ℕ) (n : ℕ) → n ≤ length xs → take n (xs ++ ys) ≡ take n xs
-take-front xs ys zero h = refl
-take-front [] ys (suc n) h = absurd (omega arith)
-take-front (x ∷ xs) ys (suc n) h = ap (λ zs. x ∷ zs) (take-front xs ys n (omega arith))
+pub length-order : (ids order : List ℕ) (used : ℕ) → take used ids ≡ order → used ≤ length ids → length order ≡ used
+length-order ids order used t h = sym (ap length t) ∙ length-take-le used ids h
 
--- what an insertion leaves
-pub record Inserted (ids new order : List ℕ) (used place id : ℕ) : Type 0 where
+-- what is left where an item is put at another place
+pub record Moved (ids new : List ℕ) (from to : ℕ) : Type 0 where
   pub distinct : Distinct new
   pub below : AllBelow (length ids) new
   pub same : length new ≡ length ids
-  pub order_is : take (used + 1) new ≡ insert order place id
-  pub fresh : Fresh id order
-  pub front : (p : ℕ) → p < place → p < length new → get_or new p 0 ≡ get_or ids p 0
+  pub before : (p : ℕ) → p < from → p < to → get_or new p 0 ≡ get_or ids p 0
+  pub behind : (p : ℕ) → from < p → to < p → get_or new p 0 ≡ get_or ids p 0
 
-pub inserted : (ids places rest new order : List ℕ) (used place id : ℕ) → IsOrder ids places used → ids ≡ rest ++ id ∷ [] → new ≡ insert rest place id → take used ids ≡ order
-    → place ≤ used → used < length ids → Inserted ids new order used place id
-inserted ids places rest new order used place id O e f t h u =
-    let d = distinct-last rest id (subst Distinct e O.distinct) in
-    let b = below-last (length ids) rest id (subst (AllBelow (length ids)) e O.below) in
-    let l : length ids ≡ length rest + 1 = ap length e ∙ length-append rest (id ∷ []) in
-    let w : take used rest ≡ order = sym (take-front rest (id ∷ []) used (omega arith)) ∙ ap (take used) (sym e) ∙ t in
+moved : (ids new : List ℕ) (from to id : ℕ) → Distinct ids → AllBelow (length ids) ids → from < length ids → to < length ids → id ≡ get_or ids from 0
+    → new ≡ insert (remove ids from) to id → Moved ids new from to
+moved ids new from to id d b h k e f =
+    let n : length (remove ids from) + 1 ≡ length ids = length-remove ids from h in
+    let u : id < length ids = let z = below-index (length ids) ids from b h in omega (arith, e) in
     record {
-      distinct = subst Distinct (sym f) (distinct-insert rest place id d.0 d.1);
-      below = subst (AllBelow (length ids)) (sym f) (below-insert (length ids) rest place id b.0 b.1);
-      same = omega (arith, ap length f, length-insert rest place id, l);
-      order_is = ap (take (used + 1)) f ∙ take-insert rest place id used h (omega arith) ∙ ap (λ zs. insert zs place id) w;
-      fresh = subst (Fresh id) w (fresh-take id rest used d.1);
-      front = λ p k m. ap (λ zs. get_or zs p 0) f ∙ before rest place p k (omega (arith, l)) ∙ sym (ap (λ zs. get_or zs p 0) e ∙ left rest p (omega (arith, l)));
+      distinct = subst Distinct (sym f) (distinct-insert (remove ids from) to id (distinct-remove ids from d) (fresh-removed ids from id d h e));
+      below = subst (AllBelow (length ids)) (sym f) (below-insert (length ids) (remove ids from) to id (below-remove (length ids) ids from b) u);
+      same = omega (arith, ap length f, length-insert (remove ids from) to id, n);
+      before = λ p l m. ap (λ zs. get_or zs p 0) f ∙ get_or-insert_below (remove ids from) to id 0 p m (omega (arith, n)) ∙ get_or-remove_below ids from 0 p l h;
+      behind = λ p l m.
+          let e1 : p ≡ (p - 1) + 1 = omega arith in
+          ap (λ zs. get_or zs p 0) f ∙ ap (λ (j : ℕ). get_or (insert (remove ids from) to id) j 0) e1
+          ∙ get_or-insert_above (remove ids from) to id 0 (p - 1) (omega arith) (omega (arith, n))
+          ∙ get_or-remove_above ids from 0 (p - 1) (omega arith) h ∙ ap (λ (j : ℕ). get_or ids j 0) (sym e1);
     }
-  where
-    before : (xs : List ℕ) (i p : ℕ) → p < i → p < length xs → get_or (insert xs i id) p 0 ≡ get_or xs p 0
-    before [] i p k m = absurd (omega arith)
-    before (x ∷ xs) zero p k m = absurd (omega arith)
-    before (x ∷ xs) (suc i) zero k m = refl
-    before (x ∷ xs) (suc i) (suc p) k m = before xs i p (omega arith) (omega arith)
 
-    left : (xs : List ℕ) (p : ℕ) → p < length xs → get_or (xs ++ id ∷ []) p 0 ≡ get_or xs p 0
-    left [] p m = absurd (omega arith)
-    left (x ∷ xs) zero m = refl
-    left (x ∷ xs) (suc p) m = left xs p (omega arith)
+-- the second list still tells the places of those that were not moved
+untouched : (ids places new : List ℕ) (used from to begin end : ℕ) → IsOrder ids places used → Moved ids new from to → begin ≤ from → begin ≤ to → from < end → to < end
+    → (p : ℕ) → (p < begin) ⊎ (end ≤ p) → p < length new → get_or places (get_or new p 0) 0 ≡ p
+untouched ids places new used from to begin end O M a b c d p (inl h) l =
+    ap (λ (j : ℕ). get_or places j 0) (M.before p (omega arith) (omega arith)) ∙ O.inverse.at p (omega (arith, M.same))
+untouched ids places new used from to begin end O M a b c d p (inr h) l =
+    ap (λ (j : ℕ). get_or places j 0) (M.behind p (omega arith) (omega arith)) ∙ O.inverse.at p (omega (arith, M.same))
 
--- what a removal leaves
-pub record Removed (ids new order : List ℕ) (used place : ℕ) : Type 0 where
+-- what an insertion and a removal do to the order
+pub record Reordered (ids places new after : List ℕ) (used begin end : ℕ) : Type 0 where
   pub distinct : Distinct new
-  pub below : AllBelow (length ids) new
+  pub below : AllBelow (length places) new
+  pub within : end ≤ length new
   pub same : length new ≡ length ids
-  pub order_is : take (used - 1) new ≡ remove order place
-  pub front : (p : ℕ) → p < place → p < length new → get_or new p 0 ≡ get_or ids p 0
+  pub kept : (p : ℕ) → (p < begin) ⊎ (end ≤ p) → p < length new → get_or places (get_or new p 0) 0 ≡ p
+  pub order_is : take used new ≡ after
 
-pub removed : (ids places new order : List ℕ) (used place id d : ℕ) → IsOrder ids places used → id ≡ get_or ids place d → new ≡ remove ids place ++ id ∷ [] → take used ids ≡ order
-    → place < used → Removed ids new order used place
-removed ids places new order used place id d O e f t h =
-    let w = O.within in
-    let k : place < length ids = omega arith in
-    let e0 : id ≡ get_or ids place 0 = e ∙ get-any ids place d 0 k in
-    let b : id < length ids = let z = below-index (length ids) ids place O.below k in omega arith in
-    let l = length-remove ids place k in
-    record {
-      distinct = subst Distinct (sym f) (distinct-push (remove ids place) id (distinct-remove ids place O.distinct) (fresh-removed ids place id O.distinct k e0));
-      below = subst (AllBelow (length ids)) (sym f) (below-push (length ids) (remove ids place) id (below-remove (length ids) ids place O.below) b);
-      same = omega (arith, ap length f, length-append (remove ids place) (id ∷ []), l);
-      order_is = ap (take (used - 1)) f ∙ take-remove ids (id ∷ []) place used h w ∙ ap (λ zs. remove zs place) t;
-      front = λ p q m. ap (λ zs. get_or zs p 0) f ∙ before ids place p q (omega arith);
-    }
+module _ (ids places : List ℕ) (used : ℕ) (v : Ordered) (O : IsOrder ids places used) (t : record { order = take used ids; spare = length ids - used } ≡ v) (new : List ℕ) (place : ℕ) where
+  order_is : take used ids ≡ v.order
+  order_is = ap (λ (w : Ordered). w.order) t
+
+  many : length v.order ≡ used
+  many = length-order ids v.order used order_is O.within
+
+  -- a free identity is put before the one at a place
+  pub inserted : (id d : ℕ) → place ≤ length v.order → 0 < v.spare → id ≡ get_or ids used d → new ≡ insert (remove ids used) place (get_or ids used 0)
+      → Reordered ids places new (insert v.order place id) (used + 1) place (used + 1) × Fresh id v.order
+  inserted id d h r e f =
+      let u : used < length ids = omega (arith, ap (λ (w : Ordered). w.spare) t) in
+      let s = O.same in
+      let w : place ≤ used = omega (arith, many) in
+      let e0 : id ≡ get_or ids used 0 = e ∙ get-any ids used d 0 u in
+      let f0 : new ≡ insert (remove ids used) place id = f ∙ ap (insert (remove ids used) place) (sym e0) in
+      let M : Moved ids new used place = moved ids new used place id O.distinct O.below u (omega arith) e0 f0 in
+      let l : length (remove ids used) + 1 ≡ length ids = length-remove ids used u in
+      let k : take used (remove ids used) ≡ v.order = take-removed ids used ∙ order_is in (
+        record {
+          distinct = M.distinct;
+          below = subst (λ (m : ℕ). AllBelow m new) (sym s) M.below;
+          within = omega (arith, M.same);
+          same = M.same;
+          kept = untouched ids places new used used place place (used + 1) O M w (omega arith) (omega arith) (omega arith);
+          order_is = ap (take (used + 1)) f0 ∙ take-insert (remove ids used) place id used w (omega arith) ∙ ap (λ zs. insert zs place id) k;
+        },
+        subst (Fresh id) k (fresh-take id (remove ids used) used (fresh-removed ids used id O.distinct u e0)),
+      )
+
+  -- the identity at a place becomes the first of the free ones
+  pub removed : place < length v.order → new ≡ insert (remove ids place) (used - 1) (get_or ids place 0)
+      → Reordered ids places new (remove v.order place) (used - 1) place used
+  removed h f =
+      let w = O.within in
+      let s = O.same in
+      let k : place < length ids = omega (arith, many) in
+      let M : Moved ids new place (used - 1) = moved ids new place (used - 1) (get_or ids place 0) O.distinct O.below k (omega (arith, many)) refl f in
+      let l : length (remove ids place) + 1 ≡ length ids = length-remove ids place k in
+      record {
+        distinct = M.distinct;
+        below = subst (λ (m : ℕ). AllBelow m new) (sym s) M.below;
+        within = omega (arith, M.same);
+        same = M.same;
+        kept = untouched ids places new used place (used - 1) place used O M (omega arith) (omega (arith, many)) (omega (arith, many)) (omega (arith, many));
+        order_is = ap (take (used - 1)) f ∙ take-inserted (remove ids place) (used - 1) (get_or ids place 0) (omega arith)
+            ∙ take-remove ids place used (omega (arith, many)) w ∙ ap (λ zs. remove zs place) order_is;
+      }
+
+-- an item that is put at an earlier or a later place, by a copy of those between
+carried : (xs ys : List ℕ) (from to : ℕ) (x : ℕ) → from < length xs → to < length xs → x ≡ get_or xs from 0 → length ys ≡ length xs
+    → ((p : ℕ) → (p ≡ to → ⊥) → p < length xs → get_or ys p 0 ≡ get_or (insert (remove xs from) to x) p 0) → set ys to x ≡ insert (remove xs from) to x
+carried xs ys from to x h k e l g =
+    let n : length (remove xs from) + 1 ≡ length xs = length-remove xs from h in
+    let m : length (insert (remove xs from) to x) ≡ suc (length (remove xs from)) = length-insert (remove xs from) to x in
+    ext_get_or 0 (set ys to x) (insert (remove xs from) to x) (length-set ys to x ∙ omega arith) (λ p q. at p (omega (arith, length-set ys to x)) (cases_eq p to))
   where
-    before : (xs : List ℕ) (i p : ℕ) → p < i → i < length xs → get_or (remove xs i ++ id ∷ []) p 0 ≡ get_or xs p 0
-    before [] i p q m = absurd (omega arith)
-    before (x ∷ xs) zero p q m = absurd (omega arith)
-    before (x ∷ xs) (suc i) zero q m = refl
-    before (x ∷ xs) (suc i) (suc p) q m = before xs i p (omega arith) (omega arith)
+    at : (p : ℕ) → p < length xs → (p ≡ to) ⊎ (p ≡ to → ⊥) → get_or (set ys to x) p 0 ≡ get_or (insert (remove xs from) to x) p 0
+    at p q (inl z) =
+        let n : length (remove xs from) + 1 ≡ length xs = length-remove xs from h in
+        ap (λ (j : ℕ). get_or (set ys to x) j 0) z ∙ get_or-set_same ys to x 0 (omega arith) ∙ sym (ap (λ (j : ℕ). get_or (insert (remove xs from) to x) j 0) z ∙ get_or-insert_at (remove xs from) to x 0 (omega arith))
+    at p q (inr d) = get_or-set_other ys to p x 0 d ∙ g p d q
+
+pub carried-up : (xs ys : List ℕ) (from to x : ℕ) → from < to → to < length xs → x ≡ get_or xs from 0 → length ys ≡ length xs
+    → CopiedTo xs ys (from + 1) from (to + 1 - (from + 1)) × SameBelow xs ys from × SameFrom xs ys (from + (to + 1 - (from + 1))) → set ys to x ≡ insert (remove xs from) to x
+carried-up xs ys from to x u k e l c = carried xs ys from to x (omega arith) k e l (λ p d q. by p d q (cases_lt p from) (cases_lt p to))
+  where
+    n : length (remove xs from) + 1 ≡ length xs
+    n = length-remove xs from (omega arith)
+
+    by : (p : ℕ) → (p ≡ to → ⊥) → p < length xs → (p < from) ⊎ (from ≤ p) → (p < to) ⊎ (to ≤ p) → get_or ys p 0 ≡ get_or (insert (remove xs from) to x) p 0
+    by p d q (inl a) b = c.1 p 0 a ∙ sym (get_or-insert_below (remove xs from) to x 0 p (omega arith) (omega (arith, n)) ∙ get_or-remove_below xs from 0 p a (omega arith))
+    by p d q (inr a) (inl b) =
+        let z : from + 1 + (p - from) ≡ p + 1 = omega arith in
+        c.0 p 0 a (omega arith) ∙ ap (λ (j : ℕ). get_or xs j 0) z ∙ sym (get_or-insert_below (remove xs from) to x 0 p b (omega (arith, n)) ∙ get_or-remove_above xs from 0 p a (omega arith))
+    by p d q (inr a) (inr b) =
+        let z : p ≡ (p - 1) + 1 = omega arith in
+        c.2 p 0 (omega arith) ∙ sym (ap (λ (j : ℕ). get_or (insert (remove xs from) to x) j 0) z ∙ get_or-insert_above (remove xs from) to x 0 (p - 1) (omega arith) (omega (arith, n))
+        ∙ get_or-remove_above xs from 0 (p - 1) (omega arith) (omega arith) ∙ ap (λ (j : ℕ). get_or xs j 0) (sym z))
+
+pub carried-down : (xs ys : List ℕ) (from to x : ℕ) → to ≤ from → from < length xs → x ≡ get_or xs from 0 → length ys ≡ length xs
+    → CopiedTo xs ys to (to + 1) (from - to) × SameBelow xs ys (to + 1) × SameFrom xs ys (to + 1 + (from - to)) → set ys to x ≡ insert (remove xs from) to x
+carried-down xs ys from to x u h e l c = carried xs ys from to x h (omega arith) e l (λ p d q. by p d q (cases_lt p to) (cases_lt from p))
+  where
+    n : length (remove xs from) + 1 ≡ length xs
+    n = length-remove xs from h
+
+    by : (p : ℕ) → (p ≡ to → ⊥) → p < length xs → (p < to) ⊎ (to ≤ p) → (from < p) ⊎ (p ≤ from) → get_or ys p 0 ≡ get_or (insert (remove xs from) to x) p 0
+    by p d q (inl a) b = c.1 p 0 (omega arith) ∙ sym (get_or-insert_below (remove xs from) to x 0 p a (omega (arith, n)) ∙ get_or-remove_below xs from 0 p (omega arith) h)
+    by p d q (inr a) (inr b) =
+        let z : to + (p - (to + 1)) ≡ p - 1 = omega arith in
+        let y : p ≡ (p - 1) + 1 = omega arith in
+        c.0 p 0 (omega arith) (omega arith) ∙ ap (λ (j : ℕ). get_or xs j 0) z
+        ∙ sym (ap (λ (j : ℕ). get_or (insert (remove xs from) to x) j 0) y ∙ get_or-insert_above (remove xs from) to x 0 (p - 1) (omega arith) (omega (arith, n))
+        ∙ get_or-remove_below xs from 0 (p - 1) (omega arith) h)
+    by p d q (inr a) (inl b) =
+        let y : p ≡ (p - 1) + 1 = omega arith in
+        c.2 p 0 (omega arith)
+        ∙ sym (ap (λ (j : ℕ). get_or (insert (remove xs from) to x) j 0) y ∙ get_or-insert_above (remove xs from) to x 0 (p - 1) (omega arith) (omega (arith, n))
+        ∙ get_or-remove_above xs from 0 (p - 1) (omega arith) h ∙ ap (λ (j : ℕ). get_or xs j 0) (sym y))
 
 -- one more free identity
 pub freed : (ids places ids' places' : List ℕ) (used : ℕ) → IsOrder ids places used → ids' ≡ ids ++ length ids ∷ [] → places' ≡ places ++ length ids ∷ [] → IsOrder ids' places' used
@@ -257,9 +326,6 @@ freed ids places ids' places' used O e f =
         let k : p < length ids = omega arith in
         let b = below-index (length ids) ids p O.below k in
         ap (λ j. get_or (places ++ length ids ∷ []) j 0) (left ids (length ids) p k) ∙ left places (length ids) (get_or ids p 0) (omega arith) ∙ O.inverse.at p k
-
-pub length-order : (ids order : List ℕ) (used : ℕ) → take used ids ≡ order → used ≤ length ids → length order ≡ used
-length-order ids order used t h = sym (ap length t) ∙ length-take-le used ids h
 
 -- what an inverse tells of the order
 pub told-place : (ids places order : List ℕ) (used id d : ℕ) → IsOrder ids places used → take used ids ≡ order → IsThere order id → id < length places × (get_or places id d ≡ place_of order id)

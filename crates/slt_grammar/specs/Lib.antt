@@ -3,6 +3,7 @@ pub mod Bodies
 pub mod Algebras
 pub mod Terms
 pub mod Grammars
+pub mod Digrams
 pub mod Editing
 pub mod Tours
 pub mod Segments

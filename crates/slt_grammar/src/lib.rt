@@ -3,8 +3,9 @@
 //! A grammar is a list of rules, each with a rank and a body; the last rule is the start. `Body` and `RuleList` hold what
 //! was not checked yet, `check` makes a `Grammar` of it, whose bodies lie in an arena; a `BodyWalk` goes over the labels of
 //! one. `bodies` scans a body, `counting` counts nodes and calls, `building` puts bodies into the arena. `laws` says what holds
-//! of what grammars mean; contracts see rules whose nodes carry their keys (`specs/Keyed.antt`), and
-//! `proofs/KeyedLemmas.antt` has their laws for the crates above.
+//! of what grammars mean; contracts see rules whose nodes carry their keys (`specs/Keyed.antt`), and `proofs/KeyedLemmas.antt`
+//! has their laws for the crates above. A `Digram` is two labels, one under the other; `specs/Digrams.antt` says where it occurs,
+//! and which grammars are settled.
 //!
 //! A grammar is changed by the calls of `editing` (one body), `wrap`, `share`, `add_rule` and `rule_edits`, and copied by that of
 //! `listing`. `order` keeps identities of rules, which nodes hold in place of the rules' places. What these calls do in the arena is in
@@ -21,6 +22,7 @@ mod collecting;
 mod copying;
 mod counting;
 mod detaching;
+mod digram;
 mod editing;
 mod fold;
 mod grammar;
@@ -43,6 +45,7 @@ mod wrap;
 
 pub use body_walk::BodyWalk;
 pub use checking::{GrammarError, check};
+pub use digram::Digram;
 pub use grammar::Grammar;
 pub use laws::{
     adding_keeps_meanings, inlining_keeps_meanings, shared_run_is_expanded_run, stands_for_one,

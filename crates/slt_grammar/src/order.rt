@@ -1,5 +1,5 @@
 // Rules under identities that stay while the rules are there.
-ghost use Rattle.std.specs.Prelude.{◌≡◌, ◌+◌, ◌<◌, ◌≤◌, ◌++◌, ◌∷◌, [], ℕ, IfOk, OnOk, OnErr, IsOk, length, slice_index, insert, remove};
+ghost use Rattle.std.specs.Prelude.{◌≡◌, ◌⊎◌, ◌+◌, ◌<◌, ◌≤◌, ◌++◌, ◌∷◌, [], ℕ, IfOk, OnOk, OnErr, IsOk, length, slice_index, insert, remove};
 ghost use Rattle.slt_grammar.specs.Placing.{IsKnown, placed_label};
 ghost use Rattle.slt_grammar.specs.Ordering.{Fresh, Distinct, Inverse, AllBelow, IsThere, place_of};
 
@@ -89,10 +89,10 @@ impl Order {
         ensures fresh { Fresh result self.old.order }
         ensures spare { self.new.spare + 1 ≡ self.old.spare }
     {
-        let id = self.ids.pop().unwrap();
-        self.ids.insert(place, id).unwrap();
+        let id = self.ids[self.used];
+        carry(&mut self.ids, self.used, place);
         self.used += 1;
-        renumber(&self.ids, &mut self.places, place);
+        renumber(&self.ids, &mut self.places, place, self.used);
         id
     }
 
@@ -102,10 +102,10 @@ impl Order {
         ensures order { self.new.order ≡ remove self.old.order place }
         ensures spare { self.new.spare ≡ self.old.spare + 1 }
     {
-        let id = self.ids.remove(place);
-        self.ids.push(id).unwrap();
+        let end = self.used;
         self.used -= 1;
-        renumber(&self.ids, &mut self.places, place);
+        carry(&mut self.ids, place, self.used);
+        renumber(&self.ids, &mut self.places, place, end);
     }
 }
 
@@ -121,15 +121,31 @@ fn add_free(ids: &mut Vec<usize>, places: &mut Vec<usize>) -> Result<(), AllocEr
     Ok(())
 }
 
-// Writes the places of the identities from one place on.
-fn renumber(ids: &Vec<usize>, places: &mut Vec<usize>, from: usize)
+// Puts an item at another place, those between being moved by one.
+fn carry(items: &mut Vec<usize>, from: usize, to: usize)
+    requires from { from < length items.old.items }
+    requires to { to < length items.old.items }
+    ensures { items.new.items ≡ insert (remove items.old.items from) to (slice_index items.old.items from) }
+{
+    let item = items[from];
+    if from < to {
+        items.copy_within(from + 1..to + 1, from);
+    } else {
+        items.copy_within(to..from, to + 1);
+    }
+    items[to] = item;
+}
+
+// Writes the places of the identities from one place up to another.
+fn renumber(ids: &Vec<usize>, places: &mut Vec<usize>, from: usize, to: usize)
     requires distinct { Distinct ids.now.items }
     requires below { AllBelow (length places.old.items) ids.now.items }
-    requires before { (p : ℕ) → p < from → p < length ids.now.items → slice_index places.old.items (slice_index ids.now.items p) ≡ p }
+    requires within { to ≤ length ids.now.items }
+    requires others { (p : ℕ) → (p < from) ⊎ (to ≤ p) → p < length ids.now.items → slice_index places.old.items (slice_index ids.now.items p) ≡ p }
     ensures inverse { Inverse ids.now.items places.new.items }
     ensures len { length places.new.items ≡ length places.old.items }
 {
-    for p in from..ids.len() {
+    for p in from..to {
         places[ids[p]] = p;
     }
 }

@@ -104,7 +104,7 @@ under-real ranks up c (Symbol f) o e = λ x. let z : Symbol f ≡ Param = x in c
 under-real ranks up c (Call q) o e = λ x. let z : Call q ≡ Param = x in cc
 under-real ranks up c Param o e = absurd (let z : None ≡ Some o = e in cc)
 
-real-under : (ranks : List ℕ) (up : Node) (c : ℕ) (l : Label) → l ≢ Param → occurrence_under ranks up c l ≡ Some (record { digram = record { upper = up.label; place = c; lower = l }; rank = joint_rank ranks up.label l; upper = up.key.number })
+pub real-under : (ranks : List ℕ) (up : Node) (c : ℕ) (l : Label) → l ≢ Param → occurrence_under ranks up c l ≡ Some (record { digram = record { upper = up.label; place = c; lower = l }; rank = joint_rank ranks up.label l; upper = up.key.number })
 real-under ranks up c Bottom h = refl
 real-under ranks up c (Symbol f) h = refl
 real-under ranks up c (Call q) h = refl

@@ -1,0 +1,224 @@
+-- Cells of an index, and rules that get other places.
+use Rattle.std.proofs.Common.{◌≡◌, ◌≢◌, ◌<◌, ◌≤◌, ◌+◌, ◌⊎◌, inl, inr, ℕ, zero, suc, List, [], ◌∷◌, map, length, get_or, Option, Some, None, Result, Ok, Err, OnOk, OnErr, refl, ap, sym, ◌∙◌, subst, arith}
+use Rattle.std.proofs.Common.{set, length-set, get_or-set_same, get_or-set_other}
+use Rattle.std.proofs.lemmas.Bool.{cases_lt, cases_eq}
+use Rattle.std.proofs.lemmas.List.{get_or_past}
+use Rattle.rule_arena.specs.declared.key.Key.{Key}
+use Rattle.slt_grammar.specs.Editing.{shifted, shifted_label}
+use Rattle.slt_grammar.specs.Names.{Call as CallLabel}
+use Rattle.digram_index.specs.declared.patterns.Mark.{Mark}
+use Rattle.digram_index.specs.declared.patterns.Mark.TheVariants.{Bottom, Symbol, Call, Param}
+use Rattle.digram_index.specs.declared.patterns.Pattern.{Pattern}
+use Rattle.slt_grammar.specs.declared.digram.Digram.{Digram}
+use Rattle.digram_index.specs.Numbers.{Numbering, place_of, IsGiven, unshifted}
+use Rattle.digram_index.specs.Spots.{Spot, Entered, spot_at}
+use Rattle.digram_index.specs.Digrams.{Cell}
+use Rattle.digram_index.specs.Linked.{label_of, IsKnown, digram_of, cell_of, AreKnown, AreNamed, no_key, shifted_cell, unshifted_label, unshifted_cell}
+
+pub cell-at : (ns : List ℕ) (ss : List (Option Spot)) (k : ℕ) → get_or (map (cell_of ns) ss) k None ≡ cell_of ns (get_or ss k None)
+cell-at ns [] k = refl
+cell-at ns (s ∷ ss) zero = refl
+cell-at ns (s ∷ ss) (suc k) = cell-at ns ss k
+
+pub on-ok : {A E : Type 0} (P Q : Type 0) (r : Result A E) → (P → Q) → OnOk r P → OnOk r Q
+on-ok P Q (Ok x) f p = f p
+on-ok P Q (Err e) f p = tt
+
+shifted-below : (place q n : ℕ) → q < n → shifted place q < n + 1
+shifted-below zero q n h = omega arith
+shifted-below (suc place) zero n h = omega arith
+shifted-below (suc place) (suc q) zero h = absurd (omega arith)
+shifted-below (suc place) (suc q) (suc n) h = let z = shifted-below place q n (omega arith) in omega arith
+
+unshifted-below : (place q n : ℕ) → q < n + 1 → place < n + 1 → q ≢ place → unshifted place q < n
+unshifted-below zero zero n h l e = absurd (e refl)
+unshifted-below zero (suc q) n h l e = omega arith
+unshifted-below (suc place) zero n h l e = omega arith
+unshifted-below (suc place) (suc q) zero h l e = absurd (omega arith)
+unshifted-below (suc place) (suc q) (suc n) h l e = let z = unshifted-below place q n (omega arith) (omega arith) (λ x. e (ap suc x)) in omega arith
+
+-- what putting a rule in says of the numbers
+abbrev pub Moves : List ℕ → List ℕ → ℕ → Type 0
+Moves old new place = (n : ℕ) → IsGiven old n → place_of new n ≡ shifted place (place_of old n)
+
+label-shifted : (ns ns' : List ℕ) (place : ℕ) (m : Mark) → Moves ns ns' place → IsKnown ns m → label_of ns' m ≡ shifted_label place (label_of ns m)
+label-shifted ns ns' place Bottom M K = refl
+label-shifted ns ns' place (Symbol f) M K = refl
+label-shifted ns ns' place (Call n) M K = ap CallLabel (M n K)
+label-shifted ns ns' place Param M K = refl
+
+known-shifted : (ns ns' : List ℕ) (place : ℕ) (m : Mark) → Moves ns ns' place → length ns' ≡ length ns + 1 → IsKnown ns m → IsKnown ns' m
+known-shifted ns ns' place Bottom M l K = tt
+known-shifted ns ns' place (Symbol f) M l K = tt
+known-shifted ns ns' place (Call n) M l K = let z = M n K in let s = shifted-below place (place_of ns n) (length ns) K in omega arith
+known-shifted ns ns' place Param M l K = tt
+
+pub knowns-shifted : (n n' : Numbering) (e : Entered) (place : ℕ) → AreKnown n e → length n'.numbers ≡ length n.numbers + 1 → Moves n.numbers n'.numbers place → AreKnown n' e
+knowns-shifted n n' e place K l M = record {
+  upper = λ k s h. known-shifted n.numbers n'.numbers place s.pattern.upper M l (K.upper k s h);
+  lower = λ k s h. known-shifted n.numbers n'.numbers place s.pattern.lower M l (K.lower k s h);
+  small = K.small;
+}
+
+pub knowns-same : (n n' : Numbering) (e : Entered) → AreKnown n e → n'.numbers ≡ n.numbers → AreKnown n' e
+knowns-same n n' e K q = record {
+  upper = λ k s h. subst (λ ns. IsKnown ns s.pattern.upper) (sym q) (K.upper k s h);
+  lower = λ k s h. subst (λ ns. IsKnown ns s.pattern.lower) (sym q) (K.lower k s h);
+  small = K.small;
+}
+
+pub knowns-inserted : {A E : Type 0} (r : Result A E) (n n' : Numbering) (e : Entered) (place : ℕ) → AreKnown n e
+    → OnOk r (length n'.numbers ≡ length n.numbers + 1) → OnOk r (Moves n.numbers n'.numbers place) → OnErr r (n'.numbers ≡ n.numbers) → AreKnown n' e
+knowns-inserted (Ok x) n n' e place K l M q = knowns-shifted n n' e place K l M
+knowns-inserted (Err x) n n' e place K l M q = knowns-same n n' e K q
+
+pub cell-shifted : (n n' : Numbering) (e : Entered) (place : ℕ) → AreKnown n e → Moves n.numbers n'.numbers place → (k : ℕ)
+    → get_or (map (cell_of n'.numbers) e.spots) k None ≡ shifted_cell place (get_or (map (cell_of n.numbers) e.spots) k None)
+cell-shifted n n' e place K M k =
+    cell-at n'.numbers e.spots k ∙ at (spot_at e k) refl ∙ ap (shifted_cell place) (sym (cell-at n.numbers e.spots k))
+  where
+    at : (o : Option Spot) → spot_at e k ≡ o → cell_of n'.numbers (spot_at e k) ≡ shifted_cell place (cell_of n.numbers (spot_at e k))
+    at None x = ap (cell_of n'.numbers) x ∙ ap (λ (o : Option Spot). shifted_cell place (cell_of n.numbers o)) (sym x)
+    at (Some s) x =
+        let u = label-shifted n.numbers n'.numbers place s.pattern.upper M (K.upper k s x) in
+        let l = label-shifted n.numbers n'.numbers place s.pattern.lower M (K.lower k s x) in
+        ap (cell_of n'.numbers) x ∙ (rw (u, l) refl) ∙ ap (λ (o : Option Spot). shifted_cell place (cell_of n.numbers o)) (sym x)
+
+-- what taking a rule out says of the numbers
+abbrev pub Drops : List ℕ → List ℕ → ℕ → Type 0
+Drops old new place = (n : ℕ) → IsGiven old n → place_of old n ≢ place → place_of new n ≡ unshifted place (place_of old n)
+
+label-unshifted : (ns ns' : List ℕ) (place : ℕ) (m : Mark) → Drops ns ns' place → IsKnown ns m → label_of ns m ≢ CallLabel place → label_of ns' m ≡ unshifted_label place (label_of ns m)
+label-unshifted ns ns' place Bottom M K n = refl
+label-unshifted ns ns' place (Symbol f) M K n = refl
+label-unshifted ns ns' place (Call q) M K n = ap CallLabel (M q K (λ e. n (ap CallLabel e)))
+label-unshifted ns ns' place Param M K n = refl
+
+known-unshifted : (ns ns' : List ℕ) (place : ℕ) (m : Mark) → Drops ns ns' place → place < length ns → length ns' + 1 ≡ length ns → IsKnown ns m → label_of ns m ≢ CallLabel place → IsKnown ns' m
+known-unshifted ns ns' place Bottom M h l K n = tt
+known-unshifted ns ns' place (Symbol f) M h l K n = tt
+known-unshifted ns ns' place (Call q) M h l K n =
+    let z = M q K (λ e. n (ap CallLabel e)) in
+    let s = unshifted-below place (place_of ns q) (length ns') (omega arith) (omega arith) (λ e. n (ap CallLabel e)) in
+    omega arith
+known-unshifted ns ns' place Param M h l K n = tt
+
+-- the cell of an occurrence
+pub cell-spot : (n : Numbering) (e : Entered) (k : ℕ) (s : Spot) → spot_at e k ≡ Some s → get_or (map (cell_of n.numbers) e.spots) k None ≡ Some (record { digram = digram_of n.numbers s.pattern; rank = s.pattern.rank; upper = s.upper })
+cell-spot n e k s h = cell-at n.numbers e.spots k ∙ ap (cell_of n.numbers) h
+
+-- no digram in these cells has a call of the rule
+abbrev pub NoCalls : List (Option Cell) → ℕ → Type 0
+NoCalls cs place = (k : ℕ) (o : Cell) → get_or cs k None ≡ Some o → (o.digram.upper ≢ CallLabel place) × (o.digram.lower ≢ CallLabel place)
+
+pub knowns-dropped : (n n' : Numbering) (e : Entered) (place : ℕ) → AreKnown n e → place < length n.numbers → length n'.numbers + 1 ≡ length n.numbers → Drops n.numbers n'.numbers place → NoCalls (map (cell_of n.numbers) e.spots) place → AreKnown n' e
+knowns-dropped n n' e place K h l M L = record {
+  upper = λ k s x. known-unshifted n.numbers n'.numbers place s.pattern.upper M h l (K.upper k s x) (L k _ (cell-spot n e k s x)).0;
+  lower = λ k s x. known-unshifted n.numbers n'.numbers place s.pattern.lower M h l (K.lower k s x) (L k _ (cell-spot n e k s x)).1;
+  small = K.small;
+}
+
+pub cell-unshifted : (n n' : Numbering) (e : Entered) (place : ℕ) → AreKnown n e → Drops n.numbers n'.numbers place → NoCalls (map (cell_of n.numbers) e.spots) place → (k : ℕ)
+    → get_or (map (cell_of n'.numbers) e.spots) k None ≡ unshifted_cell place (get_or (map (cell_of n.numbers) e.spots) k None)
+cell-unshifted n n' e place K M L k =
+    cell-at n'.numbers e.spots k ∙ at (spot_at e k) refl ∙ ap (unshifted_cell place) (sym (cell-at n.numbers e.spots k))
+  where
+    at : (o : Option Spot) → spot_at e k ≡ o → cell_of n'.numbers (spot_at e k) ≡ unshifted_cell place (cell_of n.numbers (spot_at e k))
+    at None x = ap (cell_of n'.numbers) x ∙ ap (λ (o : Option Spot). unshifted_cell place (cell_of n.numbers o)) (sym x)
+    at (Some s) x =
+        let N = L k (record { digram = digram_of n.numbers s.pattern; rank = s.pattern.rank; upper = s.upper }) (cell-spot n e k s x) in
+        let u = label-unshifted n.numbers n'.numbers place s.pattern.upper M (K.upper k s x) N.0 in
+        let l = label-unshifted n.numbers n'.numbers place s.pattern.lower M (K.lower k s x) N.1 in
+        ap (cell_of n'.numbers) x ∙ (rw (u, l) refl) ∙ ap (λ (o : Option Spot). unshifted_cell place (cell_of n.numbers o)) (sym x)
+
+-- a key that stands at its number is there
+named-within : (keys : List Key) (k : ℕ) → (get_or keys k (no_key k)).number ≡ k → k < length keys
+named-within keys k e = at (cases_lt k (length keys))
+  where
+    at : (k < length keys) ⊎ (length keys ≤ k) → k < length keys
+    at (inl h) = h
+    at (inr h) = absurd (let z = ap (λ (x : Key). x.number) (get_or_past keys k (no_key k) h) in omega arith)
+
+-- more room changes no occurrence
+pub knowns-spots : (n n' : Numbering) (e e' : Entered) → AreKnown n e → ((k : ℕ) → spot_at e' k ≡ spot_at e k) → n'.numbers ≡ n.numbers → AreKnown n' e'
+knowns-spots n n' e e' K q m = record {
+  upper = λ k s h. subst (λ ns. IsKnown ns s.pattern.upper) (sym m) (K.upper k s (sym (q k) ∙ h));
+  lower = λ k s h. subst (λ ns. IsKnown ns s.pattern.lower) (sym m) (K.lower k s (sym (q k) ∙ h));
+  small = λ k s h. K.small k s (sym (q k) ∙ h);
+}
+
+pub named-grown : (e e' : Entered) (keys keys' : List Key) → AreNamed e keys → ((k : ℕ) → spot_at e' k ≡ spot_at e k) → ((k : ℕ) (d : Key) → k < length keys → get_or keys' k d ≡ get_or keys k d) → length e'.spots ≤ length keys' → AreNamed e' keys'
+named-grown e e' keys keys' N q kept l = record {
+  named = λ k s h. let z = N.named k s (sym (q k) ∙ h) in ap (λ (x : Key). x.number) (kept k (no_key k) (named-within keys k z)) ∙ z;
+  room = l;
+}
+
+pub by-result : {X E : Type 0} (A B : Type 0) (r : Result X E) → OnOk r A → OnErr r B → A ⊎ B
+by-result A B (Ok x) a b = inl a
+by-result A B (Err x) a b = inr b
+
+-- one occurrence more, or none more
+pub knowns-added : (n : Numbering) (e e' : Entered) (j u : ℕ) (p : Pattern) → AreKnown n e → (spot_at e' j ≡ Some (record { pattern = p; upper = u })) ⊎ (spot_at e' j ≡ None) → ((k : ℕ) → k ≢ j → spot_at e' k ≡ spot_at e k)
+    → IsKnown n.numbers p.upper → IsKnown n.numbers p.lower → p.rank < 16 → AreKnown n e'
+knowns-added n e e' j u p K here others ku kl kr = record {
+  upper = λ k s h. (all k s h (cases_eq k j)).0;
+  lower = λ k s h. (all k s h (cases_eq k j)).1;
+  small = λ k s h. (all k s h (cases_eq k j)).2;
+}
+  where
+    new : (k : ℕ) (s : Spot) → spot_at e' k ≡ Some s → k ≡ j → (spot_at e' j ≡ Some (record { pattern = p; upper = u })) ⊎ (spot_at e' j ≡ None) → s.pattern ≡ p
+    new k s h x (inl y) = ap (λ (t : Spot). t.pattern) (same-spot s (record { pattern = p; upper = u }) (sym h ∙ ap (spot_at e') x ∙ y))
+      where
+        same-spot : (a b : Spot) → Some a ≡ Some b → a ≡ b
+        same-spot a b q = cc
+    new k s h x (inr y) = absurd (let z : None ≡ Some s = sym y ∙ ap (spot_at e') (sym x) ∙ h in cc)
+
+    all : (k : ℕ) (s : Spot) → spot_at e' k ≡ Some s → (k ≡ j) ⊎ (k ≡ j → ⊥) → IsKnown n.numbers s.pattern.upper × IsKnown n.numbers s.pattern.lower × (s.pattern.rank < 16)
+    all k s h (inl x) =
+        let q = new k s h x here in
+        (subst (λ (r : Pattern). IsKnown n.numbers r.upper) (sym q) ku, subst (λ (r : Pattern). IsKnown n.numbers r.lower) (sym q) kl, subst (λ (r : Pattern). r.rank < 16) (sym q) kr)
+    all k s h (inr x) = let o = sym (others k x) ∙ h in (K.upper k s o, K.lower k s o, K.small k s o)
+
+pub named-added : (e e' : Entered) (keys : List Key) (j : ℕ) (key : Key) → AreNamed e keys → j ≡ key.number → j < length e.spots → length e'.spots ≡ length e.spots → ((k : ℕ) → k ≢ j → spot_at e' k ≡ spot_at e k) → AreNamed e' (set keys j key)
+named-added e e' keys j key N q h l others = record {
+  named = λ k s x. at k s x (cases_eq k j);
+  room = let r = N.room in let z = length-set keys j key in omega arith;
+}
+  where
+    at : (k : ℕ) (s : Spot) → spot_at e' k ≡ Some s → (k ≡ j) ⊎ (k ≡ j → ⊥) → (get_or (set keys j key) k (no_key k)).number ≡ k
+    at k s x (inl z) =
+        let g = get_or-set_same keys j key (no_key k) (let r = N.room in omega arith) in
+        ap (λ i. (get_or (set keys j key) i (no_key k)).number) z ∙ ap (λ (m : Key). m.number) g ∙ sym q ∙ sym z
+    at k s x (inr z) = ap (λ (m : Key). m.number) (get_or-set_other keys j k key (no_key k) z) ∙ N.named k s (sym (others k z) ∙ x)
+
+-- a key that is read at a linked number
+pub named-read : (keys : List Key) (k : ℕ) (key : Key) → (get_or keys k (no_key k)).number ≡ k → key ≡ get_or keys k key → key.number ≡ k
+named-read keys k key e x = ap (λ (m : Key). m.number) (x ∙ any keys k key (no_key k) (named-within keys k e)) ∙ e
+  where
+    any : (xs : List Key) (k : ℕ) (a b : Key) → k < length xs → get_or xs k a ≡ get_or xs k b
+    any [] k a b h = absurd (omega arith)
+    any (x ∷ xs) zero a b h = refl
+    any (x ∷ xs) (suc k) a b h = any xs k a b (omega arith)
+
+-- the linked occurrence of a spot
+pub spot-linked : (n : Numbering) (e : Entered) (keys : List Key) (k : ℕ) (key : Key) (u : ℕ) (p : Pattern) (d : Digram) → AreNamed e keys → spot_at e k ≡ Some (record { pattern = p; upper = u }) → key ≡ get_or keys k key → digram_of n.numbers p ≡ d
+    → (o : Cell) × ((get_or (map (cell_of n.numbers) e.spots) key.number None ≡ Some o) × (o.digram ≡ d))
+spot-linked n e keys k key u p d N s x q =
+    let z = named-read keys k key (N.named k (record { pattern = p; upper = u }) s) x in (
+      record { digram = digram_of n.numbers p; rank = p.rank; upper = u },
+      (ap (λ j. get_or (map (cell_of n.numbers) e.spots) j None) z ∙ cell-spot n e k (record { pattern = p; upper = u }) s, q),
+    )
+
+-- a digram that no known pattern has is in no cell
+pub unknown-nowhere : (n : Numbering) (e : Entered) (d : Digram) → AreKnown n e → ((p : Pattern) → IsKnown n.numbers p.upper → IsKnown n.numbers p.lower → digram_of n.numbers p ≢ d)
+    → (k : ℕ) (o : Cell) → get_or (map (cell_of n.numbers) e.spots) k None ≡ Some o → o.digram ≢ d
+unknown-nowhere n e d K none k o c x = at (spot_at e k) refl
+  where
+    at : (t : Option Spot) → spot_at e k ≡ t → ⊥
+    at None y = let z : None ≡ Some o = sym (cell-at n.numbers e.spots k ∙ ap (cell_of n.numbers) y) ∙ c in cc
+    at (Some s) y =
+        let z : Some (record { digram = digram_of n.numbers s.pattern; rank = s.pattern.rank; upper = s.upper }) ≡ Some o = sym (cell-spot n e k s y) ∙ c in
+        none s.pattern (K.upper k s y) (K.lower k s y) (ap (λ (a : Cell). a.digram) (same (record { digram = digram_of n.numbers s.pattern; rank = s.pattern.rank; upper = s.upper }) o z) ∙ x)
+      where
+        same : (a b : Cell) → Some a ≡ Some b → a ≡ b
+        same a b q = cc

@@ -1,0 +1,323 @@
+-- What the best entry says of the grammar.
+use Rattle.std.proofs.Common.{◌≡◌, ◌≢◌, ◌<◌, ◌≤◌, ◌⊎◌, inl, inr, ℕ, suc, List, [], ◌∷◌, map, get_or, Option, Some, None, Bool, true, false, refl, ap, sym, ◌∙◌, subst, arith}
+use Rattle.std.proofs.lemmas.Bool.{cases_lt}
+use Rattle.rule_arena.specs.declared.key.Key.{Key}
+use Rattle.rule_arena.specs.declared.label.Label.{Label}
+use Rattle.slt_grammar.specs.Names.{Bottom as BottomLabel, Symbol as SymbolLabel, Call as CallLabel, Param as ParamLabel}
+use Rattle.slt_grammar.specs.Algebras.{ranks_of}
+use Rattle.slt_grammar.specs.Keyed.{Keyed, IsKeyed, rules_of, key_at}
+use Rattle.slt_grammar.specs.declared.digram.Digram.{Digram}
+use Rattle.digram_index.specs.declared.patterns.Mark.{Mark}
+use Rattle.digram_index.specs.declared.patterns.Mark.TheVariants.{Bottom, Symbol, Call, Param}
+use Rattle.digram_index.specs.declared.patterns.Pattern.{Pattern}
+use Rattle.digram_index.specs.Numbers.{Numbering, place_of}
+use Rattle.digram_index.specs.Grouped.{IsAmong, AreDifferent, named_count}
+use Rattle.digram_index.specs.Spots.{Spot, Entered, spot_at, upper_from, upper_in, AreApart, IsSpotOf, AreThreeSpots, HasMembers, IsOften}
+use Rattle.digram_index.specs.Digrams.{Cell, joint_rank, occurrence_at}
+use Rattle.digram_index.specs.Linked.{Linked, IsIndexOf, label_of, IsKnown, digram_of, cell_of, AreKnown}
+use Rattle.digram_index.specs.Settled.{NodePair, OccursBetween, PairsShareNone, HasThreeApart, IsWithin}
+use Rattle.digram_index.proofs.NumberLemmas.{number-back}
+use Rattle.digram_index.proofs.SpotLemmas.{mark_cases, some-among}
+use Rattle.digram_index.proofs.CellLemmas.{cell-at}
+use Rattle.digram_index.proofs.LevelLemmas.{same_some}
+use Rattle.digram_index.proofs.Apartness.{stands, Stood, depth, odd, even-apart, differ-apart, occurs, three-of, Side, Sides, sides}
+
+pub call-same : (a b : ℕ) → CallLabel a ≡ CallLabel b → a ≡ b
+call-same a b e = cc
+
+pub label-injective : (ns : List ℕ) (a b : Mark) → IsKnown ns a → IsKnown ns b → label_of ns a ≡ label_of ns b → a ≡ b
+label-injective ns Bottom Bottom ka kb e = refl
+label-injective ns Bottom (Symbol g) ka kb e = absurd (let z : BottomLabel ≡ SymbolLabel g = e in cc)
+label-injective ns Bottom (Call m) ka kb e = absurd (let z : BottomLabel ≡ CallLabel (place_of ns m) = e in cc)
+label-injective ns Bottom Param ka kb e = absurd (let z : BottomLabel ≡ ParamLabel = e in cc)
+label-injective ns (Symbol f) Bottom ka kb e = absurd (let z : SymbolLabel f ≡ BottomLabel = e in cc)
+label-injective ns (Symbol f) (Symbol g) ka kb e = let z : SymbolLabel f ≡ SymbolLabel g = e in let w : f ≡ g = cc in ap Symbol w
+label-injective ns (Symbol f) (Call m) ka kb e = absurd (let z : SymbolLabel f ≡ CallLabel (place_of ns m) = e in cc)
+label-injective ns (Symbol f) Param ka kb e = absurd (let z : SymbolLabel f ≡ ParamLabel = e in cc)
+label-injective ns (Call n) Bottom ka kb e = absurd (let z : CallLabel (place_of ns n) ≡ BottomLabel = e in cc)
+label-injective ns (Call n) (Symbol g) ka kb e = absurd (let z : CallLabel (place_of ns n) ≡ SymbolLabel g = e in cc)
+label-injective ns (Call n) (Call m) ka kb e = ap Call (sym (number-back ns n ka) ∙ ap (λ p. get_or ns p 0) (call-same (place_of ns n) (place_of ns m) e) ∙ number-back ns m kb)
+label-injective ns (Call n) Param ka kb e = absurd (let z : CallLabel (place_of ns n) ≡ ParamLabel = e in cc)
+label-injective ns Param Bottom ka kb e = absurd (let z : ParamLabel ≡ BottomLabel = e in cc)
+label-injective ns Param (Symbol g) ka kb e = absurd (let z : ParamLabel ≡ SymbolLabel g = e in cc)
+label-injective ns Param (Call m) ka kb e = absurd (let z : ParamLabel ≡ CallLabel (place_of ns m) = e in cc)
+label-injective ns Param Param ka kb e = refl
+
+-- the cells of an index of a grammar
+pub record AreCells (g : Keyed) (n : Numbering) (e : Entered) : Type 0 where
+  pub all : (r p : ℕ) (key : Key) → key_at g.rules r p ≡ Some key → get_or (map (cell_of n.numbers) e.spots) key.number None ≡ occurrence_at g.rules r p
+  pub only : (k : ℕ) → get_or (map (cell_of n.numbers) e.spots) k None ≢ None → (key : Key) × ((r : ℕ) × ((p : ℕ) × ((key_at g.rules r p ≡ Some key) × (key.number ≡ k))))
+
+module _ (g : Keyed) (K : IsKeyed g) (n : Numbering) (e : Entered) (N : AreKnown n e) (C : AreCells g n e) where
+  abbrev pub pair : ℕ → NodePair
+  pair k = record { low = k; high = upper_in e.spots k }
+
+  -- an occurrence of a pattern in the grammar
+  pub record Member (p : Pattern) (k : ℕ) : Type 0 where
+    pub stood : Stood g.rules (digram_of n.numbers p) (pair k)
+    pub here : occurrence_at g.rules stood.rule stood.place ≡ Some stood.occurrence
+    pub rank : stood.occurrence.rank ≡ p.rank
+    pub upper : IsKnown n.numbers p.upper
+    pub lower : IsKnown n.numbers p.lower
+
+  member : (p : Pattern) (k : ℕ) → IsSpotOf e.spots p k → Member p k
+  member p k s =
+      let o : Cell = record { digram = digram_of n.numbers p; rank = p.rank; upper = s.0 } in
+      let c : get_or (map (cell_of n.numbers) e.spots) k None ≡ Some o = cell-at n.numbers e.spots k ∙ ap (cell_of n.numbers) s.1 in
+      let w = C.only k (λ z. let x : Some o ≡ None = sym c ∙ z in cc) in
+      let key = w.0 in
+      let r = w.1.0 in
+      let q = w.1.1.0 in
+      let h : occurrence_at g.rules r q ≡ Some o = sym (C.all r q key w.1.1.1.0) ∙ ap (λ j. get_or (map (cell_of n.numbers) e.spots) j None) w.1.1.1.1 ∙ c in
+      record {
+        stood = record { rule = r; place = q; key = key; occurrence = o; key_at = w.1.1.1.0; at = stands g.rules r q key o w.1.1.1.0 h; low = w.1.1.1.1; high = ap upper_from (sym s.1); digram = refl };
+        here = h;
+        rank = refl;
+        upper = N.upper k (record { pattern = p; upper = s.0 }) s.1;
+        lower = N.lower k (record { pattern = p; upper = s.0 }) s.1;
+      }
+
+  three : (p : Pattern) (a b c : ℕ) → Member p a → Member p b → Member p c → PairsShareNone (pair a) (pair b) → PairsShareNone (pair a) (pair c) → PairsShareNone (pair b) (pair c) → HasThreeApart g.rules (digram_of n.numbers p)
+  three p a b c A B D x y z = record {
+    first = pair a;
+    second = pair b;
+    third = pair c;
+    a = occurs g K (digram_of n.numbers p) (pair a) A.stood A.here;
+    b = occurs g K (digram_of n.numbers p) (pair b) B.stood B.here;
+    c = occurs g K (digram_of n.numbers p) (pair c) D.stood D.here;
+    ab = x;
+    ac = y;
+    bc = z;
+  }
+
+  share : (a b : ℕ) → AreApart (upper_in e.spots) a b → PairsShareNone (pair a) (pair b)
+  share a b A = record { lows = A.lows; highs = A.highs; down = A.down; back = A.back }
+
+  -- a member with its parity
+  abbrev pub Even : Pattern → ℕ → Bool → Type 0
+  Even p k b = (M : Member p k) × (odd g K (depth g K (digram_of n.numbers p) (pair k) M.stood) ≡ b)
+
+  from-side : (p : Pattern) (ks : List (Option ℕ)) (b : Bool) (S : Side ks (Even p) b) → 3 ≤ named_count S.items → HasThreeApart g.rules (digram_of n.numbers p)
+  from-side p ks b S h =
+      let T = three-of S.items S.different h in
+      let a = S.facts T.0 T.1.1.1.first in
+      let c = S.facts T.1.0 T.1.1.1.second in
+      let d = S.facts T.1.1.0 T.1.1.1.third in
+      let even = even-apart g K (digram_of n.numbers p) in
+      three p T.0 T.1.0 T.1.1.0 a.0 c.0 d.0
+      (even (pair T.0) (pair T.1.0) a.0.stood c.0.stood T.1.1.1.ab (a.1 ∙ sym c.1))
+      (even (pair T.0) (pair T.1.1.0) a.0.stood d.0.stood T.1.1.1.ac (a.1 ∙ sym d.1))
+      (even (pair T.1.0) (pair T.1.1.0) c.0.stood d.0.stood T.1.1.1.bc (c.1 ∙ sym d.1))
+
+  -- of five occurrences three stand at depths of one parity, and share no node
+  five : (p : Pattern) → HasMembers e.spots p 5 → HasThreeApart g.rules (digram_of n.numbers p)
+  five p H = at (sides H.0 (Even p) H.1.0.different (λ k i. let M = member p k (H.1.0.members k i) in (odd g K (depth g K (digram_of n.numbers p) (pair k) M.stood), (M, refl))))
+    where
+      at : Sides H.0 (Even p) → HasThreeApart g.rules (digram_of n.numbers p)
+      at S = by (cases_lt (named_count S.yes.items) 3)
+        where
+          by : (named_count S.yes.items < 3) ⊎ (3 ≤ named_count S.yes.items) → HasThreeApart g.rules (digram_of n.numbers p)
+          by (inl x) = from-side p H.0 false S.no_ (let c = S.counts in let h = H.1.1 in omega arith)
+          by (inr x) = from-side p H.0 true S.yes x
+
+  differing : (p : Pattern) → p.upper ≢ p.lower → HasMembers e.spots p 3 → HasThreeApart g.rules (digram_of n.numbers p)
+  differing p x H =
+      let T = three-of H.0 H.1.0.different H.1.1 in
+      let a = member p T.0 (H.1.0.members T.0 T.1.1.1.first) in
+      let c = member p T.1.0 (H.1.0.members T.1.0 T.1.1.1.second) in
+      let d = member p T.1.1.0 (H.1.0.members T.1.1.0 T.1.1.1.third) in
+      let l : (digram_of n.numbers p).upper ≢ (digram_of n.numbers p).lower = λ z. x (label-injective n.numbers p.upper p.lower a.upper a.lower z) in
+      let apart = differ-apart g K (digram_of n.numbers p) in
+      three p T.0 T.1.0 T.1.1.0 a c d
+      (apart (pair T.0) (pair T.1.0) a.stood c.stood T.1.1.1.ab l)
+      (apart (pair T.0) (pair T.1.1.0) a.stood d.stood T.1.1.1.ac l)
+      (apart (pair T.1.0) (pair T.1.1.0) c.stood d.stood T.1.1.1.bc l)
+
+  same-spots : (p : Pattern) → (a : ℕ) × ((b : ℕ) × ((c : ℕ) × AreThreeSpots e.spots p a b c)) → HasThreeApart g.rules (digram_of n.numbers p)
+  same-spots p (a, (b, (c, T))) = three p a b c (member p a T.first) (member p b T.second) (member p c T.third) (share a b T.ab) (share a c T.ac) (share b c T.bc)
+
+  -- a pattern that is often has three occurrences that share no node
+  pub often-apart : (p : Pattern) → IsOften p e.spots → HasThreeApart g.rules (digram_of n.numbers p)
+  often-apart p O = at (mark_cases p.upper p.lower)
+    where
+      equal : HasMembers e.spots p 5 ⊎ ((a : ℕ) × ((b : ℕ) × ((c : ℕ) × AreThreeSpots e.spots p a b c))) → HasThreeApart g.rules (digram_of n.numbers p)
+      equal (inl H) = five p H
+      equal (inr T) = same-spots p T
+
+      at : (p.upper ≡ p.lower) ⊎ (p.upper ≢ p.lower) → HasThreeApart g.rules (digram_of n.numbers p)
+      at (inl q) = equal (O.1 q)
+      at (inr q) = differing p q (O.0 q)
+
+  -- one member of a pattern that is often
+  pub often-member : (p : Pattern) → IsOften p e.spots → (k : ℕ) × Member p k
+  often-member p O = at (mark_cases p.upper p.lower)
+    where
+      one : (m : ℕ) → HasMembers e.spots p (suc m) → (k : ℕ) × Member p k
+      one m H = let i = some-among H.0 (let h = H.1.1 in omega arith) in (i.0, member p i.0 (H.1.0.members i.0 i.1))
+
+      equal : HasMembers e.spots p 5 ⊎ ((a : ℕ) × ((b : ℕ) × ((c : ℕ) × AreThreeSpots e.spots p a b c))) → (k : ℕ) × Member p k
+      equal (inl H) = one 4 H
+      equal (inr T) = (T.0, member p T.0 T.1.1.1.first)
+
+      at : (p.upper ≡ p.lower) ⊎ (p.upper ≢ p.lower) → (k : ℕ) × Member p k
+      at (inl q) = equal (O.1 q)
+      at (inr q) = one 2 (O.0 q)
+
+  pub often-within : (p : Pattern) (bound : ℕ) → p.rank ≤ bound → IsOften p e.spots → IsWithin g.rules bound (digram_of n.numbers p)
+  often-within p bound h O =
+      let M = (often-member p O).1 in
+      let r = M.stood.at.rank in
+      let q = M.rank in
+      let d = ap (λ (x : Digram). joint_rank (ranks_of (rules_of g.rules)) x.upper x.lower) M.stood.digram in
+      omega arith
+
+  -- what the index has of an occurrence
+  record Found (d : Digram) (m : NodePair) : Type 0 where
+    pub spot : Spot
+    pub at : spot_at e m.low ≡ Some spot
+    pub digram : digram_of n.numbers spot.pattern ≡ d
+    pub rank : spot.pattern.rank ≡ joint_rank (ranks_of (rules_of g.rules)) d.upper d.lower
+    pub upper : spot.upper ≡ m.high
+
+  found : (d : Digram) (m : NodePair) → OccursBetween g.rules d m → Found d m
+  found d m O = at (spot_at e m.low) refl
+    where
+      c : get_or (map (cell_of n.numbers) e.spots) m.low None ≡ Some O.occurrence
+      c = ap (λ k. get_or (map (cell_of n.numbers) e.spots) k None) (sym O.low) ∙ C.all O.at.rule O.at.place O.key O.at.there ∙ O.at.here
+
+      at : (o : Option Spot) → spot_at e m.low ≡ o → Found d m
+      at None x = absurd (let z : None ≡ Some O.occurrence = sym (cell-at n.numbers e.spots m.low ∙ ap (cell_of n.numbers) x) ∙ c in cc)
+      at (Some s) x =
+          let o : Cell = record { digram = digram_of n.numbers s.pattern; rank = s.pattern.rank; upper = s.upper } in
+          let z : Some o ≡ Some O.occurrence = sym (cell-at n.numbers e.spots m.low ∙ ap (cell_of n.numbers) x) ∙ c in
+          let y = same_some o O.occurrence z in
+          let S = stands g.rules O.at.rule O.at.place O.key O.occurrence O.at.there O.at.here in
+          record {
+            spot = s;
+            at = x;
+            digram = ap (λ (v : Cell). v.digram) y ∙ O.digram;
+            rank = ap (λ (v : Cell). v.rank) y ∙ S.rank ∙ ap (λ (v : Digram). joint_rank (ranks_of (rules_of g.rules)) v.upper v.lower) O.digram;
+            upper = ap (λ (v : Cell). v.upper) y ∙ O.high;
+          }
+
+  pattern-same : (d : Digram) (a b : NodePair) (A : Found d a) (B : Found d b) → B.spot.pattern ≡ A.spot.pattern
+  pattern-same d a b A B =
+      let z = B.digram ∙ sym A.digram in
+      let u = label-injective n.numbers B.spot.pattern.upper A.spot.pattern.upper (N.upper b.low B.spot B.at) (N.upper a.low A.spot A.at) (ap (λ (v : Digram). v.upper) z) in
+      let l = label-injective n.numbers B.spot.pattern.lower A.spot.pattern.lower (N.lower b.low B.spot B.at) (N.lower a.low A.spot A.at) (ap (λ (v : Digram). v.lower) z) in
+      let p : B.spot.pattern.place ≡ A.spot.pattern.place = ap (λ (v : Digram). v.place) z in
+      let r : B.spot.pattern.rank ≡ A.spot.pattern.rank = B.rank ∙ sym A.rank in
+      fields B.spot.pattern A.spot.pattern u p l r
+    where
+      fields : (x y : Pattern) → x.upper ≡ y.upper → x.place ≡ y.place → x.lower ≡ y.lower → x.rank ≡ y.rank → x ≡ y
+      fields x y u p l r =
+          ap (λ (m : Mark). record { upper = m; place = x.place; lower = x.lower; rank = x.rank }) u
+          ∙ ap (λ (c : ℕ). record { upper = y.upper; place = c; lower = x.lower; rank = x.rank }) p
+          ∙ ap (λ (m : Mark). record { upper = y.upper; place = y.place; lower = m; rank = x.rank }) l
+          ∙ ap (λ (c : ℕ). record { upper = y.upper; place = y.place; lower = y.lower; rank = c }) r
+
+  spot-of : (d : Digram) (a b : NodePair) (A : Found d a) (B : Found d b) → IsSpotOf e.spots A.spot.pattern b.low
+  spot-of d a b A B = (B.spot.upper, B.at ∙ ap (λ (p : Pattern). Some (record { pattern = p; upper = B.spot.upper })) (pattern-same d a b A B))
+
+  unshare : (d : Digram) (a b : NodePair) (A : Found d a) (B : Found d b) → PairsShareNone a b → AreApart (upper_in e.spots) a.low b.low
+  unshare d a b A B X =
+      let ua : upper_in e.spots a.low ≡ a.high = ap upper_from A.at ∙ A.upper in
+      let ub : upper_in e.spots b.low ≡ b.high = ap upper_from B.at ∙ B.upper in
+      record {
+        lows = X.lows;
+        highs = λ z. X.highs (sym ua ∙ z ∙ ub);
+        down = λ z. X.down (z ∙ ub);
+        back = λ z. X.back (sym ua ∙ z);
+      }
+
+  -- a digram with three occurrences that share no node has a pattern that is often
+  pub apart-often : (d : Digram) (bound : ℕ) → IsWithin g.rules bound d → HasThreeApart g.rules d → (p : Pattern) × ((p.rank ≤ bound) × IsOften p e.spots)
+  apart-often d bound w H =
+      let A = found d H.first H.a in
+      let B = found d H.second H.b in
+      let D = found d H.third H.c in
+      let p = A.spot.pattern in
+      let a = spot-of d H.first H.first A A in
+      let b = spot-of d H.first H.second A B in
+      let c = spot-of d H.first H.third A D in
+      let ks : List (Option ℕ) = Some H.first.low ∷ Some H.second.low ∷ Some H.third.low ∷ [] in (
+        p,
+        (
+          let r = A.rank in omega arith,
+          (
+            λ _. (ks, (record { different = different; members = λ k i. members k a b c i }, omega arith)),
+            λ _. inr (
+              H.first.low,
+              (
+                H.second.low,
+                (
+                  H.third.low,
+                  record {
+                    first = a;
+                    second = b;
+                    third = c;
+                    ab = unshare d H.first H.second A B H.ab;
+                    ac = unshare d H.first H.third A D H.ac;
+                    bc = unshare d H.second H.third B D H.bc;
+                  },
+                ),
+              ),
+            ),
+          ),
+        ),
+      )
+    where
+      not-second : (k : ℕ) → (H.second.low ≡ k) ⊎ ⊥ → H.second.low ≡ k
+      not-second k (inl x) = x
+      not-second k (inr x) = absurd x
+
+      not-first : (H.first.low ≡ H.second.low) ⊎ ((H.first.low ≡ H.third.low) ⊎ ⊥) → ⊥
+      not-first (inl x) = H.ab.lows x
+      not-first (inr (inl x)) = H.ac.lows x
+      not-first (inr (inr x)) = x
+
+      different : AreDifferent (Some H.first.low ∷ Some H.second.low ∷ Some H.third.low ∷ [])
+      different = (not-first, ((λ i. H.bc.lows (not-second H.third.low i)), ((λ i. i), tt)))
+
+      members : {p : Pattern} (k : ℕ) → IsSpotOf e.spots p H.first.low → IsSpotOf e.spots p H.second.low → IsSpotOf e.spots p H.third.low → IsAmong k (Some H.first.low ∷ Some H.second.low ∷ Some H.third.low ∷ []) → IsSpotOf e.spots p k
+      members {p} k a b c (inl x) = subst (λ j. IsSpotOf e.spots p j) (sym x) a
+      members {p} k a b c (inr (inl x)) = subst (λ j. IsSpotOf e.spots p j) (sym x) b
+      members {p} k a b c (inr (inr (inl x))) = subst (λ j. IsSpotOf e.spots p j) (sym x) c
+      members {p} k a b c (inr (inr (inr x))) = absurd x
+
+  -- an occurrence of a digram has the digram's pattern
+  pub first-none : (d : Digram) (p : Pattern) → digram_of n.numbers p ≡ d → IsKnown n.numbers p.upper → IsKnown n.numbers p.lower → p.rank ≡ joint_rank (ranks_of (rules_of g.rules)) d.upper d.lower
+      → ((k : ℕ) (s : Spot) → spot_at e k ≡ Some s → s.pattern ≢ p) → (k : ℕ) (o : Cell) → get_or (map (cell_of n.numbers) e.spots) k None ≡ Some o → o.digram ≢ d
+  first-none d p q ku kl r none k o c x = at (spot_at e k) refl
+    where
+      at : (t : Option Spot) → spot_at e k ≡ t → ⊥
+      at None y = let z : None ≡ Some o = sym (cell-at n.numbers e.spots k ∙ ap (cell_of n.numbers) y) ∙ c in cc
+      at (Some s) y =
+          let z : Some (record { digram = digram_of n.numbers s.pattern; rank = s.pattern.rank; upper = s.upper }) ≡ Some o = sym (cell-at n.numbers e.spots k ∙ ap (cell_of n.numbers) y) ∙ c in
+          let w = same_some (record { digram = digram_of n.numbers s.pattern; rank = s.pattern.rank; upper = s.upper }) o z in
+          let v : digram_of n.numbers s.pattern ≡ d = ap (λ (a : Cell). a.digram) w ∙ x in
+          let M = member s.pattern k (s.upper, y) in
+          let f = sym v ∙ v in
+          let m = v ∙ sym q in
+          let rk : s.pattern.rank ≡ p.rank = sym M.rank ∙ M.stood.at.rank ∙ ap (λ (a : Digram). joint_rank (ranks_of (rules_of g.rules)) a.upper a.lower) (M.stood.digram ∙ v) ∙ sym r in
+          let u = label-injective n.numbers s.pattern.upper p.upper M.upper ku (ap (λ (a : Digram). a.upper) m) in
+          let l = label-injective n.numbers s.pattern.lower p.lower M.lower kl (ap (λ (a : Digram). a.lower) m) in
+          let pl : s.pattern.place ≡ p.place = ap (λ (a : Digram). a.place) m in
+          none k s y (fields s.pattern p u pl l rk)
+        where
+          fields : (x y : Pattern) → x.upper ≡ y.upper → x.place ≡ y.place → x.lower ≡ y.lower → x.rank ≡ y.rank → x ≡ y
+          fields x y u p l r =
+              ap (λ (m : Mark). record { upper = m; place = x.place; lower = x.lower; rank = x.rank }) u
+              ∙ ap (λ (c : ℕ). record { upper = y.upper; place = c; lower = x.lower; rank = x.rank }) p
+              ∙ ap (λ (m : Mark). record { upper = y.upper; place = y.place; lower = m; rank = x.rank }) l
+              ∙ ap (λ (c : ℕ). record { upper = y.upper; place = y.place; lower = y.lower; rank = c }) r
+
+pub are-cells : (g : Keyed) (L : Linked) (n : Numbering) (e : Entered) → IsIndexOf g L → map (cell_of n.numbers) e.spots ≡ L.cells → AreCells g n e
+are-cells g L n e I q = record {
+  all = λ r p key k. ap (λ (cs : List (Option Cell)). get_or cs key.number None) q ∙ I.all r p key k;
+  only = λ k x. I.only k (λ z. x (ap (λ (cs : List (Option Cell)). get_or cs k None) q ∙ z));
+}
+
+pub digram-is : (place : ℕ) (u l u' l' : Label) → u' ≡ u → l' ≡ l → let x : Digram = record { upper = u; place = place; lower = l } in let y : Digram = record { upper = u'; place = place; lower = l' } in x ≡ y
+digram-is place u l u' l' a b =
+    ap (λ (m : Label). let x : Digram = record { upper = m; place = place; lower = l } in x) (sym a) ∙ ap (λ (m : Label). let x : Digram = record { upper = u'; place = place; lower = m } in x) (sym b)

@@ -1,0 +1,8 @@
+use Rattle.std.proofs.Common.{ap, sym, ◌∙◌}
+use Rattle.digram_index.specs.Linked.{cell_of}
+use Rattle.digram_index.proofs.CellLemmas.{cell-at}
+use Rattle.digram_index.proofs.index.Index.unlink.Goals as goal
+
+pub returns-clause-others : goal.returns-clause-others
+returns-clause-others c = rw (← c.self.view_is) (λ k n.
+    cell-at c.self.inside.numbers.numbers c.take.new.self.spots k ∙ ap (cell_of c.self.inside.numbers.numbers) (c.take.ensures.others k (λ z. n (z ∙ c.number.ensures))) ∙ sym (cell-at c.self.inside.numbers.numbers c.self.inside.entries.spots k))

@@ -1,0 +1,152 @@
+// An index that is built from a whole grammar.
+ghost use Rattle.std.specs.Prelude.{◌≡◌, ◌≢◌, ◌+◌, ◌<◌, ◌≤◌, ◌⊎◌, ℕ, length, Some, None, OnOk, OnErr, IfOk, IsSome, MatchBool};
+ghost use Rattle.slt_grammar.specs.Names.{Param};
+ghost use Rattle.slt_grammar.specs.Keyed.{key_at};
+ghost use Rattle.rule_arena.specs.declared.key.Key.{Key};
+ghost use Rattle.digram_index.specs.Digrams.{Cell, OccursAt, occurrence_at};
+ghost use Rattle.digram_index.specs.Linked.{IsIndexOf, cell};
+ghost use Rattle.digram_index.specs.Building.{IsNumberIn};
+
+use crate::index::Index;
+use read_steps::Steps;
+use slt_grammar::{Grammar, Key, Label};
+use std::alloc::{AllocError, Global};
+use std::marker::Brand;
+use std::sync::ledger::{Blank, Ledger};
+
+/// The index of a grammar.
+pub fn build(alloc: Global, grammar: &Grammar) -> Result<Index, AllocError>
+    ensures { IfOk result (λ a. IsIndexOf grammar.now a) }
+{
+    let _limit = grammar.limit();
+    let mut index = Index::new(alloc, grammar.rules())?;
+    index.reserve(grammar, 0, 0)?;
+    for rule in 0..grammar.rules() {
+        link_nodes::<Brand>(&mut index, grammar, rule, Blank::new(1))?;
+    }
+    Ok(index)
+}
+
+// Whether a node is the lower node of an occurrence.
+fn is_lower<L: Ledger>(grammar: &Grammar, key: Key, steps: &mut Steps<L>) -> bool
+    requires { (r : ℕ) × (p : ℕ) × (key_at grammar.now.rules r p ≡ Some key) }
+    ensures lower { MatchBool result ((o : Cell) × OccursAt grammar.now.rules key o) ((r p : ℕ) → key_at grammar.now.rules r p ≡ Some key → occurrence_at grammar.now.rules r p ≡ None) }
+    ensures step { steps.new ≡ steps.old + 1 }
+{
+    let item = grammar.item(key, steps);
+    is_real(item.parent, item.label)
+}
+
+// Whether a node with this parent and this label is the lower node of an occurrence.
+fn is_real(parent: Option<(Key, usize)>, label: Label) -> bool
+    ensures { MatchBool result (IsSome parent × (label ≢ Param)) ((parent ≡ None) ⊎ (label ≡ Param)) }
+{
+    if parent.is_none() {
+        return false;
+    }
+    match label {
+        Label::Param => false,
+        _ => true,
+    }
+}
+
+// Links a node where it is the lower node of an occurrence.
+fn link_node<L: Ledger>(
+    index: &mut Index,
+    grammar: &Grammar,
+    key: Key,
+    steps: &mut Steps<L>,
+) -> Result<(), AllocError>
+    requires rules { index.old.rules ≡ length grammar.now.rules }
+    requires there { (r : ℕ) × (p : ℕ) × (key_at grammar.now.rules r p ≡ Some key) }
+    requires free { cell index.old key.number ≡ None }
+    ensures linked { OnOk result ((r p : ℕ) → key_at grammar.now.rules r p ≡ Some key → cell index.new key.number ≡ occurrence_at grammar.now.rules r p) }
+    ensures others { (k : ℕ) → k ≢ key.number → cell index.new k ≡ cell index.old k }
+    ensures rules { index.new.rules ≡ index.old.rules }
+    ensures step { steps.new ≡ steps.old + 1 }
+{
+    let _limit = grammar.limit();
+    if is_lower(grammar, key, steps) {
+        index.link(grammar, key)?;
+    }
+    Ok(())
+}
+
+/// Links the nodes of a rule.
+pub fn link_nodes<L: Ledger>(
+    index: &mut Index,
+    grammar: &Grammar,
+    rule: usize,
+    blank: Blank,
+) -> Result<(), AllocError>
+    requires rules { index.old.rules ≡ length grammar.now.rules }
+    requires there { rule < length grammar.now.rules }
+    requires free { (p : ℕ) (key : Key) → key_at grammar.now.rules rule p ≡ Some key → cell index.old key.number ≡ None }
+    requires name { blank.name ≡ L.name }
+    requires parts { blank.parts ≡ L.parts }
+    requires some { 0 < blank.parts }
+    ensures linked { OnOk result ((p : ℕ) (key : Key) → key_at grammar.now.rules rule p ≡ Some key → cell index.new key.number ≡ occurrence_at grammar.now.rules rule p) }
+    ensures others { (k : ℕ) → (IsNumberIn grammar.now.rules rule k → ⊥) → cell index.new k ≡ cell index.old k }
+    ensures only { OnOk result ((k : ℕ) → cell index.new k ≢ None → (cell index.old k ≢ None) ⊎ IsNumberIn grammar.now.rules rule k) }
+    ensures rules { index.new.rules ≡ index.old.rules }
+{
+    let _limit = grammar.limit();
+    let mut steps: Steps<L> = Steps::new(blank);
+    let mut next = Some(grammar.root(rule));
+    while let Some(key) = next {
+        link_node(index, grammar, key, &mut steps)?;
+        next = following(grammar, key);
+    }
+    Ok(())
+}
+
+// The next node of the same body, read on a counter of its own.
+fn following(grammar: &Grammar, key: Key) -> Option<Key>
+    requires { (r : ℕ) × (p : ℕ) × (key_at grammar.now.rules r p ≡ Some key) }
+    ensures { (r p : ℕ) → key_at grammar.now.rules r p ≡ Some key → key_at grammar.now.rules r (p + 1) ≡ result }
+{
+    next_of::<Brand>(grammar, key, Blank::new(1))
+}
+
+fn next_of<L: Ledger>(grammar: &Grammar, key: Key, blank: Blank) -> Option<Key>
+    requires there { (r : ℕ) × (p : ℕ) × (key_at grammar.now.rules r p ≡ Some key) }
+    requires name { blank.name ≡ L.name }
+    requires parts { blank.parts ≡ L.parts }
+    requires some { 0 < blank.parts }
+    ensures { (r p : ℕ) → key_at grammar.now.rules r p ≡ Some key → key_at grammar.now.rules r (p + 1) ≡ result }
+{
+    let mut steps: Steps<L> = Steps::new(blank);
+    grammar.next_in_preorder(key, &mut steps)
+}
+
+// Takes away the occurrence of a lower node, where it is linked.
+fn unlink_node<L: Ledger>(index: &mut Index, key: Key, steps: &mut Steps<L>)
+    ensures free { cell index.new key.number ≡ None }
+    ensures others { (k : ℕ) → k ≢ key.number → cell index.new k ≡ cell index.old k }
+    ensures rules { index.new.rules ≡ index.old.rules }
+    ensures step { steps.new ≡ steps.old + 1 }
+{
+    steps.tick();
+    if index.is_linked(key) {
+        index.unlink(key);
+    }
+}
+
+/// Takes away the occurrences of a rule's nodes. It takes no memory.
+pub fn unlink_nodes<L: Ledger>(index: &mut Index, grammar: &Grammar, rule: usize, blank: Blank)
+    requires there { rule < length grammar.now.rules }
+    requires name { blank.name ≡ L.name }
+    requires parts { blank.parts ≡ L.parts }
+    requires some { 0 < blank.parts }
+    ensures free { (p : ℕ) (key : Key) → key_at grammar.now.rules rule p ≡ Some key → cell index.new key.number ≡ None }
+    ensures others { (k : ℕ) → (IsNumberIn grammar.now.rules rule k → ⊥) → cell index.new k ≡ cell index.old k }
+    ensures rules { index.new.rules ≡ index.old.rules }
+{
+    let _limit = grammar.limit();
+    let mut steps: Steps<L> = Steps::new(blank);
+    let mut next = Some(grammar.root(rule));
+    while let Some(key) = next {
+        unlink_node(index, key, &mut steps);
+        next = following(grammar, key);
+    }
+}

@@ -1,0 +1,379 @@
+// The index of the digrams of a grammar.
+ghost use Rattle.std.specs.Prelude.{◌≡◌, ◌≢◌, ◌+◌, ◌<◌, ◌≤◌, ℕ, [], length, get_or, Some, None, OnOk, OnErr, IfOk, IfSome, IfNone, IsOk, MatchBool};
+ghost use Rattle.slt_grammar.specs.Bodies.{arity};
+ghost use Rattle.slt_grammar.specs.Algebras.{ranks_of};
+ghost use Rattle.slt_grammar.specs.Keyed.{rules_of};
+ghost use Rattle.slt_grammar.specs.Names.{Call};
+ghost use Rattle.digram_index.specs.Linked.{label_of, IsKnown};
+ghost use Rattle.rule_arena.specs.declared.key.Key.{Key};
+ghost use Rattle.digram_index.specs.Digrams.{Cell, OccursAt, joint_rank};
+
+use crate::entries::Entries;
+use crate::numbers::Numbers;
+use crate::patterns::{Mark, Pattern};
+use read_steps::Steps;
+use slt_grammar::{Digram, Grammar, Key, Label};
+use std::alloc::{AllocError, Global};
+use std::marker::{Brand, Model};
+use std::sync::ledger::{Blank, Ledger};
+
+/// The occurrences of the digrams of a grammar.
+#[derive(Drop)]
+pub struct Index {
+    numbers: Numbers,
+    entries: Entries,
+    // for each lower node its key
+    keys: Vec<Key>,
+}
+
+impl Model for Index {
+    ghost use Rattle.std.specs.Prelude.{length, map};
+    ghost use Rattle.digram_index.specs.Linked.{Linked};
+
+    ghost Value = { Linked };
+
+    ghost use Rattle.digram_index.specs.Linked.{cell_of, AreKnown, AreNamed};
+
+    ghost view = { λ a. record {
+      rules = length a.numbers.numbers;
+      cells = map (cell_of a.numbers.numbers) a.entries.spots;
+      spare_links = a.entries.spare;
+      spare_rules = a.numbers.spare;
+    } };
+
+    ghost invariant = { λ a. AreKnown a.numbers a.entries × AreNamed a.entries a.keys.items };
+}
+
+impl Index {
+    ghost use Rattle.digram_index.specs.Digrams.{Cell, OccursAt, joint_rank};
+    ghost use Rattle.digram_index.specs.Settled.{IsWithin, HasThreeApart};
+    ghost use Rattle.slt_grammar.specs.declared.digram.Digram.{Digram};
+    ghost use Rattle.digram_index.specs.Linked.{IsIndexOf, cell, cell_count, shifted_cell, unshifted_cell, Lacks};
+
+    /// An index in which nothing is linked.
+    pub fn new(alloc: Global, rules: usize) -> Result<Index, AllocError>
+        ensures rules { IfOk result (λ a. a.rules ≡ rules) }
+        ensures cells { IfOk result (λ a. a.cells ≡ []) }
+    {
+        let numbers = Numbers::new(alloc, rules)?;
+        let entries = Entries::new(alloc)?;
+        Ok(Index {
+            numbers,
+            entries,
+            keys: Vec::new(alloc),
+        })
+    }
+
+    /// Makes room for more occurrences of nodes whose numbers are below the grammar's limit, and for more rules.
+    pub fn reserve(
+        &mut self,
+        grammar: &Grammar,
+        more: usize,
+        rules: usize,
+    ) -> Result<(), AllocError>
+        ensures rules { self.new.rules ≡ self.old.rules }
+        ensures cells { (k : ℕ) → cell self.new k ≡ cell self.old k }
+        ensures more { length self.old.cells ≤ length self.new.cells }
+        ensures spares { (self.old.spare_links ≤ self.new.spare_links) × (self.old.spare_rules ≤ self.new.spare_rules) }
+        ensures room { OnOk result ((grammar.now.limit ≤ length self.new.cells) × (more ≤ self.new.spare_links) × (rules ≤ self.new.spare_rules)) }
+    {
+        self.numbers.reserve(rules)?;
+        self.entries.reserve(more)?;
+        let limit = grammar.limit();
+        fill_keys(&mut self.keys, limit)?;
+        self.entries.extend(limit)
+    }
+
+    /// Adds one occurrence of the grammar, named by its lower node.
+    pub fn link(&mut self, grammar: &Grammar, lower: Key) -> Result<(), AllocError>
+        requires rules { self.old.rules ≡ length grammar.now.rules }
+        requires occurs { (o : Cell) × OccursAt grammar.now.rules lower o }
+        requires free { cell self.old lower.number ≡ None }
+        ensures linked { OnOk result ((o : Cell) → OccursAt grammar.now.rules lower o → cell self.new lower.number ≡ Some o) }
+        ensures err { OnErr result (cell self.new lower.number ≡ None) }
+        ensures rules { self.new.rules ≡ self.old.rules }
+        ensures others { (k : ℕ) → k ≢ lower.number → cell self.new k ≡ cell self.old k }
+        ensures room { length self.old.cells ≤ length self.new.cells }
+        ensures spare { (self.old.spare_links ≤ self.new.spare_links + 1) × (self.new.spare_rules ≡ self.old.spare_rules) }
+        ensures succeeds { 0 < self.old.spare_links → lower.number < length self.old.cells → IsOk result }
+    {
+        let _limit = grammar.limit();
+        let reading = read::<Brand>(grammar, lower, Blank::new(1));
+        let number = lower.number();
+        self.extend(grammar, number)?;
+        self.add(lower, reading.upper.number(), reading.digram, reading.rank)
+    }
+
+    /// Whether a node is the lower node of a linked occurrence.
+    pub fn is_linked(&self, lower: Key) -> bool
+        ensures { MatchBool result (cell self.now lower.number ≢ None) (cell self.now lower.number ≡ None) }
+    {
+        self.entries.at(lower.number()).is_some()
+    }
+
+    /// How many occurrences of a digram there are.
+    pub fn count(&self, digram: Digram) -> u64
+        ensures { result ≡ cell_count digram self.now.cells }
+    {
+        if !is_known(&self.numbers, digram.upper) {
+            return 0;
+        }
+        if !is_known(&self.numbers, digram.lower) {
+            return 0;
+        }
+        let pattern = Pattern {
+            upper: mark_of(&self.numbers, digram.upper),
+            place: digram.place,
+            lower: mark_of(&self.numbers, digram.lower),
+            rank: 0,
+        };
+        self.entries.count_all(pattern) as u64
+    }
+
+    /// The lower node of an occurrence of a digram, and none exactly where it has none. It is the one that was linked first of those
+    /// that are left.
+    pub fn first(&self, grammar: &Grammar, digram: Digram) -> Option<Key>
+        requires { IsIndexOf grammar.now self.now }
+        ensures some { IfSome result (λ key. (o : Cell) × ((cell self.now key.number ≡ Some o) × (o.digram ≡ digram))) }
+        ensures none { IfNone result ((k : ℕ) (o : Cell) → cell self.now k ≡ Some o → o.digram ≢ digram) }
+    {
+        let _limit = grammar.limit();
+        if !is_known(&self.numbers, digram.upper) {
+            return None;
+        }
+        if !is_known(&self.numbers, digram.lower) {
+            return None;
+        }
+        let pattern = Pattern {
+            upper: mark_of(&self.numbers, digram.upper),
+            place: digram.place,
+            lower: mark_of(&self.numbers, digram.lower),
+            rank: rank_of(grammar, digram),
+        };
+        match self.entries.first(pattern) {
+            Some(number) => Some(self.keys[number]),
+            None => None,
+        }
+    }
+
+    /// A digram whose rank is within the bound and of which three occurrences share no node, and none exactly where there is none.
+    /// It is one of the greatest level: the number of its occurrences where its labels differ, and half of it where they are equal.
+    pub fn top(&self, grammar: &Grammar, bound: usize) -> Option<Digram>
+        requires index { IsIndexOf grammar.now self.now }
+        requires bound { bound ≤ 8 }
+        ensures some { IfSome result (λ d. IsWithin grammar.now.rules bound d × HasThreeApart grammar.now.rules d) }
+        ensures none { IfNone result ((d : Digram) → IsWithin grammar.now.rules bound d → HasThreeApart grammar.now.rules d → ⊥) }
+    {
+        let _limit = grammar.limit();
+        match self.entries.best(bound) {
+            Some(pattern) => Some(Digram {
+                upper: label(&self.numbers, pattern.upper),
+                place: pattern.place,
+                lower: label(&self.numbers, pattern.lower),
+            }),
+            None => None,
+        }
+    }
+
+    // Makes room for the nodes of the grammar, where there is none for a number.
+    fn extend(&mut self, grammar: &Grammar, number: usize) -> Result<(), AllocError>
+        requires { number < grammar.now.limit }
+        ensures rules { self.new.rules ≡ self.old.rules }
+        ensures cells { (k : ℕ) → cell self.new k ≡ cell self.old k }
+        ensures more { length self.old.cells ≤ length self.new.cells }
+        ensures room { OnOk result (number < length self.new.cells) }
+        ensures spares { (self.new.spare_links ≡ self.old.spare_links) × (self.new.spare_rules ≡ self.old.spare_rules) }
+        ensures succeeds { number < length self.old.cells → IsOk result }
+    {
+        if number < self.entries.len() {
+            return Ok(());
+        }
+        let limit = grammar.limit();
+        fill_keys(&mut self.keys, limit)?;
+        self.entries.extend(limit)
+    }
+
+    /// Takes an occurrence away, named by its lower node.
+    pub fn unlink(&mut self, lower: Key)
+        requires { cell self.old lower.number ≢ None }
+        ensures rules { self.new.rules ≡ self.old.rules }
+        ensures free { cell self.new lower.number ≡ None }
+        ensures others { (k : ℕ) → k ≢ lower.number → cell self.new k ≡ cell self.old k }
+        ensures room { length self.new.cells ≡ length self.old.cells }
+        ensures spares { (self.new.spare_links ≡ self.old.spare_links) × (self.new.spare_rules ≡ self.old.spare_rules) }
+    {
+        self.entries.take(lower.number());
+    }
+
+    // Adds an occurrence whose labels were read.
+    fn add(
+        &mut self,
+        lower: Key,
+        upper: usize,
+        digram: Digram,
+        rank: usize,
+    ) -> Result<(), AllocError>
+        requires room { lower.number < length self.old.cells }
+        requires free { cell self.old lower.number ≡ None }
+        requires upper { (q : ℕ) → digram.upper ≡ Call q → q < self.old.rules }
+        requires lower { (q : ℕ) → digram.lower ≡ Call q → q < self.old.rules }
+        requires small { rank < 16 }
+        ensures ok { OnOk result (cell self.new lower.number ≡ Some (record { digram = digram; rank = rank; upper = upper })) }
+        ensures err { OnErr result (cell self.new lower.number ≡ None) }
+        ensures rules { self.new.rules ≡ self.old.rules }
+        ensures others { (k : ℕ) → k ≢ lower.number → cell self.new k ≡ cell self.old k }
+        ensures room { length self.new.cells ≡ length self.old.cells }
+        ensures spare { (self.old.spare_links ≤ self.new.spare_links + 1) × (self.new.spare_rules ≡ self.old.spare_rules) }
+        ensures succeeds { 0 < self.old.spare_links → IsOk result }
+    {
+        let pattern = Pattern {
+            upper: mark_of(&self.numbers, digram.upper),
+            place: digram.place,
+            lower: mark_of(&self.numbers, digram.lower),
+            rank,
+        };
+        let number = lower.number();
+        self.keys[number] = lower;
+        self.entries.add(number, upper, pattern)
+    }
+
+    /// Gives a number to a rule that is put before the rule at a place.
+    pub fn insert_rule(&mut self, place: usize) -> Result<(), AllocError>
+        requires { place ≤ self.old.rules }
+        ensures rules { OnOk result (self.new.rules ≡ self.old.rules + 1) }
+        ensures cells { OnOk result ((k : ℕ) → cell self.new k ≡ shifted_cell place (cell self.old k)) }
+        ensures err { OnErr result ((self.new.rules ≡ self.old.rules) × ((k : ℕ) → cell self.new k ≡ cell self.old k)) }
+        ensures room { length self.new.cells ≡ length self.old.cells }
+        ensures spare { (self.old.spare_rules ≤ self.new.spare_rules + 1) × (self.new.spare_links ≡ self.old.spare_links) }
+        ensures succeeds { 0 < self.old.spare_rules → IsOk result }
+    {
+        self.numbers.insert(place)
+    }
+
+    /// Takes the number of a rule that is dropped.
+    pub fn remove_rule(&mut self, place: usize)
+        requires there { place < self.old.rules }
+        requires lacks { Lacks self.old place }
+        ensures rules { self.new.rules + 1 ≡ self.old.rules }
+        ensures cells { (k : ℕ) → cell self.new k ≡ unshifted_cell place (cell self.old k) }
+        ensures room { length self.new.cells ≡ length self.old.cells }
+        ensures spare { (self.old.spare_rules ≤ self.new.spare_rules) × (self.new.spare_links ≡ self.old.spare_links) }
+    {
+        self.numbers.remove(place);
+    }
+}
+
+// Adds keys until there are `limit`.
+fn fill_keys(keys: &mut Vec<Key>, limit: usize) -> Result<(), AllocError>
+    ensures kept { (k : ℕ) (d : Key) → k < length keys.old.items → get_or keys.new.items k d ≡ get_or keys.old.items k d }
+    ensures more { length keys.old.items ≤ length keys.new.items }
+    ensures room { OnOk result (limit ≤ length keys.new.items) }
+    ensures succeeds { limit ≤ length keys.old.items → IsOk result }
+{
+    let count = keys.len();
+    if count < limit {
+        keys.reserve(limit - count)?;
+    }
+    for _ in count..limit {
+        keys.push(Key::default())?;
+    }
+    Ok(())
+}
+
+// Whether a label is no call, or one of a rule that the index knows.
+fn is_known(numbers: &Numbers, label: Label) -> bool
+    ensures { MatchBool result ((q : ℕ) → label ≡ Call q → q < length numbers.now.numbers) ((q : ℕ) × ((label ≡ Call q) × (length numbers.now.numbers ≤ q))) }
+{
+    match label {
+        Label::Call(rule) => rule < numbers.len(),
+        _ => true,
+    }
+}
+
+// The label of a mark.
+fn label(numbers: &Numbers, mark: Mark) -> Label
+    requires { IsKnown numbers.now.numbers mark }
+    ensures { result ≡ label_of numbers.now.numbers mark }
+{
+    match mark {
+        Mark::Bottom => Label::Bottom,
+        Mark::Symbol(symbol) => Label::Symbol(symbol),
+        Mark::Call(number) => Label::Call(numbers.place(number).unwrap()),
+        Mark::Param => Label::Param,
+    }
+}
+
+// A label by the number of its rule.
+fn mark_of(numbers: &Numbers, label: Label) -> Mark
+    requires { (q : ℕ) → label ≡ Call q → q < length numbers.now.numbers }
+    ensures label { label_of numbers.now.numbers result ≡ label }
+    ensures known { IsKnown numbers.now.numbers result }
+{
+    match label {
+        Label::Bottom => Mark::Bottom,
+        Label::Symbol(symbol) => Mark::Symbol(symbol),
+        Label::Call(rule) => Mark::Call(numbers.number(rule)),
+        Label::Param => Mark::Param,
+    }
+}
+
+// An occurrence as it is read from the grammar.
+#[derive(Clone, Copy, Drop)]
+struct Reading {
+    digram: Digram,
+    rank: usize,
+    upper: Key,
+}
+
+// How many children a node has.
+fn arity_of(grammar: &Grammar, label: Label) -> usize
+    ensures value { result ≡ arity (ranks_of (rules_of grammar.now.rules)) label }
+    ensures small { result ≤ 8 }
+{
+    match label {
+        Label::Symbol(_) => 2,
+        Label::Call(rule) => {
+            if rule < grammar.rules() {
+                grammar.rank(rule)
+            } else {
+                0
+            }
+        }
+        _ => 0,
+    }
+}
+
+// The rank of a digram.
+fn rank_of(grammar: &Grammar, digram: Digram) -> usize
+    ensures { result ≡ joint_rank (ranks_of (rules_of grammar.now.rules)) digram.upper digram.lower }
+{
+    (arity_of(grammar, digram.upper) + arity_of(grammar, digram.lower)).saturating_sub(1)
+}
+
+// Reads the occurrence of a lower node.
+fn read<L: Ledger>(grammar: &Grammar, lower: Key, blank: Blank) -> Reading
+    requires occurs { (o : Cell) × OccursAt grammar.now.rules lower o }
+    requires name { blank.name ≡ L.name }
+    requires parts { blank.parts ≡ L.parts }
+    requires some { 0 < blank.parts }
+    ensures told { (o : Cell) → OccursAt grammar.now.rules lower o → o ≡ record { digram = result.digram; rank = result.rank; upper = result.upper.number } }
+    ensures upper { (q : ℕ) → result.digram.upper ≡ Call q → q < length grammar.now.rules }
+    ensures lower { (q : ℕ) → result.digram.lower ≡ Call q → q < length grammar.now.rules }
+    ensures small { result.rank < 16 }
+{
+    let _rules = grammar.rules();
+    let mut steps: Steps<L> = Steps::new(blank);
+    let low = grammar.item(lower, &mut steps);
+    let (high, place) = low.parent.unwrap();
+    let up = grammar.item(high, &mut steps);
+    let rank = (arity_of(grammar, up.label) + arity_of(grammar, low.label)).saturating_sub(1);
+    Reading {
+        digram: Digram {
+            upper: up.label,
+            place,
+            lower: low.label,
+        },
+        rank,
+        upper: high,
+    }
+}

@@ -1,0 +1,3 @@
+pub mod CallKeys
+pub mod CallLists
+pub mod Inlined

@@ -1,3 +1,4 @@
 pub mod CallKeys
 pub mod CallLists
 pub mod Inlined
+pub mod InlineCalls

@@ -2,3 +2,4 @@ pub mod CallKeys
 pub mod CallLists
 pub mod Inlined
 pub mod InlineCalls
+pub mod SavingLemmas

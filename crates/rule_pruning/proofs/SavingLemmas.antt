@@ -7,7 +7,7 @@ use Rattle.slt_grammar.specs.Grammars.{body_at}
 use Rattle.slt_grammar.specs.Keyed.{Keyed, IsKeyed, rules_of}
 use Rattle.slt_grammar.proofs.CallCounts.{nodes-room, real_nodes-are}
 use Rattle.slt_grammar.proofs.KeyedLemmas.{length-rules_of}
-use Rattle.std.specs.Prelude.{ℤ, pos, negsuc, ◌*ℤ◌, ◌-ℤ◌, ◌≤ℤ◌, ◌<ℤ◌, FitsSigned, unsigned_abs, ◌↔◌}
+use Rattle.std.specs.Prelude.{ℤ, pos, negsuc, ◌*ℤ◌, ◌-ℤ◌, ◌≤ℤ◌, ◌<ℤ◌, FitsSigned, unsigned_abs, int_lt, ◌↔◌, Bool, true, false, MatchBool}
 use Rattle.std.proofs.lemmas.Int.{ints, to_z-of_z, to_z_pos, fits_signed_mul}
 use Rattle.slt_grammar.specs.Digrams.{Saves}
 use Rattle.slt_grammar.specs.Grammars.{calls_of}
@@ -63,3 +63,16 @@ saves-one c (suc n) =
 
 pub saves-saving : (G : List Rule) (r : ℕ) → Saves G r ↔ (pos 1 ≤ℤ saving_of G r)
 saves-saving G r = saves-one (calls_of G r) (real_nodes (body_at G r))
+
+pub tells-saves : (G : List Rule) (r : ℕ) (z : ℤ) → z ≡ saving_of G r → MatchBool (int_lt (pos 0) z) (Saves G r) (Saves G r → ⊥)
+tells-saves G r z e = at (int_lt (pos 0) z) refl
+  where
+    at : (b : Bool) → int_lt (pos 0) z ≡ b → MatchBool b (Saves G r) (Saves G r → ⊥)
+    at true h = (saves-saving G r).1 (subst (λ (y : ℤ). pos 1 ≤ℤ y) e (above h))
+      where
+        above : int_lt (pos 0) z ≡ true → pos 1 ≤ℤ z
+        above h = grind (arith, ints)
+    at false h = λ s. below h (subst (λ (y : ℤ). pos 1 ≤ℤ y) (sym e) ((saves-saving G r).0 s))
+      where
+        below : int_lt (pos 0) z ≡ false → pos 1 ≤ℤ z → ⊥
+        below h l = grind (arith, ints)

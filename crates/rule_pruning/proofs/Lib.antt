@@ -3,3 +3,4 @@ pub mod CallLists
 pub mod Inlined
 pub mod InlineCalls
 pub mod SavingLemmas
+pub mod Taken

@@ -4,3 +4,4 @@ pub mod Inlined
 pub mod InlineCalls
 pub mod SavingLemmas
 pub mod Taken
+pub mod Turns

@@ -54,7 +54,8 @@ fn prune_swept(alloc: Global, grammar: &mut Grammar) -> Result<(), AllocError>
     let lists = call_lists(alloc, grammar)?;
     // The rule whose turn it is, once those before it that saved nothing were taken away.
     let mut rule = 0;
-    for turn in 0..lists.len() - 1 {
+    let last = grammar.rules() - 1;
+    for turn in 0..last {
         if saves(grammar, rule) {
             rule += 1;
         } else {

@@ -1,0 +1,75 @@
+// How many nodes a rule saves.
+ghost use Rattle.std.specs.Prelude.{◌≡◌, ◌+◌, ◌<◌, ◌^◌, ◌∷◌, [], length, MatchBool, ⊤};
+ghost use Rattle.slt_grammar.specs.Bodies.{real_nodes};
+ghost use Rattle.slt_grammar.specs.Digrams.{Saves};
+ghost use Rattle.slt_grammar.specs.Grammars.{body_at};
+ghost use Rattle.slt_grammar.specs.Keyed.{rules_of};
+ghost use Rattle.rule_pruning.specs.Saving.{saving_of, AllSave};
+
+use read_steps::Steps;
+use slt_grammar::{Grammar, Label};
+use std::marker::Brand;
+use std::sync::ledger::{Blank, Ledger};
+
+/// How many more nodes there would be without a rule, which is not the start, if its body came in the place of each of its calls. A
+/// parameter is no node here. It is below 0 where there would be fewer.
+pub fn saving(grammar: &Grammar, rule: usize) -> i128
+    requires { rule + 1 < length grammar.now.rules }
+    ensures { result ≡ saving_of (rules_of grammar.now.rules) rule }
+{
+    // The call tells that calls and nodes are few.
+    let _limit = grammar.limit();
+    let calls = grammar.calls(rule) as i128;
+    let nodes = body_size::<Brand>(grammar, rule, Blank::new(1)) as i128;
+    calls * (nodes - 1) - nodes
+}
+
+// Whether a rule saves nodes.
+pub(crate) fn saves(grammar: &Grammar, rule: usize) -> bool
+    requires { rule + 1 < length grammar.now.rules }
+    ensures { MatchBool result (Saves (rules_of grammar.now.rules) rule) (Saves (rules_of grammar.now.rules) rule → ⊥) }
+{
+    saving(grammar, rule) > 0
+}
+
+// Whether every rule but the start saves nodes.
+pub(crate) fn all_save(grammar: &Grammar) -> bool
+    ensures { MatchBool result (AllSave (rules_of grammar.now.rules)) ⊤ }
+{
+    for rule in 0..grammar.rules() - 1 {
+        if !saves(grammar, rule) {
+            return false;
+        }
+    }
+    true
+}
+
+// How many nodes of a body are no parameters.
+fn body_size<L: Ledger>(grammar: &Grammar, rule: usize, blank: Blank) -> u64
+    requires there { rule < length grammar.now.rules }
+    requires name { blank.name ≡ L.name }
+    requires parts { blank.parts ≡ L.parts }
+    requires some { 0 < blank.parts }
+    ensures size { result ≡ real_nodes (body_at (rules_of grammar.now.rules) rule) }
+    ensures few { result < 2 ^ 63 }
+{
+    // The call tells that the nodes are few.
+    let _limit = grammar.limit();
+    let mut steps: Steps<L> = Steps::new(blank);
+    let mut labels = grammar.walk(rule);
+    let mut size = 0;
+    while let Some(label) = labels.next(&mut steps) {
+        size += node_count(label);
+    }
+    size
+}
+
+// One for a label that is no parameter.
+fn node_count(label: Label) -> u64
+    ensures { result ≡ real_nodes (label ∷ []) }
+{
+    match label {
+        Label::Param => 0,
+        _ => 1,
+    }
+}

@@ -1,4 +1,1 @@
-mod Edited
-pub mod KeyedNodes
-pub mod LawfulBodies
 pub mod Rooted

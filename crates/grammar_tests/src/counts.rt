@@ -123,6 +123,15 @@ fn doubling(alloc: Global, last: usize, rule_0: bool) -> Result<RuleList, AllocE
     Ok(rules)
 }
 
+// Whether these are the counts of the largest grammar, as `doubling` makes it.
+fn are_largest(counts: &Counts) -> bool {
+    counts.rules() == 64
+        && counts.total() == i64::MAX as u64
+        && counts.total_texts() == 0
+        && counts.nodes(62, 0) == 1 << 62
+        && counts.all(63, 0) == u64::MAX
+}
+
 #[test]
 fn counts_end_at_the_limit(rt: HostRuntime) -> Result<(), Fail> {
     let alloc = rt.alloc();
@@ -132,13 +141,21 @@ fn counts_end_at_the_limit(rt: HostRuntime) -> Result<(), Fail> {
     assert!(rt; answer.err() == Some(CountError::TooMany));
     let largest = check(alloc, doubling(alloc, 2, true)?)?;
     let counts = Counts::new(alloc, &largest, &names)?;
-    assert!(rt; counts.total() == (1 << 63) - 1 && counts.all(63, 0) == u64::MAX);
-    // Counts of a small grammar become those of the largest.
+    assert!(rt; are_largest(&counts));
+    Ok(())
+}
+
+#[test]
+fn counts_become_those_of_another_grammar(rt: HostRuntime) -> Result<(), Fail> {
+    let alloc = rt.alloc();
+    let names = small_names(alloc)?;
+    let largest = check(alloc, doubling(alloc, 2, true)?)?;
+    // It tells that the largest grammar can be counted.
+    let _wanted = Counts::new(alloc, &largest, &names)?;
     let small = check(alloc, rules_of(alloc, TEXTS)?)?;
-    let mut updated = Counts::new(alloc, &small, &names)?;
-    updated.reserve(largest.rules())?;
-    updated.update(&largest, &names);
-    assert!(rt; updated.total() == (1 << 63) - 1 && updated.total_texts() == 0);
-    assert!(rt; updated.rules() == 64 && updated.nodes(62, 0) == 1 << 62);
+    let mut counts = Counts::new(alloc, &small, &names)?;
+    counts.reserve(largest.rules())?;
+    counts.update(&largest, &names);
+    assert!(rt; are_largest(&counts));
     Ok(())
 }

@@ -5,12 +5,13 @@ use Rattle.std.proofs.lemmas.Option.{slice_get_read}
 use Rattle.rule_arena.specs.Terms.{Node, Terms, term_at, or_nothing}
 use Rattle.rule_arena.specs.declared.key.Key.{Key}
 use Rattle.slt_grammar.specs.Bodies.{calls_in, real_nodes}
-use Rattle.slt_grammar.specs.Grammars.{calls_of, value}
+use Rattle.slt_grammar.specs.Grammars.{body_at, calls_of, size, value}
 use Rattle.slt_grammar.specs.Holding.{seen, terms_of, AllKnown, AreHeld, IsKept, IsLawful, AreCounted, AreRules}
 use Rattle.slt_grammar.specs.Keyed.{KeyedRule, nodes_at, rules_of, labels_of}
 use Rattle.slt_grammar.specs.KeyedEdits.{rule_dropped}
 use Rattle.slt_grammar.specs.Placing.{placed, AreKnown, DoNotCall}
 use Rattle.slt_grammar.proofs.Held.{nodes-are, many-rules, body-stands}
+use Rattle.slt_grammar.proofs.KeyedLemmas.{body_at-rules_of}
 use Rattle.slt_grammar.proofs.KeptLemmas.{lawful, counted, known-body, enough, size-enough}
 use Rattle.slt_grammar.proofs.Placings.{seen-left, all-left}
 use Rattle.slt_grammar.proofs.KeyedRemovals.{never, do-not-call, dropped-lawful, dropped-counted, value-dropped}
@@ -90,6 +91,19 @@ module _ (a : Terms) (roots : List Key) (ranks calls order : List ℕ) (nodes : 
         counted = subst (λ (F : List KeyedRule). AreCounted F calls' (nodes - left)) (sym seen-dropped) (subst (λ (cs : List ℕ). AreCounted (rule_dropped G rule) cs (nodes - left)) (sym ec)
             (dropped-counted G rule L h u calls mid nodes left (counted a roots ranks calls order nodes G K see) len (λ q k. omega (arith, moved q k, ap (calls_in q) labels_r)) (real ∙ ap real_nodes labels_r)));
       }
+
+      pub size-dropped : length mid ≡ length calls → ((q : ℕ) → q < length calls → get_or mid q 0 + calls_in q (labels_of (placed order raw)) ≡ get_or calls q 0) → left ≡ real_nodes (labels_of (placed order raw))
+          → size (rules_of (seen order' ranks' (terms_of b roots'))) + real_nodes (body_at (rules_of G) rule) ≡ size (rules_of G)
+      size-dropped len moved real =
+          omega (
+            arith,
+            (kept-dropped len moved real).counted.real,
+            (counted a roots ranks calls order nodes G K see).real,
+            gone-size,
+            real,
+            ap real_nodes labels_r,
+            ap real_nodes (body_at-rules_of G rule),
+          )
 
       pub value-kept : value (rules_of (seen order' ranks' (terms_of b roots'))) ≡ value (rules_of G)
       value-kept = ap (λ (F : List KeyedRule). value (rules_of F)) seen-dropped ∙ value-dropped G rule L h u

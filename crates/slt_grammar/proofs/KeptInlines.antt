@@ -8,7 +8,7 @@ use Rattle.rule_arena.specs.declared.label.Label.TheVariants.{Bottom, Symbol, Ca
 use Rattle.slt_grammar.specs.Algebras.{ranks_of, all_meanings}
 use Rattle.slt_grammar.specs.Bodies.{arity, calls_in, real_nodes}
 use Rattle.slt_grammar.specs.Copying.{IsShape, Inlined, holes_in, kids_at, inlined_nodes}
-use Rattle.slt_grammar.specs.Grammars.{rank_at, value_at}
+use Rattle.slt_grammar.specs.Grammars.{body_at, rank_at, size, value_at}
 use Rattle.slt_grammar.specs.Holding.{seen, terms_of, IsKept, IsLawful, AreCounted, AllKnown}
 use Rattle.slt_grammar.specs.Keyed.{KeyedRule, nodes_at, rules_of, labels_of}
 use Rattle.slt_grammar.specs.KeyedEdits.{StandsAsCall, IsInlined, with_nodes}
@@ -170,6 +170,19 @@ module _ (a : Terms) (roots : List Key) (ranks calls order : List ℕ) (nodes : 
         (λ w z. (inlined-weighs G r p q call I.keys L C.here.there C.label w z).0) len (λ s h. omega (arith, moves s h, ap (calls_in s) labels-seen)) (omega (arith, real, ap real_nodes labels-seen, size-there)) in
         kept-changed a b roots ss ranks order r (inlined_nodes (raw r) p (raw q) I.keys) K.rules I.changed within G calls' (nodes + come - 1) see (known-inlined order (raw r) p (raw q) I.keys call-known callee-known)
         (subst IsLawful (sym m) (inlined-lawful G r p q call I.keys L C.here.there C.label)) (subst (λ (H : List KeyedRule). AreCounted H calls' (nodes + come - 1)) (sym m) n)
+
+    pub size-inlined : length calls' ≡ length calls → ((s : ℕ) → s < length calls → get_or calls' s 0 + calls_in s (Call q ∷ []) ≡ get_or calls s 0 + calls_in s (labels_of (placed order (raw q)))) → come ≡ real_nodes (labels_of (placed order (raw q)))
+        → size (rules_of (seen order ranks (terms_of b ss))) + 1 ≡ size (rules_of G) + real_nodes (body_at (rules_of G) q)
+    size-inlined len moves real =
+        omega (
+          arith,
+          (kept-inlined len moves real).counted.real,
+          (counted a roots ranks calls order nodes G K see).real,
+          size-there,
+          real,
+          ap real_nodes labels-seen,
+          ap real_nodes (body_at-rules_of G q),
+        )
 
     pub values-inlined : (s : ℕ) → value_at (rules_of (seen order ranks (terms_of b ss))) s ≡ value_at (rules_of G) s
     values-inlined s =

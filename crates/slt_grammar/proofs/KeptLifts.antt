@@ -1,5 +1,5 @@
 -- Rules that are kept, once a node of the start rule gave way to its second child.
-use Rattle.std.proofs.Common.{◌≡◌, ◌≢◌, ℕ, ◌+◌, ◌-◌, ◌<◌, ◌≤◌, ◌^◌, List, [], ◌∷◌, ◌++◌, length, get_or, take, drop, Some, slice_get, refl, sym, ap, ◌∙◌, subst, arith}
+use Rattle.std.proofs.Common.{◌≡◌, ◌≢◌, ℕ, suc, ◌+◌, ◌-◌, ◌<◌, ◌≤◌, ◌^◌, List, [], ◌∷◌, ◌++◌, length, get_or, take, drop, Some, slice_get, refl, sym, ap, ◌∙◌, subst, arith}
 use Rattle.std.proofs.lemmas.List.{take-map, drop-map, take-append-drop}
 use Rattle.rule_arena.specs.Laws.{IsKeyedTerm}
 use Rattle.rule_arena.specs.Children.{ChildAt}
@@ -7,15 +7,16 @@ use Rattle.rule_arena.specs.Preorder.{span, terms, subterm}
 use Rattle.rule_arena.specs.Terms.{Node, Terms, At, Apart, IsSound, node_count, term_at, kids_in, kids_of}
 use Rattle.rule_arena.specs.declared.key.Key.{Key}
 use Rattle.rule_arena.specs.declared.label.Label.{Label}
-use Rattle.rule_arena.specs.declared.label.Label.TheVariants.{Bottom}
+use Rattle.rule_arena.specs.declared.label.Label.TheVariants.{Bottom, Symbol}
 use Rattle.rule_arena.proofs.ChildLemmas.{length-kids}
 use Rattle.rule_arena.proofs.PreorderLemmas.{split_at}
 use Rattle.rule_arena.proofs.TakingLaws.{child_apart}
 use Rattle.slt_grammar.specs.Algebras.{ranks_of}
 use Rattle.slt_grammar.specs.Bodies.{arity, params, real_nodes, calls_in, CallsBelow}
+use Rattle.slt_grammar.specs.Grammars.{size}
 use Rattle.slt_grammar.specs.Holding.{seen, terms_of, IsKept, IsLawful, AreCounted, Changed}
 use Rattle.slt_grammar.specs.Keyed.{KeyedRule, nodes_at, rules_of, labels_of}
-use Rattle.slt_grammar.specs.KeyedEdits.{StandsInStart, with_nodes, lifted_nodes}
+use Rattle.slt_grammar.specs.KeyedEdits.{StandsInStart, with_nodes, lifted_nodes, first_child_nodes}
 use Rattle.slt_grammar.specs.Placing.{placed, placed_node, AreKnown}
 use Rattle.slt_grammar.proofs.Agreeing.{Agree, agree-of, agree-take, agree-drop, labels-append, labels-terms, label-is}
 use Rattle.slt_grammar.proofs.Changes.{changed-cut, kept-changed, seen-changed}
@@ -191,6 +192,12 @@ module _ (a : Terms) (roots : List Key) (ranks calls order : List ℕ) (nodes : 
   pub gone-counted : (q : ℕ) → q < length calls → calls_in q (labels_of (placed order raw-gone)) ≤ get_or calls q 0
   gone-counted q h = omega (arith, ap (calls_in q) gone-seen, enough a roots ranks calls order nodes G K see r gone in-list (λ w z. (weighs w).1) q h)
 
+  pub gone-real : real_nodes (labels_of (placed order raw-gone)) ≡ 1 + real_nodes (labels_of (first_child_nodes ns p))
+  gone-real =
+      let e : N.label ≡ Symbol T.node.symbol = sym (label-is ns p N node-there) ∙ ap (λ (ls : List Label). get_or ls p Bottom) (sym (body_at-rules_of G r)) ∙ T.node.label in
+      let f : real_nodes gone ≡ suc (real_nodes (labels_of first)) = ap (λ (l : Label). real_nodes (l ∷ labels_of first)) e in
+      omega (arith, ap real_nodes gone-seen, f)
+
   pub gone-size : real_nodes (labels_of (placed order raw-gone)) ≤ nodes
   gone-size = omega (arith, ap real_nodes gone-seen, size-enough a roots ranks calls order nodes G K see r gone in-list (λ w z. (weighs w).1))
 
@@ -213,3 +220,8 @@ module _ (a : Terms) (roots : List Key) (ranks calls order : List ℕ) (nodes : 
         (λ q h. omega (arith, moved q h, ap (calls_in q) gone-seen)) (omega (arith, real, ap real_nodes gone-seen, gone-size)) in
         kept-changed a c roots ss ranks order r (lifted_nodes raw p) K.rules done within G calls' (nodes - left) see (known-lifted order raw p (known-body a roots ranks calls order nodes G K see r))
         (subst IsLawful (sym m) lifted-lawful) (subst (λ (H : List KeyedRule). AreCounted H calls' (nodes - left)) (sym m) n)
+
+    pub size-lifted : length calls' ≡ length calls → ((q : ℕ) → q < length calls → get_or calls' q 0 + calls_in q (labels_of (placed order raw-gone)) ≡ get_or calls q 0) → left ≡ real_nodes (labels_of (placed order raw-gone))
+        → size (rules_of (seen order ranks (terms_of c ss))) + (1 + real_nodes (labels_of (first_child_nodes ns p))) ≡ size (rules_of G)
+    size-lifted len moved real =
+        omega (arith, (kept-lifted len moved real).counted.real, (counted a roots ranks calls order nodes G K see).real, gone-size, gone-real, real)

@@ -56,6 +56,10 @@ pub record IsInlined (G H : List KeyedRule) (r p q : ℕ) (follow moved : Key) :
 abbrev pub lifted_nodes : List Node → ℕ → List Node
 lifted_nodes ns p = with_subterm kids_of ns p (get_or (terms kids_of 2 (drop (p + 1) ns)) 1 [])
 
+-- the nodes of the first child of the node at a place
+abbrev pub first_child_nodes : List Node → ℕ → List Node
+first_child_nodes ns p = get_or (terms kids_of 2 (drop (p + 1) ns)) 0 []
+
 -- so many parameters
 abbrev pub parameters : ℕ → List Label
 parameters zero = []

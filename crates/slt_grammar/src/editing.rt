@@ -3,9 +3,10 @@ ghost use Rattle.std.specs.Prelude.{◌≡◌, ◌+◌, ◌≤◌, ℕ, IfOk, Is
 ghost use Rattle.rule_arena.specs.Terms.{labelled};
 ghost use Rattle.rule_arena.specs.declared.label.Label.TheVariants.{Call, Symbol};
 ghost use Rattle.slt_grammar.specs.ChangedValues.{ChangesSymbol, GivesWay};
-ghost use Rattle.slt_grammar.specs.Grammars.{size, value_at};
-ghost use Rattle.slt_grammar.specs.Keyed.{nodes_at, rules_of};
-ghost use Rattle.slt_grammar.specs.KeyedEdits.{FoldsInto, IsInlined, Stands, StandsAsCall, StandsAsSymbol, StandsInStart, folded_nodes, lifted_nodes, with_nodes};
+ghost use Rattle.slt_grammar.specs.Bodies.{real_nodes};
+ghost use Rattle.slt_grammar.specs.Grammars.{body_at, size, value_at};
+ghost use Rattle.slt_grammar.specs.Keyed.{labels_of, nodes_at, rules_of};
+ghost use Rattle.slt_grammar.specs.KeyedEdits.{FoldsInto, IsInlined, Stands, StandsAsCall, StandsAsSymbol, StandsInStart, first_child_nodes, folded_nodes, lifted_nodes, with_nodes};
 
 use crate::collecting::prepare;
 use crate::counting::{count_copy, drop_term, recount};
@@ -23,6 +24,7 @@ impl Grammar {
         requires { StandsAsSymbol self.old.rules at }
         ensures rules { (S : Stands self.old.rules at) → self.new.rules
             ≡ with_nodes self.old.rules S.rule (labelled (nodes_at self.old.rules S.rule) S.place (Symbol symbol)) }
+        ensures size { size (rules_of self.new.rules) ≡ size (rules_of self.old.rules) }
         ensures value { (S : StandsInStart self.old.rules at) → ChangesSymbol (rules_of self.old.rules) (rules_of self.new.rules) S.node.here.place symbol }
         ensures spare_nodes { self.new.spare_nodes ≡ self.old.spare_nodes }
         ensures spare_rules { self.new.spare_rules ≡ self.old.spare_rules }
@@ -63,6 +65,8 @@ impl Grammar {
         requires { StandsInStart self.old.rules at }
         ensures rules { (S : Stands self.old.rules at) → self.new.rules
             ≡ with_nodes self.old.rules S.rule (lifted_nodes (nodes_at self.old.rules S.rule) S.place) }
+        ensures size { (S : Stands self.old.rules at) → size (rules_of self.new.rules)
+            + (1 + real_nodes (labels_of (first_child_nodes (nodes_at self.old.rules S.rule) S.place))) ≡ size (rules_of self.old.rules) }
         ensures value { (S : StandsInStart self.old.rules at) → GivesWay (rules_of self.old.rules) (rules_of self.new.rules) S.node.here.place }
         ensures spare_nodes { self.old.spare_nodes ≤ self.new.spare_nodes }
         ensures spare_rules { self.new.spare_rules ≡ self.old.spare_rules }
@@ -85,6 +89,8 @@ impl Grammar {
             → IsInlined self.old.rules self.new.rules C.here.rule C.here.place C.called follow key) }
         ensures refused { OnErr result (self.new.rules ≡ self.old.rules) }
         ensures values { (r : ℕ) → value_at (rules_of self.new.rules) r ≡ value_at (rules_of self.old.rules) r }
+        ensures size { OnOk result ((C : StandsAsCall self.old.rules call)
+            → size (rules_of self.new.rules) + 1 ≡ size (rules_of self.old.rules) + real_nodes (body_at (rules_of self.old.rules) C.called)) }
         ensures succeeds { (C : StandsAsCall self.old.rules call) → length (nodes_at self.old.rules C.called) ≤ self.old.spare_nodes
             → IsOk result }
         ensures spare_nodes { OnOk result ((C : StandsAsCall self.old.rules call)

@@ -1,6 +1,7 @@
 // Changes of the list of rules.
 ghost use Rattle.std.specs.Prelude.{◌≡◌, ◌+◌, ◌<◌, ◌≤◌, IsOk, OnOk, length};
-ghost use Rattle.slt_grammar.specs.Grammars.{calls_of, value, IsSwept};
+ghost use Rattle.slt_grammar.specs.Bodies.{real_nodes};
+ghost use Rattle.slt_grammar.specs.Grammars.{body_at, calls_of, size, value, IsSwept};
 ghost use Rattle.slt_grammar.specs.Keyed.{rules_of};
 ghost use Rattle.slt_grammar.specs.KeyedEdits.{rule_dropped, DropsTo};
 
@@ -37,6 +38,7 @@ impl Grammar {
         requires there { rule + 1 < length self.old.rules }
         requires uncalled { calls_of (rules_of self.old.rules) rule ≡ 0 }
         ensures rules { self.new.rules ≡ rule_dropped self.old.rules rule }
+        ensures size { size (rules_of self.new.rules) + real_nodes (body_at (rules_of self.old.rules) rule) ≡ size (rules_of self.old.rules) }
         ensures value { value (rules_of self.new.rules) ≡ value (rules_of self.old.rules) }
         ensures spare_nodes { self.old.spare_nodes ≤ self.new.spare_nodes }
         ensures spare_rules { self.new.spare_rules ≡ self.old.spare_rules + 1 }
@@ -54,6 +56,7 @@ impl Grammar {
     /// Drops all rules that the start doesn't reach. The others keep their order, and their nodes their keys. It takes no memory.
     pub fn sweep(&mut self)
         ensures rules { DropsTo self.old.rules self.new.rules }
+        ensures size { size (rules_of self.new.rules) ≤ size (rules_of self.old.rules) }
         ensures swept { IsSwept (rules_of self.new.rules) }
         ensures value { value (rules_of self.new.rules) ≡ value (rules_of self.old.rules) }
         ensures spare_nodes { self.old.spare_nodes ≤ self.new.spare_nodes }

@@ -4,7 +4,7 @@ use Rattle.slt_grammar.specs.Bodies.{calls_in}
 use Rattle.slt_grammar.specs.Holding.{seen, terms_of}
 use Rattle.slt_grammar.specs.Keyed.{Keyed, labels_of}
 use Rattle.slt_grammar.specs.Placing.{placed, AreKnown}
-use Rattle.slt_grammar.proofs.KeptDrops.{within, raw, gone-known, gone-counted, gone-size, root-stands, seen-dropped, kept-dropped, value-kept}
+use Rattle.slt_grammar.proofs.KeptDrops.{within, raw, gone-known, gone-counted, gone-size, root-stands, seen-dropped, kept-dropped, size-dropped, value-kept}
 use Rattle.slt_grammar.proofs.KeptLemmas.{many-order, written-back}
 use Rattle.slt_grammar.proofs.grammar.Grammar.drop_rule.Goals as goal
 
@@ -73,3 +73,14 @@ pub returns-clause-value : goal.returns-clause-value
 returns-clause-value c =
     let see : seen c.self.inside.order.order c.self.inside.ranks.items (terms_of c.self.inside.arena c.self.inside.roots.items) ≡ c.args.self.now.rules = ap (λ (k : Keyed). k.rules) c.self.view_is in
     value-kept c.self.inside.arena c.self.inside.roots.items c.self.inside.ranks.items c.self.inside.calls.items c.self.inside.order.order c.self.inside.size c.args.self.now.rules c.self.invariant see c.args.rule c.requires.there c.requires.uncalled c.remove-root.result c.remove-root.ensures.value c.cut.new.self c.remove-root.new.self.items c.remove.new.self.items (take c.self.inside.calls.len (c.drop_term-gone.new.calls ++ drop (length c.drop_term-gone.new.calls) c.self.inside.calls.items)) c.remove-2.new.self.items c.remove-3.new.self.order c.drop_term-gone.result c.cut.ensures.others c.remove-root.ensures.items c.remove.ensures.items c.remove-2.ensures.items c.remove-3.ensures.order
+
+pub returns-clause-size : goal.returns-clause-size
+returns-clause-size c =
+    let see : seen c.self.inside.order.order c.self.inside.ranks.items (terms_of c.self.inside.arena c.self.inside.roots.items) ≡ c.args.self.now.rules = ap (λ (k : Keyed). k.rules) c.self.view_is in
+    let t = root-stands c.self.inside.arena c.self.inside.roots.items c.self.inside.ranks.items c.self.inside.calls.items c.self.inside.order.order c.self.inside.size c.args.self.now.rules c.self.invariant see c.args.rule c.requires.there c.requires.uncalled c.remove-root.result c.remove-root.ensures.value in
+    let v : c.as_mut_slice.result.now ≡ c.self.inside.calls.items = c.as_mut_slice.ensures.value in
+    let lc : length c.drop_term-gone.new.calls ≡ length c.self.inside.calls.items = c.drop_term-gone.auto.calls ∙ ap length v in
+    let wc : (take c.self.inside.calls.len (c.drop_term-gone.new.calls ++ drop (length c.drop_term-gone.new.calls) c.self.inside.calls.items)) ≡ c.drop_term-gone.new.calls = written-back c.self.inside.calls.len c.drop_term-gone.new.calls c.self.inside.calls.items c.self.inside.calls.ok.0 lc in
+    let moved = subst (λ (xs : List ℕ). (q : ℕ) → q < length xs → get_or c.drop_term-gone.new.calls q 0 + calls_in q (labels_of (placed c.self.inside.order.order (raw c.self.inside.arena c.self.inside.roots.items c.self.inside.ranks.items c.self.inside.calls.items c.self.inside.order.order c.self.inside.size c.args.self.now.rules c.self.invariant see c.args.rule c.requires.there c.requires.uncalled))) ≡ get_or xs q 0) v (c.drop_term-gone.ensures.calls (raw c.self.inside.arena c.self.inside.roots.items c.self.inside.ranks.items c.self.inside.calls.items c.self.inside.order.order c.self.inside.size c.args.self.now.rules c.self.invariant see c.args.rule c.requires.there c.requires.uncalled) t) in
+    let again = subst (λ (ys : List ℕ). (q : ℕ) → q < length c.self.inside.calls.items → get_or ys q 0 + calls_in q (labels_of (placed c.self.inside.order.order (raw c.self.inside.arena c.self.inside.roots.items c.self.inside.ranks.items c.self.inside.calls.items c.self.inside.order.order c.self.inside.size c.args.self.now.rules c.self.invariant see c.args.rule c.requires.there c.requires.uncalled))) ≡ get_or c.self.inside.calls.items q 0) (sym wc) moved in
+    size-dropped c.self.inside.arena c.self.inside.roots.items c.self.inside.ranks.items c.self.inside.calls.items c.self.inside.order.order c.self.inside.size c.args.self.now.rules c.self.invariant see c.args.rule c.requires.there c.requires.uncalled c.remove-root.result c.remove-root.ensures.value c.cut.new.self c.remove-root.new.self.items c.remove.new.self.items (take c.self.inside.calls.len (c.drop_term-gone.new.calls ++ drop (length c.drop_term-gone.new.calls) c.self.inside.calls.items)) c.remove-2.new.self.items c.remove-3.new.self.order c.drop_term-gone.result c.cut.ensures.others c.remove-root.ensures.items c.remove.ensures.items c.remove-2.ensures.items c.remove-3.ensures.order (ap length wc ∙ lc) again (c.drop_term-gone.ensures.real (raw c.self.inside.arena c.self.inside.roots.items c.self.inside.ranks.items c.self.inside.calls.items c.self.inside.order.order c.self.inside.size c.args.self.now.rules c.self.invariant see c.args.rule c.requires.there c.requires.uncalled) t)

@@ -1,15 +1,16 @@
 use Rattle.std.proofs.Common.{◌≡◌, ◌∙◌, ◌+◌, ◌-◌, ◌<◌, ◌++◌, ℕ, List, Option, Some, IsSome, slice_get, length, get_or, take, drop, ap, sym, refl, subst, arith}
 use Rattle.rule_arena.specs.Terms.{Node, term_at}
 use Rattle.rule_arena.specs.declared.key.Key.{Key}
-use Rattle.slt_grammar.specs.Bodies.{calls_in}
+use Rattle.slt_grammar.specs.Bodies.{calls_in, real_nodes}
+use Rattle.slt_grammar.specs.Grammars.{size}
 use Rattle.slt_grammar.specs.Holding.{seen, terms_of, AreHeld, Changed, IsKept}
-use Rattle.slt_grammar.specs.Keyed.{Keyed, labels_of, nodes_at}
-use Rattle.slt_grammar.specs.KeyedEdits.{lifted_nodes, with_nodes}
+use Rattle.slt_grammar.specs.Keyed.{Keyed, labels_of, nodes_at, rules_of}
+use Rattle.slt_grammar.specs.KeyedEdits.{first_child_nodes, lifted_nodes, with_nodes}
 use Rattle.slt_grammar.specs.Placing.{placed, AreKnown}
 use Rattle.slt_grammar.proofs.ChangedValues.{lifting-changes}
 use Rattle.slt_grammar.proofs.Held.{root-at}
 use Rattle.slt_grammar.proofs.KeptLemmas.{lawful, many-order, once-both, written-back}
-use Rattle.slt_grammar.proofs.KeptLifts.{at-here, raw-node, raw, p, two, raw-gone, gone-known, gone-counted, gone-size, seen-lifted, kept-lifted}
+use Rattle.slt_grammar.proofs.KeptLifts.{at-here, raw-node, raw, p, two, raw-gone, gone-known, gone-counted, gone-size, seen-lifted, kept-lifted, size-lifted}
 use Rattle.slt_grammar.proofs.grammar.Grammar.lift.Goals as goal
 
 same : (o : Option (List Node)) (ns ms : List Node) → o ≡ Some ns → o ≡ Some ms → ns ≡ ms
@@ -99,3 +100,25 @@ returns-clause-value c = λ S.
     lifting-changes c.args.self.now.rules _ c.args.at
     (lawful c.self.inside.arena c.self.inside.roots.items c.self.inside.ranks.items c.self.inside.calls.items c.self.inside.order.order c.self.inside.size c.args.self.now.rules c.self.invariant see)
     S (returns-clause-rules c S.node.here)
+
+pub returns-clause-size : goal.returns-clause-size
+returns-clause-size c = λ S.
+    let see : seen c.self.inside.order.order c.self.inside.ranks.items (terms_of c.self.inside.arena c.self.inside.roots.items) ≡ c.args.self.now.rules = ap (λ (k : Keyed). k.rules) c.self.view_is in
+    let t = c.lift_at.ensures.out (at-here c.self.inside.arena c.self.inside.roots.items c.self.inside.ranks.items c.self.inside.calls.items c.self.inside.order.order c.self.inside.size c.args.self.now.rules c.self.invariant see c.limit-limit.ensures.sound c.limit-limit.ensures.few c.args.at c.requires) (raw-node c.self.inside.arena c.self.inside.roots.items c.self.inside.ranks.items c.self.inside.calls.items c.self.inside.order.order c.self.inside.size c.args.self.now.rules c.self.invariant see c.limit-limit.ensures.sound c.limit-limit.ensures.few c.args.at c.requires).0 (raw-node c.self.inside.arena c.self.inside.roots.items c.self.inside.ranks.items c.self.inside.calls.items c.self.inside.order.order c.self.inside.size c.args.self.now.rules c.self.invariant see c.limit-limit.ensures.sound c.limit-limit.ensures.few c.args.at c.requires).1 in
+    let v : c.as_mut_slice-2.result.now ≡ c.self.inside.calls.items = c.as_mut_slice-2.ensures.value in
+    let lr : length c.lift_at.new.roots ≡ length c.self.inside.roots.items = c.lift_at.auto.roots ∙ ap length c.as_mut_slice.ensures.value in
+    let wr : take c.self.inside.roots.len (c.lift_at.new.roots ++ drop (length c.lift_at.new.roots) c.self.inside.roots.items) ≡ c.lift_at.new.roots = written-back c.self.inside.roots.len c.lift_at.new.roots c.self.inside.roots.items c.self.inside.roots.ok.0 lr in
+    let k = root-at c.self.inside.arena c.self.inside.roots.items c.self.inside.ranks.items c.self.inside.order.order c.args.self.now.rules c.self.invariant.rules see c.requires.node.here.rule c.requires.node.here.place c.args.at c.requires.node.here.there in
+    let ch = subst (λ (ks : List Key). Changed c.self.inside.arena c.lift_at.new.arena ks c.lift_at.new.roots c.requires.node.here.rule (lifted_nodes (raw c.self.inside.arena c.self.inside.roots.items c.self.inside.ranks.items c.self.inside.calls.items c.self.inside.order.order c.self.inside.size c.args.self.now.rules c.self.invariant see c.limit-limit.ensures.sound c.limit-limit.ensures.few c.args.at c.requires) (p c.self.inside.arena c.self.inside.roots.items c.self.inside.ranks.items c.self.inside.calls.items c.self.inside.order.order c.self.inside.size c.args.self.now.rules c.self.invariant see c.limit-limit.ensures.sound c.limit-limit.ensures.few c.args.at c.requires))) c.as_mut_slice.ensures.value
+    (c.lift_at.ensures.changed c.requires.node.here.rule k.0 (at-here c.self.inside.arena c.self.inside.roots.items c.self.inside.ranks.items c.self.inside.calls.items c.self.inside.order.order c.self.inside.size c.args.self.now.rules c.self.invariant see c.limit-limit.ensures.sound c.limit-limit.ensures.few c.args.at c.requires) (ap (λ (ks : List Key). slice_get ks c.requires.node.here.rule) c.as_mut_slice.ensures.value ∙ k.1) refl) in
+    let lc : length c.drop_term-gone.new.calls ≡ length c.self.inside.calls.items = c.drop_term-gone.auto.calls ∙ ap length v in
+    let wc : take c.self.inside.calls.len (c.drop_term-gone.new.calls ++ drop (length c.drop_term-gone.new.calls) c.self.inside.calls.items) ≡ c.drop_term-gone.new.calls = written-back c.self.inside.calls.len c.drop_term-gone.new.calls c.self.inside.calls.items c.self.inside.calls.ok.0 lc in
+    let moved = subst (λ (xs : List ℕ). (q : ℕ) → q < length xs → get_or c.drop_term-gone.new.calls q 0 + calls_in q (labels_of (placed c.self.inside.order.order (raw-gone c.self.inside.arena c.self.inside.roots.items c.self.inside.ranks.items c.self.inside.calls.items c.self.inside.order.order c.self.inside.size c.args.self.now.rules c.self.invariant see c.limit-limit.ensures.sound c.limit-limit.ensures.few c.args.at c.requires))) ≡ get_or xs q 0) v (c.drop_term-gone.ensures.calls (raw-gone c.self.inside.arena c.self.inside.roots.items c.self.inside.ranks.items c.self.inside.calls.items c.self.inside.order.order c.self.inside.size c.args.self.now.rules c.self.invariant see c.limit-limit.ensures.sound c.limit-limit.ensures.few c.args.at c.requires) t) in
+    let o = once-both c.self.inside.arena c.self.inside.roots.items c.self.inside.ranks.items c.self.inside.calls.items c.self.inside.order.order c.self.inside.size c.args.self.now.rules c.self.invariant see c.limit-limit.ensures.sound c.limit-limit.ensures.few c.args.at c.requires.node.here.rule c.requires.node.here.place S.rule S.place c.requires.node.here.there S.there in
+    omega (
+      arith,
+      ap (λ (ks : List Key). size (rules_of (seen c.self.inside.order.order c.self.inside.ranks.items (terms_of c.cut.new.self ks)))) wr,
+      (size-lifted c.self.inside.arena c.self.inside.roots.items c.self.inside.ranks.items c.self.inside.calls.items c.self.inside.order.order c.self.inside.size c.args.self.now.rules c.self.invariant see c.limit-limit.ensures.sound c.limit-limit.ensures.few c.args.at c.requires c.lift_at.new.arena c.cut.new.self c.lift_at.new.roots c.drop_term-gone.new.calls c.drop_term-gone.result ch c.lift_at.ensures.apart c.cut.ensures.others lc moved (c.drop_term-gone.ensures.real (raw-gone c.self.inside.arena c.self.inside.roots.items c.self.inside.ranks.items c.self.inside.calls.items c.self.inside.order.order c.self.inside.size c.args.self.now.rules c.self.invariant see c.limit-limit.ensures.sound c.limit-limit.ensures.few c.args.at c.requires) t)),
+      ap (λ (r : ℕ). real_nodes (labels_of (first_child_nodes (nodes_at c.args.self.now.rules r) c.requires.node.here.place))) o.0,
+      ap (λ (i : ℕ). real_nodes (labels_of (first_child_nodes (nodes_at c.args.self.now.rules S.rule) i))) o.1,
+    )

@@ -1,10 +1,10 @@
-use Rattle.std.proofs.Common.{◌≡◌, ap}
+use Rattle.std.proofs.Common.{◌≡◌, ap, arith}
 use Rattle.slt_grammar.specs.Keyed.{Keyed}
 use Rattle.slt_grammar.specs.Holding.{seen, terms_of}
 use Rattle.slt_grammar.proofs.KeptRelabels.{seen-relabelled, kept-relabelled}
 use Rattle.slt_grammar.proofs.Held.{node-is}
 use Rattle.slt_grammar.proofs.ChangedValues.{relabelling-changes}
-use Rattle.slt_grammar.proofs.KeptLemmas.{lawful}
+use Rattle.slt_grammar.proofs.KeptLemmas.{lawful, counted}
 use Rattle.slt_grammar.proofs.grammar.Grammar.relabel.Goals as goal
 
 pub relabel-requires : goal.relabel-requires
@@ -30,3 +30,8 @@ returns-clause-value c = λ S.
     relabelling-changes c.args.self.now.rules _ c.args.at c.args.symbol
     (lawful c.self.inside.arena c.self.inside.roots.items c.self.inside.ranks.items c.self.inside.calls.items c.self.inside.order.order c.self.inside.size c.args.self.now.rules c.self.invariant see)
     S (returns-clause-rules c S.node.here)
+
+pub returns-clause-size : goal.returns-clause-size
+returns-clause-size c =
+    let see : seen c.self.inside.order.order c.self.inside.ranks.items (terms_of c.self.inside.arena c.self.inside.roots.items) ≡ c.args.self.now.rules = ap (λ (k : Keyed). k.rules) c.self.view_is in
+    omega (arith, (invariant_of-self c).counted.real, (counted c.self.inside.arena c.self.inside.roots.items c.self.inside.ranks.items c.self.inside.calls.items c.self.inside.order.order c.self.inside.size c.args.self.now.rules c.self.invariant see).real)

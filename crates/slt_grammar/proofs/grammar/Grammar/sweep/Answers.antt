@@ -15,6 +15,7 @@ loop-rule-init c =
     record {
       drops = NoDrop c.args.self.now.rules;
       value = refl;
+      size = omega arith;
       some = omega (arith, s, v, n);
       called = λ q h k. absurd (omega (arith, v, n, s));
       spare_nodes = omega arith;
@@ -33,6 +34,7 @@ loop-rule-preserved-then-calls-eq0 c =
     record {
       drops = subst (λ (G : List KeyedRule). DropsTo c.args.self.now.rules G) (sym e) (Drop c.args.self.now.rules c.loop-rule.self.rules p I.drops h u);
       value = c.drop_rule.ensures.value ∙ I.value;
+      size = omega (arith, I.size, c.drop_rule.ensures.size);
       some = omega (arith, w.0, ap length e, h);
       called = λ q k l. subst (λ (G : List KeyedRule). 0 < calls_of (rules_of G) q) (sym e) (w.1 q k (omega (arith, ap length e)));
       spare_nodes = omega (arith, I.spare_nodes, c.drop_rule.ensures.spare_nodes);

@@ -1,0 +1,2 @@
+pub mod KeyedNodes
+pub mod LawfulBodies

@@ -1,16 +1,20 @@
 -- Nodes that are linked one after another.
 use Rattle.std.proofs.Common.{◌≡◌, ◌≢◌, ◌<◌, ◌≤◌, ◌+◌, ◌⊎◌, inl, inr, ℕ, zero, suc, List, [], ◌∷◌, length, Option, Some, None, IsSome, slice_get, Bool, true, false, MatchBool, refl, ap, sym, ◌∙◌, subst, arith}
 use Rattle.std.proofs.lemmas.Bool.{cases_eq, cases_lt}
+use Rattle.std.proofs.lemmas.List.{length-map}
+use Rattle.std.proofs.lemmas.List.Sums.{sum_by-cons}
 use Rattle.rule_arena.specs.Terms.{Node, parent_in, key_in}
 use Rattle.rule_arena.specs.declared.key.Key.{Key}
 use Rattle.rule_arena.specs.declared.label.Label.{Label}
 use Rattle.slt_grammar.specs.Names.{Bottom, Symbol, Call, Param}
 use Rattle.slt_grammar.specs.Algebras.{ranks_of}
-use Rattle.slt_grammar.specs.Keyed.{Keyed, KeyedRule, IsKeyed, rules_of, nodes_at, key_at}
+use Rattle.slt_grammar.specs.Grammars.{whole}
+use Rattle.slt_grammar.specs.Keyed.{Keyed, KeyedRule, IsKeyed, rules_of, labels_of, nodes_at, key_at}
+use Rattle.slt_grammar.specs.declared.rules.Rule.{Rule}
 use Rattle.slt_grammar.proofs.KeyedLemmas.{key_at-within}
 use Rattle.digram_index.specs.Digrams.{Cell, OccursAt, parent_node, occurrence_under, occurrence_below, occurrence_at}
 use Rattle.digram_index.specs.Linked.{Linked, IsIndexOf, cell}
-use Rattle.digram_index.specs.Building.{IsNumberIn, IsLinking, IsUnlinking, IsBuilt}
+use Rattle.digram_index.specs.Building.{IsNumberIn, IsLinking, IsUnlinking, IsBuilt, IsBuilding, IsClearing, nodes_before}
 use Rattle.digram_index.proofs.ParentLemmas.{keyed_place, parent-key}
 use Rattle.digram_index.proofs.LevelLemmas.{same_some}
 use Rattle.digram_index.proofs.Apartness.{one-key}
@@ -172,3 +176,88 @@ built-index g r I B h = record {
   all = λ s p key k. B.done s p key (let w = key_at-within g.rules s p key k in omega (arith, w.0)) k;
   only = λ k x. let w = B.only k x in (w.1.1.0, (w.0, (w.1.0, (w.1.1.1.0, w.1.1.1.1))));
 }
+
+pub none-left : (o : Option Cell) → (o ≢ None → ⊥) → o ≡ None
+none-left None h = refl
+none-left (Some c) h = absurd (h (λ e. let z : Some c ≡ None = e in cc))
+
+pub building-begins : (G : List KeyedRule) (I : Linked) → I.rules ≡ length G → ((k : ℕ) → cell I k ≡ None) → IsBuilding G 0 I I
+building-begins G I rules free = record {
+  built = record { rules = rules; done = λ r p key h k. absurd (omega arith); todo = λ r p key h k. free key.number; only = λ k x. absurd (x (free k)) };
+  room = omega arith;
+  spare = omega arith;
+}
+
+before-next : (G : List KeyedRule) (r : ℕ) → nodes_before G (suc r) ≡ nodes_before G r + length (nodes_at G r)
+before-next [] r = refl
+before-next (R ∷ []) zero = omega arith
+before-next (R ∷ (S ∷ G)) zero = omega arith
+before-next (R ∷ G) (suc r) = let z = before-next G r in omega arith
+
+whole-next : (R : KeyedRule) (G : List KeyedRule) → whole (rules_of (R ∷ G)) ≡ length R.nodes + whole (rules_of G)
+whole-next R G =
+    let n = length-map R.nodes (λ (m : Node). m.label) in
+    let s = sum_by-cons (λ (S : Rule). length S.body) (record { rank = R.rank; body = labels_of R.nodes }) (rules_of G) in
+    s ∙ ap (λ k. k + whole (rules_of G)) n
+
+pub before-few : (G : List KeyedRule) (r : ℕ) → nodes_before G r + length (nodes_at G r) ≤ whole (rules_of G)
+before-few [] r = omega arith
+before-few (R ∷ G) zero = let z = whole-next R G in omega arith
+before-few (R ∷ G) (suc r) = let z = whole-next R G in let w = before-few G r in omega arith
+
+-- one rule more, with room
+pub building-next : (g : Keyed) → IsKeyed g → (r : ℕ) (old now new : Linked) → IsBuilding g.rules r old now
+    → ((p : ℕ) (key : Key) → key_at g.rules r p ≡ Some key → cell new key.number ≡ occurrence_at g.rules r p)
+    → ((k : ℕ) → (IsNumberIn g.rules r k → ⊥) → cell new k ≡ cell now k)
+    → ((k : ℕ) → cell new k ≢ None → (cell now k ≢ None) ⊎ IsNumberIn g.rules r k) → new.rules ≡ now.rules
+    → length now.cells ≤ length new.cells → now.spare_links ≤ new.spare_links + length (nodes_at g.rules r)
+    → IsBuilding g.rules (r + 1) old new
+building-next g K r old now new B linked others only rules room spare = record {
+  built = built-next g K r now new B.built linked others only rules;
+  room = let z = B.room in omega arith;
+  spare =
+      let z = B.spare in
+      let w = before-next g.rules r in
+      let e : nodes_before g.rules (r + 1) ≡ nodes_before g.rules (suc r) = ap (nodes_before g.rules) (let y : r + 1 ≡ suc r = omega arith in y) in
+      omega arith;
+}
+
+pub clearing-begins : (g : Keyed) (I : Linked) → IsIndexOf g I → IsClearing g.rules 0 I I
+clearing-begins g I A = record {
+  left = λ k x. let w = A.only k x in (w.1.0, (omega arith, (w.1.1.0, (w.0, (w.1.1.1.0, w.1.1.1.1)))));
+  rules = refl;
+  room = refl;
+  spare = refl;
+  spare_rules = refl;
+}
+
+-- one rule fewer
+pub clearing-next : (G : List KeyedRule) (r : ℕ) (old now new : Linked) → IsClearing G r old now
+    → ((p : ℕ) (key : Key) → key_at G r p ≡ Some key → cell new key.number ≡ None)
+    → ((k : ℕ) → (IsNumberIn G r k → ⊥) → cell new k ≡ cell now k) → new.rules ≡ now.rules
+    → length new.cells ≡ length now.cells → (new.spare_links ≡ now.spare_links) × (new.spare_rules ≡ now.spare_rules)
+    → IsClearing G (r + 1) old new
+clearing-next G r old now new C free others rules room spares = record {
+  left = λ k x.
+      let far = λ (n : IsNumberIn G r k). x (gone k n) in
+      let w = C.left k (λ z. x (others k far ∙ z)) in
+      (w.0, (later k far w.0 w.1.0 w.1.1 (cases_eq w.0 r), w.1.1));
+  rules = rules ∙ C.rules;
+  room = room ∙ C.room;
+  spare = spares.0 ∙ C.spare;
+  spare_rules = spares.1 ∙ C.spare_rules;
+}
+  where
+    gone : (k : ℕ) → IsNumberIn G r k → cell new k ≡ None
+    gone k (p, (key, (a, b))) = ap (cell new) (sym b) ∙ free p key a
+
+    later : (k : ℕ) → (IsNumberIn G r k → ⊥) → (s : ℕ) → r ≤ s → IsNumberIn G s k → (s ≡ r) ⊎ (s ≡ r → ⊥) → r + 1 ≤ s
+    later k far s h n (inl e) = absurd (far (subst (λ t. IsNumberIn G t k) e n))
+    later k far s h n (inr e) = omega arith
+
+pub clearing-ends : (G : List KeyedRule) (r : ℕ) (old new : Linked) → IsClearing G r old new → length G ≤ r → (k : ℕ) → cell new k ≡ None
+clearing-ends G r old new C h k = none-left (cell new k) (λ x.
+    let w = C.left k x in
+    let t = key_at-within G w.0 w.1.1.0 w.1.1.1.0 w.1.1.1.1.0 in
+    let l = w.1.0 in
+    omega (arith, t.0))

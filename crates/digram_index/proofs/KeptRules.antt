@@ -1,5 +1,5 @@
 -- An index that is kept while a rule is put before another, or is taken away.
-use Rattle.std.proofs.Common.{◌≡◌, ◌≢◌, ◌+◌, ◌<◌, ◌≤◌, ◌⊎◌, inl, inr, ℕ, length, map, remove, Option, Some, None, refl, ap, sym, ◌∙◌, arith}
+use Rattle.std.proofs.Common.{◌≡◌, ◌≢◌, ◌+◌, ◌<◌, ◌≤◌, ◌⊎◌, inl, inr, ℕ, length, map, remove, Some, None, refl, ap, sym, ◌∙◌, arith}
 use Rattle.std.proofs.lemmas.Bool.{cases_eq}
 use Rattle.std.proofs.lemmas.List.{length-map}
 use Rattle.rule_arena.specs.declared.key.Key.{Key}
@@ -13,10 +13,11 @@ use Rattle.slt_grammar.specs.Placing.{DoesNotCall}
 use Rattle.slt_grammar.proofs.Additions.{length-insert, never-there}
 use Rattle.slt_grammar.proofs.Removals.{length-left}
 use Rattle.digram_index.specs.Building.{IsNumberIn}
-use Rattle.digram_index.specs.Digrams.{Cell, occurrence_at}
+use Rattle.digram_index.specs.Digrams.{occurrence_at}
 use Rattle.digram_index.specs.Keeping.{IsIndexBut}
 use Rattle.digram_index.specs.Linked.{Linked, IsIndexOf, Lacks, cell, shifted_cell, unshifted_cell}
 use Rattle.digram_index.proofs.Apartness.{one-key, stands}
+use Rattle.digram_index.proofs.BuildLemmas.{none-left}
 use Rattle.digram_index.proofs.MovedRules.{place_cases, key-put, occurrence-put, key-left, occurrence-left, never-called}
 use Rattle.digram_index.proofs.Tops.{call-same}
 
@@ -55,10 +56,6 @@ linked-whole g K r I J B rules linked others only = record {
     known : (k : ℕ) → (cell I k ≢ None) ⊎ IsNumberIn g.rules r k → (key : Key) × ((s : ℕ) × ((p : ℕ) × ((key_at g.rules s p ≡ Some key) × (key.number ≡ k))))
     known k (inl x) = B.only k x
     known k (inr (p, (key, (a, b)))) = (key, (r, (p, (a, b))))
-
-none-left : (o : Option Cell) → (o ≢ None → ⊥) → o ≡ None
-none-left None h = refl
-none-left (Some c) h = absurd (h (λ e. let z : Some c ≡ None = e in cc))
 
 -- once a rule was put before the one at a place, the index has all but the new rule's occurrences
 pub put-kept : (g h : Keyed) → IsKeyed h → (place : ℕ) (R : KeyedRule) → place ≤ length g.rules → h.rules ≡ rule_put g.rules place R → (I J : Linked) → IsIndexOf g I → J.rules ≡ I.rules + 1

@@ -1,7 +1,8 @@
 // An index that is built from a whole grammar.
 ghost use Rattle.std.specs.Prelude.{◌≡◌, ◌≢◌, ◌+◌, ◌<◌, ◌≤◌, ◌⊎◌, ℕ, length, Some, None, OnOk, IfOk, IsOk, IsSome, MatchBool};
 ghost use Rattle.slt_grammar.specs.Names.{Param};
-ghost use Rattle.slt_grammar.specs.Keyed.{key_at, nodes_at};
+ghost use Rattle.slt_grammar.specs.Grammars.{whole};
+ghost use Rattle.slt_grammar.specs.Keyed.{key_at, nodes_at, rules_of};
 ghost use Rattle.rule_arena.specs.declared.key.Key.{Key};
 ghost use Rattle.digram_index.specs.Digrams.{Cell, OccursAt, occurrence_at};
 ghost use Rattle.digram_index.specs.Linked.{IsIndexOf, cell};
@@ -21,10 +22,38 @@ pub fn build(alloc: Global, grammar: &Grammar) -> Result<Index, AllocError>
     let _limit = grammar.limit();
     let mut index = Index::new(alloc, grammar.rules())?;
     index.reserve(grammar, 0, 0)?;
-    for rule in 0..grammar.rules() {
-        link_nodes::<Brand>(&mut index, grammar, rule, Blank::new(1))?;
-    }
+    link_all(&mut index, grammar)?;
     Ok(index)
+}
+
+/// Links the nodes of all rules, where none is linked. With room for as many occurrences as there are nodes, it succeeds.
+pub fn link_all(index: &mut Index, grammar: &Grammar) -> Result<(), AllocError>
+    requires rules { index.old.rules ≡ length grammar.now.rules }
+    requires free { (k : ℕ) → cell index.old k ≡ None }
+    ensures linked { OnOk result (IsIndexOf grammar.now index.new) }
+    ensures rules { index.new.rules ≡ index.old.rules }
+    ensures room { length index.old.cells ≤ length index.new.cells }
+    ensures succeeds { whole (rules_of grammar.now.rules) ≤ index.old.spare_links → grammar.now.limit ≤ length index.old.cells → IsOk result }
+{
+    let _limit = grammar.limit();
+    for rule in 0..grammar.rules() {
+        link_nodes::<Brand>(index, grammar, rule, Blank::new(1))?;
+    }
+    Ok(())
+}
+
+/// Takes all occurrences of the grammar away. It takes no memory.
+pub fn unlink_all(index: &mut Index, grammar: &Grammar)
+    requires { IsIndexOf grammar.now index.old }
+    ensures free { (k : ℕ) → cell index.new k ≡ None }
+    ensures rules { index.new.rules ≡ index.old.rules }
+    ensures room { length index.new.cells ≡ length index.old.cells }
+    ensures spares { (index.new.spare_links ≡ index.old.spare_links) × (index.new.spare_rules ≡ index.old.spare_rules) }
+{
+    let _limit = grammar.limit();
+    for rule in 0..grammar.rules() {
+        unlink_nodes::<Brand>(index, grammar, rule, Blank::new(1));
+    }
 }
 
 // Whether a node is the lower node of an occurrence.

@@ -28,6 +28,7 @@ pub fn prune(alloc: Global, grammar: &mut Grammar, index: &mut Index) -> Result<
     ensures size { size (rules_of grammar.new.rules) ≤ size (rules_of grammar.old.rules) }
     ensures rules { length grammar.new.rules ≤ length grammar.old.rules }
     ensures index { IsIndexOf grammar.new index.new }
+    ensures stays { IsSwept (rules_of grammar.old.rules) → IsSwept (rules_of grammar.new.rules) }
     ensures refused { OnErr result ((grammar.new ≡ grammar.old) × (index.new ≡ index.old)) }
 {
     if all_save(grammar) {

@@ -1,11 +1,11 @@
 //! The kept index of the digrams of a grammar.
 //!
 //! An `Index` has an occurrence for each lower node, found by the node's number. `threads` keeps items in groups, each group a
-//! list in which one item is put in or taken out in a constant number of steps, and `thread` is what it keeps at a place; `patterns` tells digrams apart; `numbers` gives
-//! rules numbers that stay; `ranking` keeps the digrams in buckets by rank and count; `entries` joins these, and knows nothing of
-//! grammars. `index` links what it reads of a grammar and answers which digram to replace next (`top`); `building` links all
-//! nodes of a rule or of a grammar. Contracts see the cells by node number (`specs/Linked.antt`) and compare them with the
-//! occurrences of a grammar (`specs/Digrams.antt`).
+//! list in which one item is put in or taken out in a constant number of steps, and `thread` is what it keeps at a place;
+//! `patterns` tells digrams apart; `numbers` gives rules numbers that stay; `ranking` keeps the digrams in buckets by rank and
+//! count; `entries` joins these, and knows nothing of grammars. `index` links what it reads of a grammar and answers which digram
+//! to replace next (`top`); `building` links all nodes of a rule or of a grammar. Contracts see the cells by node number
+//! (`specs/Linked.antt`) and compare them with the occurrences of a grammar (`specs/Digrams.antt`).
 #![tactic(auto)]
 
 mod building;

@@ -1,6 +1,6 @@
 // Grammars that are pruned.
 use crate::{prune, saving};
-use digram_index::{Digram, build};
+use digram_index::build;
 use slt_grammar::Label::{self, Bottom, Call, Param, Symbol};
 use slt_grammar::{Body, Grammar, RuleList, check};
 use std::alloc::{AllocError, Global};
@@ -76,61 +76,48 @@ fn rules_of(alloc: Global, rows: &[Row]) -> Result<RuleList, AllocError> {
     Ok(rules)
 }
 
-#[test]
-fn a_rule_that_is_called_once_goes(rt: HostRuntime) -> Result<(), Fail> {
-    let alloc = rt.alloc();
-    let mut grammar = check(alloc, rules_of(alloc, &ONCE)?)?;
+// What a rule saves, and none where it is the start or is not there.
+fn saving_of(grammar: &Grammar, rule: usize) -> Option<i128> {
+    if rule < grammar.rules() - 1 {
+        Some(saving(grammar, rule))
+    } else {
+        None
+    }
+}
+
+// What the first two rules save.
+fn savings_of(alloc: Global, rows: &[Row]) -> Result<[Option<i128>; 2], Fail> {
+    let grammar = check(alloc, rules_of(alloc, rows)?)?;
+    Ok([saving_of(&grammar, 0), saving_of(&grammar, 1)])
+}
+
+// How many nodes the pruned grammar has, and what its first two rules save.
+fn pruned(alloc: Global, rows: &[Row]) -> Result<(u64, [Option<i128>; 2]), Fail> {
+    let mut grammar = check(alloc, rules_of(alloc, rows)?)?;
     let mut index = build(alloc, &grammar)?;
-    assert_eq!(rt; grammar.rules(), 2);
     prune(alloc, &mut grammar, &mut index)?;
-    assert_eq!(rt; grammar.rules(), 1);
-    assert_eq!(rt; grammar.size(), 5);
-    let child = Digram {
-        upper: DOCUMENT,
-        place: 1,
-        lower: A,
-    };
-    assert_eq!(rt; index.count(child), 1);
+    Ok((
+        grammar.size(),
+        [saving_of(&grammar, 0), saving_of(&grammar, 1)],
+    ))
+}
+
+#[test]
+fn what_rules_save(rt: HostRuntime) -> Result<(), Fail> {
+    let alloc = rt.alloc();
+    assert_eq!(rt; savings_of(alloc, &ONCE)?, [Some(-1), None]);
+    assert_eq!(rt; savings_of(alloc, &SIX)?, [Some(5), None]);
+    assert_eq!(rt; savings_of(alloc, &LARGER)?, [Some(0), Some(0)]);
+    assert_eq!(rt; savings_of(alloc, &NESTED)?, [Some(-1), Some(3)]);
     Ok(())
 }
 
 #[test]
-fn rules_that_save_stay(rt: HostRuntime) -> Result<(), Fail> {
+fn rules_that_save_nothing_go(rt: HostRuntime) -> Result<(), Fail> {
     let alloc = rt.alloc();
-    let mut grammar = check(alloc, rules_of(alloc, &SIX)?)?;
-    let mut index = build(alloc, &grammar)?;
-    assert_eq!(rt; grammar.rules(), 2);
-    assert_eq!(rt; saving(&grammar, 0), 5);
-    prune(alloc, &mut grammar, &mut index)?;
-    assert_eq!(rt; grammar.rules(), 2);
-    assert_eq!(rt; grammar.size(), 12);
-    Ok(())
-}
-
-#[test]
-fn a_rule_saves_more_once_its_callee_is_gone(rt: HostRuntime) -> Result<(), Fail> {
-    let alloc = rt.alloc();
-    let mut grammar = check(alloc, rules_of(alloc, &LARGER)?)?;
-    let mut index = build(alloc, &grammar)?;
-    assert_eq!(rt; grammar.rules(), 3);
-    assert_eq!(rt; saving(&grammar, 0), 0);
-    assert_eq!(rt; saving(&grammar, 1), 0);
-    prune(alloc, &mut grammar, &mut index)?;
-    assert_eq!(rt; grammar.rules(), 2);
-    assert_eq!(rt; saving(&grammar, 0), 1);
-    Ok(())
-}
-
-#[test]
-fn calls_in_arguments_of_calls_go_too(rt: HostRuntime) -> Result<(), Fail> {
-    let alloc = rt.alloc();
-    let mut grammar = check(alloc, rules_of(alloc, &NESTED)?)?;
-    let mut index = build(alloc, &grammar)?;
-    assert_eq!(rt; grammar.rules(), 3);
-    assert_eq!(rt; saving(&grammar, 0), -1);
-    assert_eq!(rt; saving(&grammar, 1), 3);
-    prune(alloc, &mut grammar, &mut index)?;
-    assert_eq!(rt; grammar.rules(), 2);
-    assert_eq!(rt; grammar.size(), 12);
+    assert_eq!(rt; pruned(alloc, &ONCE)?, (5, [None, None]));
+    assert_eq!(rt; pruned(alloc, &SIX)?, (12, [Some(5), None]));
+    assert_eq!(rt; pruned(alloc, &LARGER)?, (8, [Some(1), None]));
+    assert_eq!(rt; pruned(alloc, &NESTED)?, (12, [Some(3), None]));
     Ok(())
 }

@@ -43,7 +43,7 @@ fn first_wrong<L: Ledger>(
         let need = need_of(old.rules.as_slice(), act, body.len());
         let told = call(alloc, grammar, act, &body, &mut steps)?;
         let now = read(alloc, grammar, &mut steps)?;
-        let is_right = is_right(alloc, old, act, body.as_slice(), told, &now)?;
+        let is_right = is_right(alloc, &mut old, act, body.as_slice(), told, &now)?;
         if !is_right || !room.allows(act, need, told) {
             return Ok(Some(act));
         }

@@ -9,37 +9,31 @@ use super::values::are_alike;
 use slt_grammar::{Key, Label};
 use std::alloc::{AllocError, Global};
 
-// Whether all that is told behind a call is as it should be.
+// Whether all that is told behind a call is as it should be. The old rules become those that are wanted.
 pub(super) fn is_right(
     alloc: Global,
-    old: Reading,
+    old: &mut Reading,
     act: Act,
     body: &[Label],
     told: Told,
     now: &Reading,
 ) -> Result<bool, AllocError> {
-    let Reading {
-        rules,
-        limit,
-        value,
-        ..
-    } = old;
     let keys = if act.makes_keys_anew() {
         Vec::new(alloc)
     } else {
-        keys_of(alloc, rules.as_slice())?
+        keys_of(alloc, old.rules.as_slice())?
     };
-    let mut wanted = rules;
     let site = match told {
         Told::Refused => None,
-        _ => change(alloc, &mut wanted, act, body)?,
+        _ => change(alloc, &mut old.rules, act, body)?,
     };
+    let rules = now.rules.as_slice();
     Ok(
-        is_told(told, site, now.rules.as_slice())
-            && are_as_wanted(now.rules.as_slice(), wanted.as_slice(), keys.as_slice())
+        is_told(told, site, rules)
+            && are_as_wanted(rules, old.rules.as_slice(), keys.as_slice())
             && are_counted(now)
-            && (!act.keeps_limit() || now.limit == limit)
-            && (!act.keeps_value() || are_alike(&value, &now.value)),
+            && (!act.keeps_limit() || now.limit == old.limit)
+            && (!act.keeps_value() || are_alike(&old.value, &now.value)),
     )
 }
 
@@ -98,10 +92,13 @@ fn is_key_as_wanted(key: Option<Key>, wanted: Option<Key>, old: &[Key]) -> bool 
 
 // Whether a call told the key of the node at a site, and none where there is no site.
 fn is_told(told: Told, site: Option<Site>, rules: &[PlainRule]) -> bool {
-    match (told, site) {
-        (Told::Key(key), Some(at)) => key_at(rules, at) == Some(key),
-        (Told::Made | Told::Refused, None) => true,
-        _ => false,
+    match told {
+        Told::NotMade => false,
+        Told::Refused | Told::Made => site.is_none(),
+        Told::Key(key) => match site {
+            Some(at) => is_key_as_wanted(key_at(rules, at), Some(key), &[]),
+            None => false,
+        },
     }
 }
 

@@ -2,7 +2,7 @@
 ghost use Rattle.std.specs.Prelude.{◌≡◌, ◌<◌};
 
 use super::acts::{Act, body_of};
-use super::calls::call;
+use super::calls::{Told, call};
 use super::comparing::is_right;
 use super::grammars::{rows_of, rules_of};
 use super::picks::pick;
@@ -43,11 +43,17 @@ fn first_wrong<L: Ledger>(
         let need = need_of(old.rules.as_slice(), act, body.len());
         let told = call(alloc, grammar, act, &body, &mut steps)?;
         let now = read(alloc, grammar, &mut steps)?;
-        let is_right = is_right(alloc, old, act, body.as_slice(), told, &now)?;
-        if !is_right || !room.allows(act, need, told) {
+        let is_refused = matches!(told, Told::Refused);
+        let is_right = is_right(alloc, &mut old, act, body.as_slice(), told, &now)?;
+        if !is_right || !room.allows(act, &need, is_refused) {
             return Ok(Some(act));
         }
-        room = room.after(act, need, told);
+        // A refusal tells nothing of the room.
+        room = if is_refused {
+            NO_ROOM
+        } else {
+            room.after(act, &need)
+        };
         old = now;
     }
     Ok(None)

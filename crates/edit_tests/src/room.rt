@@ -1,6 +1,5 @@
 // The room of a grammar for more nodes and rules, as far as its calls tell of it.
 use super::acts::Act;
-use super::calls::Told;
 use super::plain::{PlainRule, label_at, nodes_of};
 use slt_grammar::Label::{self, Call};
 
@@ -17,23 +16,21 @@ pub(super) const NO_ROOM: Room = Room { nodes: 0, rules: 0 };
 
 impl Room {
     // Whether there is so much room.
-    fn has(self, need: Room) -> bool {
+    fn has(&self, need: &Room) -> bool {
         need.nodes <= self.nodes && need.rules <= self.rules
     }
 
-    // Whether a call that needs so much may be refused, or made. One that fits is made; room for too many nodes is refused.
-    pub(super) fn allows(self, act: Act, need: Room, told: Told) -> bool {
-        match told {
-            Told::Refused => !self.has(need),
-            _ => !matches!(act, Act::Reserve { .. }) || need.nodes < TOO_MANY,
+    // Whether a call that needs so much may be refused, or may be made. One that fits is made; room for too many nodes is refused.
+    pub(super) fn allows(&self, act: Act, need: &Room, is_refused: bool) -> bool {
+        if is_refused {
+            !self.has(need)
+        } else {
+            !matches!(act, Act::Reserve { .. }) || need.nodes < TOO_MANY
         }
     }
 
-    // What is left behind a call that needs so much; nothing is told of it where the call was refused.
-    pub(super) fn after(self, act: Act, need: Room, told: Told) -> Room {
-        if matches!(told, Told::Refused) {
-            return NO_ROOM;
-        }
+    // What is left behind a call that was made and needs so much.
+    pub(super) fn after(&self, act: Act, need: &Room) -> Room {
         match act {
             Act::Reserve { nodes, rules } => Room {
                 nodes: self.nodes.max(nodes),

@@ -66,8 +66,9 @@ pub linking-next : (g : Keyed) → IsKeyed g → (r : ℕ) (key : Key) (next : O
     → ((s q : ℕ) → key_at g.rules s q ≡ Some key → key_at g.rules s (q + 1) ≡ next)
     → ((s q : ℕ) → key_at g.rules s q ≡ Some key → cell new key.number ≡ occurrence_at g.rules s q)
     → ((k : ℕ) → k ≢ key.number → cell new k ≡ cell now k) → new.rules ≡ now.rules
+    → length now.cells ≤ length new.cells → (now.spare_links ≤ new.spare_links + 1) × (new.spare_rules ≡ now.spare_rules)
     → IsLinking g.rules r next old new begin (n + 1)
-linking-next g K r key next old now new begin n L N linked others rules = record {
+linking-next g K r key next old now new begin n L N linked others rules room spare = record {
   place = L.place + 1;
   there = N r L.place L.there;
   done = λ p m h k. done' p m h k (cases_eq p L.place);
@@ -75,6 +76,10 @@ linking-next g K r key next old now new begin n L N linked others rules = record
   others = λ k x. others k (λ e. x (L.place, (key, (L.there, sym e)))) ∙ L.others k x;
   only = λ k x. only' k x (cases_eq k key.number);
   rules = rules ∙ L.rules;
+  room = let z = L.room in omega arith;
+  spare = let z = L.spare in let w = spare.0 in omega arith;
+  spare_rules = spare.1 ∙ L.spare_rules;
+  within = let w = key_at-within g.rules r L.place key L.there in omega (arith, w.1);
   counted = let c = L.counted in omega arith;
 }
   where
@@ -106,13 +111,17 @@ linking-ends G r old new begin n L p key k = L.done p key (before (cases_lt p L.
 pub unlinking-next : (g : Keyed) → IsKeyed g → (r : ℕ) (key : Key) (next : Option Key) (old now new : Linked) (begin n : ℕ) → IsUnlinking g.rules r (Some key) old now begin n
     → ((s q : ℕ) → key_at g.rules s q ≡ Some key → key_at g.rules s (q + 1) ≡ next)
     → cell new key.number ≡ None → ((k : ℕ) → k ≢ key.number → cell new k ≡ cell now k) → new.rules ≡ now.rules
+    → length new.cells ≡ length now.cells → (new.spare_links ≡ now.spare_links) × (new.spare_rules ≡ now.spare_rules)
     → IsUnlinking g.rules r next old new begin (n + 1)
-unlinking-next g K r key next old now new begin n L N free others rules = record {
+unlinking-next g K r key next old now new begin n L N free others rules room spares = record {
   place = L.place + 1;
   there = N r L.place L.there;
   done = λ p m h k. done' p m h k (cases_eq p L.place);
   others = λ k x. others k (λ e. x (L.place, (key, (L.there, sym e)))) ∙ L.others k x;
   rules = rules ∙ L.rules;
+  room = room ∙ L.room;
+  spare = spares.0 ∙ L.spare;
+  spare_rules = spares.1 ∙ L.spare_rules;
   counted = let c = L.counted in omega arith;
 }
   where

@@ -6,14 +6,15 @@ use Rattle.std.proofs.lemmas.List.{get_or_past}
 use Rattle.rule_arena.specs.declared.key.Key.{Key}
 use Rattle.slt_grammar.specs.Editing.{shifted, shifted_label}
 use Rattle.slt_grammar.specs.Names.{Call as CallLabel}
+use Rattle.slt_grammar.specs.Placing.{unshifted, unshifted_label}
 use Rattle.digram_index.specs.declared.patterns.Mark.{Mark}
 use Rattle.digram_index.specs.declared.patterns.Mark.TheVariants.{Bottom, Symbol, Call, Param}
 use Rattle.digram_index.specs.declared.patterns.Pattern.{Pattern}
 use Rattle.slt_grammar.specs.declared.digram.Digram.{Digram}
-use Rattle.digram_index.specs.Numbers.{Numbering, place_of, IsGiven, unshifted}
+use Rattle.digram_index.specs.Numbers.{Numbering, place_of, IsGiven}
 use Rattle.digram_index.specs.Spots.{Spot, Entered, spot_at}
 use Rattle.digram_index.specs.Digrams.{Cell}
-use Rattle.digram_index.specs.Linked.{label_of, IsKnown, digram_of, cell_of, AreKnown, AreNamed, no_key, shifted_cell, unshifted_label, unshifted_cell}
+use Rattle.digram_index.specs.Linked.{label_of, IsKnown, digram_of, cell_of, AreKnown, AreNamed, no_key, shifted_cell, unshifted_cell}
 
 pub cell-at : (ns : List ℕ) (ss : List (Option Spot)) (k : ℕ) → get_or (map (cell_of ns) ss) k None ≡ cell_of ns (get_or ss k None)
 cell-at ns [] k = refl

@@ -10,7 +10,7 @@ use Rattle.slt_grammar.specs.contracts.digram.DigramPartialEq.TheImpl as eqs
 use Rattle.digram_index.specs.Numbers.{place_of}
 use Rattle.digram_index.specs.Spots.{Spot, with_rank, ranks_total}
 use Rattle.digram_index.specs.Linked.{label_of, IsKnown, digram_of, cell_of, cell_count}
-use Rattle.digram_index.proofs.SpotLemmas.{one_of, one-spot, one-spot-same, one-spot-other, one-spot-few, spot-cons}
+use Rattle.digram_index.proofs.SpotCounts.{one_of, one-spot, one-spot-same, one-spot-other, one-spot-few, spot-cons}
 use Rattle.digram_index.proofs.Tops.{label-injective, call-same}
 use Rattle.std.proofs.Common.{rules}
 

@@ -17,7 +17,7 @@ use Rattle.digram_index.specs.Digrams.{Cell, joint_rank, occurrence_at}
 use Rattle.digram_index.specs.Linked.{Linked, IsIndexOf, label_of, IsKnown, digram_of, cell_of, AreKnown}
 use Rattle.digram_index.specs.Settled.{NodePair, OccursBetween, PairsShareNone, HasThreeApart, IsWithin}
 use Rattle.digram_index.proofs.NumberLemmas.{number-back}
-use Rattle.digram_index.proofs.SpotLemmas.{mark_cases, some-among}
+use Rattle.digram_index.proofs.SpotCounts.{mark_cases, some-among}
 use Rattle.digram_index.proofs.CellLemmas.{cell-at}
 use Rattle.digram_index.proofs.LevelLemmas.{same_some}
 use Rattle.digram_index.proofs.Apartness.{stands, Stood, depth, odd, even-apart, differ-apart, occurs, three-of, Side, Sides, sides}

@@ -6,11 +6,12 @@ use Rattle.rule_arena.specs.declared.label.Label.{Label}
 use Rattle.rule_arena.specs.declared.label.Label.TheVariants.{Bottom, Symbol, Call, Param}
 use Rattle.slt_grammar.specs.Editing.{shifted_label}
 use Rattle.slt_grammar.specs.Keyed.{Keyed, key_at}
+use Rattle.slt_grammar.specs.Placing.{unshifted_label}
 use Rattle.digram_index.specs.declared.patterns.Mark.{Mark}
 use Rattle.digram_index.specs.declared.patterns.Mark.TheVariants.{Bottom as NoMark, Symbol as SymbolMark, Call as CallMark, Param as ParamMark}
 use Rattle.digram_index.specs.declared.patterns.Pattern.{Pattern}
 use Rattle.slt_grammar.specs.declared.digram.Digram.{Digram}
-use Rattle.digram_index.specs.Numbers.{Numbering, place_of, IsGiven, unshifted}
+use Rattle.digram_index.specs.Numbers.{Numbering, place_of, IsGiven}
 use Rattle.digram_index.specs.Spots.{Spot, Entered, spot_at}
 use Rattle.digram_index.specs.Digrams.{Cell, occurrence_at}
 
@@ -81,12 +82,6 @@ shifted_cell place None = None
 shifted_cell place (Some o) = Some (record { digram = shifted_digram place o.digram; rank = o.rank; upper = o.upper })
 
 -- an occurrence once the rule at place is gone
-abbrev pub unshifted_label : ℕ → Label → Label
-unshifted_label place Bottom = Bottom
-unshifted_label place (Symbol f) = Symbol f
-unshifted_label place (Call q) = Call (unshifted place q)
-unshifted_label place Param = Param
-
 abbrev pub unshifted_cell : ℕ → Option Cell → Option Cell
 unshifted_cell place None = None
 unshifted_cell place (Some o) = Some (record {

@@ -1,7 +1,7 @@
 // An index that is built from a whole grammar.
-ghost use Rattle.std.specs.Prelude.{◌≡◌, ◌≢◌, ◌+◌, ◌<◌, ◌≤◌, ◌⊎◌, ℕ, length, Some, None, OnOk, OnErr, IfOk, IsSome, MatchBool};
+ghost use Rattle.std.specs.Prelude.{◌≡◌, ◌≢◌, ◌+◌, ◌<◌, ◌≤◌, ◌⊎◌, ℕ, length, Some, None, OnOk, IfOk, IsOk, IsSome, MatchBool};
 ghost use Rattle.slt_grammar.specs.Names.{Param};
-ghost use Rattle.slt_grammar.specs.Keyed.{key_at};
+ghost use Rattle.slt_grammar.specs.Keyed.{key_at, nodes_at};
 ghost use Rattle.rule_arena.specs.declared.key.Key.{Key};
 ghost use Rattle.digram_index.specs.Digrams.{Cell, OccursAt, occurrence_at};
 ghost use Rattle.digram_index.specs.Linked.{IsIndexOf, cell};
@@ -63,6 +63,9 @@ fn link_node<L: Ledger>(
     ensures linked { OnOk result ((r p : ℕ) → key_at grammar.now.rules r p ≡ Some key → cell index.new key.number ≡ occurrence_at grammar.now.rules r p) }
     ensures others { (k : ℕ) → k ≢ key.number → cell index.new k ≡ cell index.old k }
     ensures rules { index.new.rules ≡ index.old.rules }
+    ensures room { length index.old.cells ≤ length index.new.cells }
+    ensures spare { (index.old.spare_links ≤ index.new.spare_links + 1) × (index.new.spare_rules ≡ index.old.spare_rules) }
+    ensures succeeds { 0 < index.old.spare_links → key.number < length index.old.cells → IsOk result }
     ensures step { steps.new ≡ steps.old + 1 }
 {
     let _limit = grammar.limit();
@@ -89,6 +92,9 @@ pub fn link_nodes<L: Ledger>(
     ensures others { (k : ℕ) → (IsNumberIn grammar.now.rules rule k → ⊥) → cell index.new k ≡ cell index.old k }
     ensures only { OnOk result ((k : ℕ) → cell index.new k ≢ None → (cell index.old k ≢ None) ⊎ IsNumberIn grammar.now.rules rule k) }
     ensures rules { index.new.rules ≡ index.old.rules }
+    ensures room { length index.old.cells ≤ length index.new.cells }
+    ensures spare { (index.old.spare_links ≤ index.new.spare_links + length (nodes_at grammar.now.rules rule)) × (index.new.spare_rules ≡ index.old.spare_rules) }
+    ensures succeeds { length (nodes_at grammar.now.rules rule) ≤ index.old.spare_links → grammar.now.limit ≤ length index.old.cells → IsOk result }
 {
     let _limit = grammar.limit();
     let mut steps: Steps<L> = Steps::new(blank);
@@ -124,6 +130,8 @@ fn unlink_node<L: Ledger>(index: &mut Index, key: Key, steps: &mut Steps<L>)
     ensures free { cell index.new key.number ≡ None }
     ensures others { (k : ℕ) → k ≢ key.number → cell index.new k ≡ cell index.old k }
     ensures rules { index.new.rules ≡ index.old.rules }
+    ensures room { length index.new.cells ≡ length index.old.cells }
+    ensures spares { (index.new.spare_links ≡ index.old.spare_links) × (index.new.spare_rules ≡ index.old.spare_rules) }
     ensures step { steps.new ≡ steps.old + 1 }
 {
     steps.tick();
@@ -141,6 +149,8 @@ pub fn unlink_nodes<L: Ledger>(index: &mut Index, grammar: &Grammar, rule: usize
     ensures free { (p : ℕ) (key : Key) → key_at grammar.now.rules rule p ≡ Some key → cell index.new key.number ≡ None }
     ensures others { (k : ℕ) → (IsNumberIn grammar.now.rules rule k → ⊥) → cell index.new k ≡ cell index.old k }
     ensures rules { index.new.rules ≡ index.old.rules }
+    ensures room { length index.new.cells ≡ length index.old.cells }
+    ensures spares { (index.new.spare_links ≡ index.old.spare_links) × (index.new.spare_rules ≡ index.old.spare_rules) }
 {
     let _limit = grammar.limit();
     let mut steps: Steps<L> = Steps::new(blank);

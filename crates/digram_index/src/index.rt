@@ -46,7 +46,7 @@ impl Model for Index {
 
 impl Index {
     ghost use Rattle.digram_index.specs.Digrams.{Cell, OccursAt, joint_rank};
-    ghost use Rattle.digram_index.specs.Settled.{IsWithin, HasThreeApart};
+    ghost use Rattle.slt_grammar.specs.Digrams.{digram_rank, HasThreeDisjoint};
     ghost use Rattle.slt_grammar.specs.declared.digram.Digram.{Digram};
     ghost use Rattle.digram_index.specs.Linked.{IsIndexOf, cell, cell_count, shifted_cell, unshifted_cell, Lacks};
 
@@ -136,6 +136,7 @@ impl Index {
         requires { IsIndexOf grammar.now self.now }
         ensures some { IfSome result (λ key. (o : Cell) × ((cell self.now key.number ≡ Some o) × (o.digram ≡ digram))) }
         ensures none { IfNone result ((k : ℕ) (o : Cell) → cell self.now k ≡ Some o → o.digram ≢ digram) }
+        ensures occurs { IfSome result (λ key. (o : Cell) × (OccursAt grammar.now.rules key o × (o.digram ≡ digram))) }
     {
         let _limit = grammar.limit();
         if !is_known(&self.numbers, digram.upper) {
@@ -161,8 +162,9 @@ impl Index {
     pub fn top(&self, grammar: &Grammar, bound: usize) -> Option<Digram>
         requires index { IsIndexOf grammar.now self.now }
         requires bound { bound ≤ 8 }
-        ensures some { IfSome result (λ d. IsWithin grammar.now.rules bound d × HasThreeApart grammar.now.rules d) }
-        ensures none { IfNone result ((d : Digram) → IsWithin grammar.now.rules bound d → HasThreeApart grammar.now.rules d → ⊥) }
+        ensures within { IfSome result (λ d. digram_rank (rules_of grammar.now.rules) d ≤ bound) }
+        ensures three { IfSome result (λ d. HasThreeDisjoint (rules_of grammar.now.rules) d) }
+        ensures none { IfNone result ((d : Digram) → digram_rank (rules_of grammar.now.rules) d ≤ bound → HasThreeDisjoint (rules_of grammar.now.rules) d → ⊥) }
     {
         let _limit = grammar.limit();
         match self.entries.best(bound) {

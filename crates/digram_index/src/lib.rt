@@ -14,6 +14,7 @@ mod index;
 mod numbers;
 mod patterns;
 mod ranking;
+mod thread;
 mod threads;
 mod triples;
 

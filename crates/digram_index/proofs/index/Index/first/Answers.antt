@@ -2,6 +2,7 @@ use Rattle.std.proofs.Common.{ap, sym, ◌∙◌}
 use Rattle.slt_grammar.specs.declared.digram.Digram.{Digram}
 use Rattle.digram_index.specs.Linked.{Linked}
 use Rattle.digram_index.proofs.CellLemmas.{spot-linked, unknown-nowhere}
+use Rattle.digram_index.proofs.Kept.{indexed-occurs}
 use Rattle.digram_index.proofs.RankLemmas.{unknown-label}
 use Rattle.digram_index.proofs.Tops.{digram-is, are-cells, first-none}
 use Rattle.digram_index.proofs.index.Index.first.Goals as goal
@@ -23,6 +24,11 @@ returns-in-Some-clause-some c = rw (← c.self.view_is) (
     spot-linked c.self.inside.numbers c.self.inside.entries c.self.inside.keys.items c.in-Some.number c.index.result.now c.in-Some.ensures.some.0
     (record { upper = c.mark_of.result; place = c.args.digram.place; lower = c.mark_of-2.result; rank = c.rank_of.result }) c.args.digram c.self.invariant.1 c.in-Some.ensures.some.1 c.index.ensures
     (digram-is c.args.digram.place _ _ c.args.digram.upper c.args.digram.lower (sym c.mark_of.ensures.label) (sym c.mark_of-2.ensures.label)))
+
+pub returns-in-Some-clause-occurs : goal.returns-in-Some-clause-occurs
+returns-in-Some-clause-occurs c =
+    let s = returns-in-Some-clause-some c in
+    (s.0, (indexed-occurs c.args.grammar.now c.args.self.now c.requires c.index.result.now s.0 s.1.0, s.1.1))
 
 pub returns-in-None-clause-none : goal.returns-in-None-clause-none
 returns-in-None-clause-none c =

@@ -6,3 +6,5 @@ pub mod NearFolds
 pub mod KidLinks
 pub mod FoldIndex
 pub mod Folds
+pub mod Climbs
+pub mod ChainLemmas

@@ -1,5 +1,7 @@
 // Where a digram occurs.
-ghost use Rattle.std.specs.Prelude.{◌≡◌};
+ghost use Rattle.std.specs.Prelude.{◌≡◌, ℕ, IfSome, IfNone, MatchBool};
+ghost use Rattle.digram_index.specs.Digrams.{Cell, OccursAt};
+ghost use Rattle.pair_replace.specs.Chains.{AreOccurrences, IsHead, IsLinkedAs};
 
 use crate::reading::item;
 use digram_index::Index;
@@ -12,58 +14,71 @@ pub(crate) fn next_occurrence(
     index: &Index,
     digram: Digram,
     hint: Option<Key>,
-) -> Option<Key> {
+) -> Option<Key>
+    requires { AreOccurrences grammar.now.rules index.now }
+    ensures some { IfSome result (λ key. IsHead index.now digram key.number) }
+    ensures none { IfNone result ((k : ℕ) → IsLinkedAs index.now digram k → ⊥) }
+{
     if let Some(key) = hint {
         if occurs(grammar, index, digram, key) {
             return Some(head(grammar, index, digram, key));
         }
     }
-    let lower = index.first(grammar, digram)?;
-    Some(head(grammar, index, digram, lower))
+    match index.first(grammar, digram) {
+        Some(lower) => Some(head(grammar, index, digram, lower)),
+        None => None,
+    }
 }
 
 // The first occurrence of a chain of which one is named by its lower node.
-fn head(grammar: &Grammar, index: &Index, digram: Digram, lower: Key) -> Key {
+fn head(grammar: &Grammar, index: &Index, digram: Digram, lower: Key) -> Key
+    requires occurrences { AreOccurrences grammar.now.rules index.now }
+    requires linked { IsLinkedAs index.now digram lower.number }
+    ensures { IsHead index.now digram result.number }
+{
+    let _limit = grammar.limit();
     let mut first = lower;
-    while let Some(above) = occurrence_above(grammar, index, digram, first) {
+    let (_, mut above) = read(grammar, first);
+    while occurs(grammar, index, digram, above) {
         first = above;
+        above = read(grammar, first).1;
     }
     first
 }
 
-// The occurrence whose lower node is the upper node of another.
-fn occurrence_above(grammar: &Grammar, index: &Index, digram: Digram, lower: Key) -> Option<Key> {
-    if digram.upper != digram.lower {
-        return None;
-    }
-    let (upper, _) = item(grammar, lower).parent?;
-    if occurs(grammar, index, digram, upper) {
-        Some(upper)
-    } else {
-        None
-    }
-}
-
 // Whether a key names the lower node of an occurrence of a digram.
-fn occurs(grammar: &Grammar, index: &Index, digram: Digram, lower: Key) -> bool {
+fn occurs(grammar: &Grammar, index: &Index, digram: Digram, lower: Key) -> bool
+    requires { AreOccurrences grammar.now.rules index.now }
+    ensures { MatchBool result (IsLinkedAs index.now digram lower.number) (IsLinkedAs index.now digram lower.number → ⊥) }
+{
     if !index.is_linked(lower) {
         return false;
     }
+    let (found, _) = read(grammar, lower);
+    found == digram
+}
+
+// The digram of an occurrence, named by its lower node, and its upper node.
+fn read(grammar: &Grammar, lower: Key) -> (Digram, Key)
+    requires { (o : Cell) × OccursAt grammar.now.rules lower o }
+    ensures digram { (o : Cell) → OccursAt grammar.now.rules lower o → o.digram ≡ result.0 }
+    ensures upper { (o : Cell) → OccursAt grammar.now.rules lower o → o.upper ≡ result.1.number }
+{
     let low = item(grammar, lower);
-    if low.label != digram.lower {
-        return false;
-    }
-    match low.parent {
-        Some((upper, place)) => place == digram.place && item(grammar, upper).label == digram.upper,
-        None => false,
-    }
+    let (high, place) = low.parent.unwrap();
+    let up = item(grammar, high);
+    let digram = Digram {
+        upper: up.label,
+        place,
+        lower: low.label,
+    };
+    (digram, high)
 }
 
 // The node two steps down a chain from the lower node of an occurrence.
-pub(crate) fn further(grammar: &Grammar, digram: Digram, lower: Key) -> Option<Key> {
-    if digram.upper != digram.lower {
-        return None;
-    }
+pub(crate) fn further(grammar: &Grammar, digram: Digram, lower: Key) -> Option<Key>
+    requires { (o : Cell) × OccursAt grammar.now.rules lower o }
+{
     let child = digram.place.checked_sub(1)?;
     let next = item(grammar, lower).kids.get(child)?;
     item(grammar, next).kids.get(child)

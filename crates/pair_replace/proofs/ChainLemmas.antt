@@ -39,3 +39,13 @@ occurs-told I k o found d false e f t = λ w.
     let y : found ≡ d = sym f ∙ ap (λ (x : Cell). x.digram) z ∙ w.1.1 in
     let x : false ≡ true = t ∙ digram-same found d y in
     cc
+
+-- the head of a chain in an index with the same cells
+pub head-same : (I J : Linked) (d : Digram) (k : ℕ) → ((n : ℕ) → cell J n ≡ cell I n) → IsHead I d k → IsHead J d k
+head-same I J d k same H = record {
+  linked = (H.linked.0, (same k ∙ H.linked.1.0, H.linked.1.1));
+  first = λ w.
+      let u : upper_at J k ≡ upper_at I k = ap upper_of (same k) in
+      let v : IsLinkedAs J d (upper_at I k) = subst (λ (n : ℕ). IsLinkedAs J d n) u w in
+      H.first (v.0, (sym (same (upper_at I k)) ∙ v.1.0, v.1.1));
+}

@@ -152,3 +152,7 @@ module _ (g h : Keyed) (K : IsKeyed g) (low : Key) (q : ℕ) (F : FoldsInto g.ru
       by : (r p : ℕ) (key : Key) → key_at h.rules r p ≡ Some key → (key.number ≡ own.number → ⊥) → Near key.number ⊎ (Near key.number → ⊥) → cell J key.number ≡ occurrence_at h.rules r p
       by r p key k n (inl z) = linked key z (arrives g h K low q F made r p key k).1.1 r p k
       by r p key k n (inr f) = far key.number f ∙ after.all r p key k (not-open key.number n f)
+
+  -- no cell but those of the near nodes is changed
+  pub far-same : (J : Linked) → ((n : ℕ) → (IsAround up siblings children n → ⊥) → cell J n ≡ cell mid n) → (n : ℕ) → (IsAround F.upper (kids_in ns F.place) (kids_in ns F.here.place) n → ⊥) → cell J n ≡ cell I n
+  far-same J far n f = far n (λ z. f (to-near n z)) ∙ others n (λ z. f (to-near n z))

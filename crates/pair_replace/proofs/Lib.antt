@@ -8,3 +8,5 @@ pub mod FoldIndex
 pub mod Folds
 pub mod Climbs
 pub mod ChainLemmas
+pub mod NextFolds
+pub mod Rounds

@@ -1,11 +1,13 @@
 // A fold of one occurrence, over a kept index.
 ghost use Rattle.std.specs.Prelude.{◌≡◌, ◌+◌, ◌≤◌, ℕ, Some, length};
+ghost use Rattle.rule_arena.specs.Terms.{kids_in};
 ghost use Rattle.rule_arena.specs.declared.label.Label.TheVariants.{Call};
 ghost use Rattle.slt_grammar.specs.Grammars.{size, value_at};
 ghost use Rattle.slt_grammar.specs.Keyed.{key_at, nodes_at, rules_of};
 ghost use Rattle.slt_grammar.specs.KeyedEdits.{FoldsInto, folded_nodes, with_nodes};
 ghost use Rattle.digram_index.specs.Linked.{cell};
 ghost use Rattle.digram_index.specs.Keeping.{IsIndexBut};
+ghost use Rattle.pair_replace.specs.Partly.{IsAround};
 
 use crate::near::{link_near, near_nodes, unlink_near};
 use digram_index::Index;
@@ -22,6 +24,8 @@ pub(crate) fn fold_at(grammar: &mut Grammar, index: &mut Index, lower: Key, rule
     ensures rules { (F : FoldsInto grammar.old.rules lower rule) → grammar.new.rules ≡ with_nodes grammar.old.rules F.here.rule
         (folded_nodes (nodes_at grammar.old.rules F.here.rule) F.place F.upper F.here.place (Call rule)) }
     ensures index { IsIndexBut grammar.new index.new (λ k. k ≡ apart.number) }
+    ensures others { (F : FoldsInto grammar.old.rules lower rule) (n : ℕ) → (IsAround F.upper (kids_in (nodes_at grammar.old.rules F.here.rule) F.place)
+        (kids_in (nodes_at grammar.old.rules F.here.rule) F.here.place) n → ⊥) → cell index.new n ≡ cell index.old n }
     ensures values { (r : ℕ) → value_at (rules_of grammar.new.rules) r ≡ value_at (rules_of grammar.old.rules) r }
     ensures size { size (rules_of grammar.new.rules) + 1 ≡ size (rules_of grammar.old.rules) }
     ensures spare { index.old.spare_links ≤ index.new.spare_links + 17 }

@@ -79,6 +79,8 @@ fn read(grammar: &Grammar, lower: Key) -> (Digram, Key)
 pub(crate) fn further(grammar: &Grammar, digram: Digram, lower: Key) -> Option<Key>
     requires { (o : Cell) × OccursAt grammar.now.rules lower o }
 {
+    // The call tells that the rules' bodies are terms.
+    let _limit = grammar.limit();
     let child = digram.place.checked_sub(1)?;
     let next = item(grammar, lower).kids.get(child)?;
     item(grammar, next).kids.get(child)

@@ -1,12 +1,19 @@
 // Replacement of a digram.
-ghost use Rattle.std.specs.Prelude.{◌≡◌};
+ghost use Rattle.std.specs.Prelude.{◌≡◌, ◌+◌, ◌≤◌, ℕ, List, IfOk, OnOk, OnErr, length};
+ghost use Rattle.slt_grammar.specs.Grammars.{size, value_at};
+ghost use Rattle.slt_grammar.specs.Keyed.{Keyed, rules_of};
+ghost use Rattle.digram_index.specs.Keeping.{IsIndexBut};
+ghost use Rattle.digram_index.specs.Linked.{cell};
+ghost use Rattle.pair_replace.specs.Chains.{AreApart, IsHead};
+ghost use Rattle.pair_replace.specs.Turns.{IsRound, IsTurn};
+ghost use Rattle.pair_replace.specs.NewRules.{IsNewRule};
 
 use crate::folding::fold_at;
 use crate::near::link_node;
 use crate::new_rule::{NewRule, add_new_rule};
 use crate::occurrences::{further, next_occurrence};
 use digram_index::Index;
-use slt_grammar::{Digram, Grammar};
+use slt_grammar::{Digram, Grammar, Key};
 use std::alloc::{AllocError, Global};
 
 /// What a replacement did.
@@ -30,7 +37,7 @@ pub fn replace(
     digram: Digram,
 ) -> Result<Replaced, AllocError> {
     let new = add_new_rule(alloc, grammar, index, digram, 3 * NEAR + 1)?;
-    let count = fold_all(grammar, index, digram, new);
+    let count = fold_all(grammar, index, digram, &new);
     link_node(index, grammar, new.lower);
     Ok(Replaced {
         count: count?,
@@ -43,17 +50,70 @@ fn fold_all(
     grammar: &mut Grammar,
     index: &mut Index,
     digram: Digram,
-    new: NewRule,
-) -> Result<u64, AllocError> {
+    new: &NewRule,
+) -> Result<u64, AllocError>
+    requires index { IsIndexBut grammar.old index.old (λ k. k ≡ new.now.lower.number) }
+    requires new { IsNewRule grammar.old.rules digram new.now.place new.now.lower }
+    requires three { (ks : List ℕ) × (AreApart index.old digram ks × (length ks ≡ 3)) }
+    requires room { 52 ≤ index.old.spare_links }
+    requires cells { grammar.old.limit ≤ length index.old.cells }
+    ensures index { IsIndexBut grammar.new index.new (λ k. k ≡ new.now.lower.number) }
+    ensures new { IsNewRule grammar.new.rules digram new.now.place new.now.lower }
+    ensures values { (r : ℕ) → value_at (rules_of grammar.new.rules) r ≡ value_at (rules_of grammar.old.rules) r }
+    ensures rules { length grammar.new.rules ≡ length grammar.old.rules }
+    ensures count { IfOk result (λ count. 3 ≤ count) }
+    ensures size { IfOk result (λ count. size (rules_of grammar.new.rules) + count ≡ size (rules_of grammar.old.rules)) }
+    ensures refused { OnErr result (size (rules_of grammar.new.rules) + 3 ≤ size (rules_of grammar.old.rules)) }
+    ensures room { 1 ≤ index.new.spare_links }
+    ensures cells { grammar.new.limit ≤ length index.new.cells }
+{
+    // The call tells that the count fits.
+    let _size = grammar.size();
     let mut count: u64 = 0;
-    let mut hint = None;
-    while let Some(lower) = next_occurrence(grammar, index, digram, hint) {
-        if count >= 3 {
-            index.reserve(grammar, NEAR + 1, 0)?;
-        }
-        hint = further(grammar, digram, lower);
-        fold_at(grammar, index, lower, new.place, new.lower);
+    let mut next = next_occurrence(grammar, index, digram, None);
+    while let Some(lower) = next {
+        next = fold_next(grammar, index, digram, new, lower, count)?;
         count += 1;
     }
     Ok(count)
+}
+
+// Folds an occurrence after so many others, and answers the next one.
+fn fold_next(
+    grammar: &mut Grammar,
+    index: &mut Index,
+    digram: Digram,
+    new: &NewRule,
+    lower: Key,
+    count: u64,
+) -> Result<Option<Key>, AllocError>
+    requires round { (first : Keyed) × IsRound grammar.old index.old digram new.now.place new.now.lower first count }
+    requires head { IsHead index.old digram lower.number }
+    ensures turn { IfOk result (λ next. IsTurn index.new digram next) }
+    ensures round { OnOk result ((first : Keyed) → IsRound grammar.old index.old digram new.now.place new.now.lower first count → IsRound grammar.new index.new digram new.now.place new.now.lower first (count + 1)) }
+    ensures refused { OnErr result ((first : Keyed) → IsRound grammar.old index.old digram new.now.place new.now.lower first count → IsRound grammar.new index.new digram new.now.place new.now.lower first count) }
+    ensures three { OnErr result (3 ≤ count) }
+    ensures less { OnOk result (size (rules_of grammar.new.rules) + 1 ≡ size (rules_of grammar.old.rules)) }
+{
+    // The call tells that a key stands once.
+    let _limit = grammar.limit();
+    make_room(grammar, index, count)?;
+    let hint = further(grammar, digram, lower);
+    fold_at(grammar, index, lower, new.place, new.lower);
+    Ok(next_occurrence(grammar, index, digram, hint))
+}
+
+// Makes room for the next fold, where the first three are done.
+fn make_room(grammar: &Grammar, index: &mut Index, count: u64) -> Result<(), AllocError>
+    ensures rules { index.new.rules ≡ index.old.rules }
+    ensures cells { (k : ℕ) → cell index.new k ≡ cell index.old k }
+    ensures more { length index.old.cells ≤ length index.new.cells }
+    ensures spares { index.old.spare_links ≤ index.new.spare_links }
+    ensures room { OnOk result (3 ≤ count → 18 ≤ index.new.spare_links) }
+    ensures refused { OnErr result (3 ≤ count) }
+{
+    if count < 3 {
+        return Ok(());
+    }
+    index.reserve(grammar, NEAR + 1, 0)
 }

@@ -1,4 +1,4 @@
-use Rattle.pair_replace.proofs.FoldIndex.{part, upper-stands, siblings-stand, children-stand, folded-index}
+use Rattle.pair_replace.proofs.FoldIndex.{part, upper-stands, siblings-stand, children-stand, folded-index, far-same}
 use Rattle.pair_replace.proofs.folding.fold_at.Goals as goal
 
 pub link_near-requires-clause-part : goal.link_near-requires-clause-part
@@ -42,3 +42,11 @@ returns-clause-index c =
     folded-index c.args.grammar.now c.fold.new.self c.limit-limit.ensures.keyed c.args.lower c.args.rule F (c.fold.ensures.rules F) c.near_nodes-near.result.upper c.near_nodes-near.result.siblings c.near_nodes-near.result.children
     (n.upper c.args.rule F) (n.siblings c.args.rule F) (n.children c.args.rule F) c.args.apart c.requires.apart c.args.index.now c.unlink_near.new.index c.requires.index u.free u.others u.stays u.rules
     c.link_near.new.index c.link_near.ensures.part l c.link_near.ensures.others
+
+pub returns-clause-others : goal.returns-clause-others
+returns-clause-others c = λ F.
+    let n = c.near_nodes-near.ensures in
+    let u = c.unlink_near.ensures in
+    far-same c.args.grammar.now c.fold.new.self c.limit-limit.ensures.keyed c.args.lower c.args.rule F (c.fold.ensures.rules F) c.near_nodes-near.result.upper c.near_nodes-near.result.siblings c.near_nodes-near.result.children
+    (n.upper c.args.rule F) (n.siblings c.args.rule F) (n.children c.args.rule F) c.args.apart c.requires.apart c.args.index.now c.unlink_near.new.index c.requires.index u.free u.others u.stays u.rules
+    c.link_near.new.index c.link_near.ensures.others

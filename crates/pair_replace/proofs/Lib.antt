@@ -10,3 +10,5 @@ pub mod Climbs
 pub mod ChainLemmas
 pub mod NextFolds
 pub mod Rounds
+pub mod Bodies
+pub mod Digrams

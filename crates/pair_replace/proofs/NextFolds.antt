@@ -34,7 +34,7 @@ but-occurs g I own B key o c =
     let t : key_at g.rules w.1.0 w.1.1.0 ≡ Some key = w.1.1.1.0 ∙ ap Some (one-key w.0 key w.1.1.1.1) in
     record { rule = w.1.0; place = w.1.1.0; there = t; here = sym (B.all w.1.0 w.1.1.0 key t (λ z. let x : Some o ≡ None = sym c ∙ B.free key.number z in cc)) ∙ c }
 
-under-real : (ranks : List ℕ) (up : Node) (c : ℕ) (l : Label) (o : Cell) → occurrence_under ranks up c l ≡ Some o → l ≢ Param
+pub under-real : (ranks : List ℕ) (up : Node) (c : ℕ) (l : Label) (o : Cell) → occurrence_under ranks up c l ≡ Some o → l ≢ Param
 under-real ranks up c Bottom o e z = cc
 under-real ranks up c (Symbol f) o e z = cc
 under-real ranks up c (Call q) o e z = cc
@@ -64,7 +64,7 @@ kid-stands g K low o O kids i key read e =
     let t = kid-there (nodes_at g.rules O.rule) O.place low i key (keyed-nodes g K O.rule h.0) O.there (ap (λ (ks : List Key). slice_get ks i) (read O.rule O.place O.there) ∙ e) in
     (O.rule, t.0, t.1)
 
-get-of : (ls : List Label) (p : ℕ) (l : Label) → slice_get ls p ≡ Some l → get_or ls p Bottom ≡ l
+pub get-of : (ls : List Label) (p : ℕ) (l : Label) → slice_get ls p ≡ Some l → get_or ls p Bottom ≡ l
 get-of [] p l e = absurd (let z : None ≡ Some l = e in cc)
 get-of (x ∷ ls) zero l e = cc
 get-of (x ∷ ls) (suc p) l e = get-of ls p l e

@@ -1,5 +1,15 @@
 // The rule for a digram.
-ghost use Rattle.std.specs.Prelude.{◌≡◌};
+ghost use Rattle.std.specs.Prelude.{◌≡◌, ◌+◌, ◌-◌, ◌<◌, ◌≤◌, ◌++◌, ℕ, [], ◌∷◌, List, IfOk, OnOk, OnErr, length};
+ghost use Rattle.slt_grammar.specs.Algebras.{ranks_of};
+ghost use Rattle.slt_grammar.specs.Bodies.{arity, CallsBelow};
+ghost use Rattle.slt_grammar.specs.Digrams.{HasThreeDisjoint, digram_rank};
+ghost use Rattle.slt_grammar.specs.Grammars.{size, value};
+ghost use Rattle.slt_grammar.specs.Keyed.{rules_of};
+ghost use Rattle.slt_grammar.specs.KeyedEdits.{digram_body, parameters};
+ghost use Rattle.digram_index.specs.Keeping.{IsIndexBut};
+ghost use Rattle.digram_index.specs.Linked.{IsIndexOf};
+ghost use Rattle.pair_replace.specs.Chains.{AreApart};
+ghost use Rattle.pair_replace.specs.NewRules.{IsNewRule, IsSmall};
 
 use crate::reading::{arity_of, item};
 use digram_index::Index;
@@ -21,7 +31,24 @@ pub(crate) fn add_new_rule(
     index: &mut Index,
     digram: Digram,
     links: usize,
-) -> Result<NewRule, AllocError> {
+) -> Result<NewRule, AllocError>
+    requires index { IsIndexOf grammar.old index.old }
+    requires three { HasThreeDisjoint (rules_of grammar.old.rules) digram }
+    requires rank { digram_rank (rules_of grammar.old.rules) digram ≤ 8 }
+    ensures index { IfOk result (λ new. IsIndexBut grammar.new index.new (λ k. k ≡ new.lower.number)) }
+    ensures new { IfOk result (λ new. IsNewRule grammar.new.rules digram new.place new.lower) }
+    ensures three { OnOk result ((ks : List ℕ) × (AreApart index.new digram ks × (length ks ≡ 3))) }
+    ensures room { OnOk result (links ≤ index.new.spare_links) }
+    ensures cells { OnOk result (grammar.new.limit ≤ length index.new.cells) }
+    ensures value { value (rules_of grammar.new.rules) ≡ value (rules_of grammar.old.rules) }
+    ensures rules { OnOk result (length grammar.new.rules ≡ length grammar.old.rules + 1) }
+    ensures size { OnOk result (size (rules_of grammar.new.rules) ≡ size (rules_of grammar.old.rules) + 2) }
+    ensures refused { OnErr result (grammar.new.rules ≡ grammar.old.rules) }
+    ensures refused_index { OnErr result (IsIndexOf grammar.new index.new) }
+{
+    // The calls tell that a key stands once, and that places can be counted.
+    let _limit = grammar.limit();
+    let _rules = grammar.rules();
     let body = body_of(alloc, grammar, digram)?;
     let place = place_for(digram);
     let rank = body.len() - 2;
@@ -41,13 +68,23 @@ pub(crate) fn add_new_rule(
 }
 
 // The first place behind the rules that a digram's labels call.
-fn place_for(digram: Digram) -> usize {
+fn place_for(digram: Digram) -> usize
+    requires upper { IsSmall digram.upper }
+    requires lower { IsSmall digram.lower }
+    ensures below { CallsBelow result (digram.upper ∷ digram.lower ∷ []) }
+    ensures least { (r : ℕ) → CallsBelow r (digram.upper ∷ digram.lower ∷ []) → result ≤ r }
+{
     let upper = place_behind(digram.upper);
     let lower = place_behind(digram.lower);
     if upper < lower { lower } else { upper }
 }
 
-fn place_behind(label: Label) -> usize {
+// The first place behind the rule that a label calls.
+fn place_behind(label: Label) -> usize
+    requires { IsSmall label }
+    ensures below { CallsBelow result (label ∷ []) }
+    ensures least { (r : ℕ) → CallsBelow r (label ∷ []) → result ≤ r }
+{
     match label {
         Label::Call(rule) => rule + 1,
         _ => 0,
@@ -55,7 +92,11 @@ fn place_behind(label: Label) -> usize {
 }
 
 // A digram over parameters.
-fn body_of(alloc: Global, grammar: &Grammar, digram: Digram) -> Result<Body, AllocError> {
+fn body_of(alloc: Global, grammar: &Grammar, digram: Digram) -> Result<Body, AllocError>
+    requires first { 1 ≤ digram.place }
+    requires last { digram.place ≤ arity (ranks_of (rules_of grammar.now.rules)) digram.upper }
+    ensures { IfOk result (λ body. body ≡ digram_body (ranks_of (rules_of grammar.now.rules)) digram.upper (digram.place - 1) digram.lower) }
+{
     let upper = arity_of(grammar, digram.upper);
     let lower = arity_of(grammar, digram.lower);
     let mut body = Body::new(alloc);
@@ -67,8 +108,11 @@ fn body_of(alloc: Global, grammar: &Grammar, digram: Digram) -> Result<Body, All
 }
 
 // Adds so many parameters.
-fn push_parameters(body: &mut Body, count: usize) -> Result<(), AllocError> {
-    for _ in 0..count {
+fn push_parameters(body: &mut Body, count: usize) -> Result<(), AllocError>
+    ensures { OnOk result (body.new ≡ body.old ++ parameters count) }
+{
+    for done in 0..count {
+        let _done = done;
         body.push(Label::Param)?;
     }
     Ok(())

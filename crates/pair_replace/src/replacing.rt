@@ -1,9 +1,10 @@
 // Replacement of a digram.
 ghost use Rattle.std.specs.Prelude.{◌≡◌, ◌+◌, ◌≤◌, ℕ, List, IfOk, OnOk, OnErr, length};
-ghost use Rattle.slt_grammar.specs.Grammars.{size, value_at};
+ghost use Rattle.slt_grammar.specs.Grammars.{size, value, value_at};
+ghost use Rattle.slt_grammar.specs.Digrams.{HasThreeDisjoint, digram_rank};
 ghost use Rattle.slt_grammar.specs.Keyed.{Keyed, rules_of};
 ghost use Rattle.digram_index.specs.Keeping.{IsIndexBut};
-ghost use Rattle.digram_index.specs.Linked.{cell};
+ghost use Rattle.digram_index.specs.Linked.{IsIndexOf, cell};
 ghost use Rattle.pair_replace.specs.Chains.{AreApart, IsHead};
 ghost use Rattle.pair_replace.specs.Turns.{IsRound, IsTurn};
 ghost use Rattle.pair_replace.specs.NewRules.{IsNewRule};
@@ -35,9 +36,20 @@ pub fn replace(
     grammar: &mut Grammar,
     index: &mut Index,
     digram: Digram,
-) -> Result<Replaced, AllocError> {
+) -> Result<Replaced, AllocError>
+    requires index { IsIndexOf grammar.old index.old }
+    requires three { HasThreeDisjoint (rules_of grammar.old.rules) digram }
+    requires rank { digram_rank (rules_of grammar.old.rules) digram ≤ 8 }
+    ensures index { IsIndexOf grammar.new index.new }
+    ensures value { value (rules_of grammar.new.rules) ≡ value (rules_of grammar.old.rules) }
+    ensures rules { OnOk result (length grammar.new.rules ≡ length grammar.old.rules + 1) }
+    ensures count { IfOk result (λ r. 3 ≤ r.count) }
+    ensures size { IfOk result (λ r. size (rules_of grammar.new.rules) + r.count ≡ size (rules_of grammar.old.rules) + 2) }
+    ensures refused { OnErr result (size (rules_of grammar.new.rules) ≤ size (rules_of grammar.old.rules)) }
+{
     let new = add_new_rule(alloc, grammar, index, digram, 3 * NEAR + 1)?;
     let count = fold_all(grammar, index, digram, &new);
+    let _limit = grammar.limit();
     link_node(index, grammar, new.lower);
     Ok(Replaced {
         count: count?,

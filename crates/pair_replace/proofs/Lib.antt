@@ -1,0 +1,14 @@
+pub mod Sides
+pub mod OpenPlaces
+pub mod FoldedParents
+pub mod Kids
+pub mod NearFolds
+pub mod KidLinks
+pub mod FoldIndex
+pub mod Folds
+pub mod Climbs
+pub mod ChainLemmas
+pub mod NextFolds
+pub mod Rounds
+pub mod Bodies
+pub mod Digrams

@@ -1,0 +1,13 @@
+use Rattle.slt_grammar.specs.Grammars.{size}
+use Rattle.slt_grammar.specs.Keyed.{rules_of}
+use Rattle.pair_replace.specs.Turns.{IsRound, IsTurn}
+use Rattle.pair_replace.proofs.replacing.fold_all.Given as goal
+
+abbrev pub invariant-loop-next : goal.invariant-loop-next
+invariant-loop-next l = record {
+  round : IsRound l.grammar l.index l.digram l.new.place l.new.lower l.fn.grammar l.count;
+  turn : IsTurn l.index l.digram l.next;
+}
+
+abbrev pub decreases-loop-next : goal.decreases-loop-next
+decreases-loop-next l = size (rules_of l.grammar.rules)

@@ -1,0 +1,44 @@
+-- Occurrences of one digram, and which of them share no node.
+use Rattle.std.specs.Prelude.{◌≡◌, ◌≢◌, ℕ, List, [], ◌∷◌, Option, Some, None}
+use Rattle.rule_arena.specs.declared.key.Key.{Key}
+use Rattle.slt_grammar.specs.Keyed.{KeyedRule}
+use Rattle.slt_grammar.specs.declared.digram.Digram.{Digram}
+use Rattle.digram_index.specs.Digrams.{Cell, OccursAt}
+use Rattle.digram_index.specs.Linked.{Linked, cell}
+
+-- what is linked occurs in the rules
+abbrev pub AreOccurrences : List KeyedRule → Linked → Type 0
+AreOccurrences G I = (key : Key) (o : Cell) → cell I key.number ≡ Some o → OccursAt G key o
+
+-- an occurrence of the digram is linked, whose lower node has this number
+abbrev pub IsLinkedAs : Linked → Digram → ℕ → Type 0
+IsLinkedAs I d k = (o : Cell) × ((cell I k ≡ Some o) × (o.digram ≡ d))
+
+abbrev pub upper_of : Option Cell → ℕ
+upper_of None = 0
+upper_of (Some o) = o.upper
+
+-- the number of the upper node of a linked occurrence
+abbrev pub upper_at : Linked → ℕ → ℕ
+upper_at I k = upper_of (cell I k)
+
+-- an occurrence of the digram is linked, and its upper node is the lower node of no other
+pub record IsHead (I : Linked) (d : Digram) (k : ℕ) : Type 0 where
+  pub linked : IsLinkedAs I d k
+  pub first : IsLinkedAs I d (upper_at I k) → ⊥
+
+-- two linked occurrences share no node
+pub record ShareNoNode (I : Linked) (a b : ℕ) : Type 0 where
+  pub lows : a ≢ b
+  pub highs : upper_at I a ≢ upper_at I b
+  pub down : a ≢ upper_at I b
+  pub back : upper_at I a ≢ b
+
+abbrev pub SharesNoNode : Linked → ℕ → List ℕ → Type 0
+SharesNoNode I a [] = Unit {0}
+SharesNoNode I a (b ∷ bs) = ShareNoNode I a b × SharesNoNode I a bs
+
+-- these are linked occurrences of the digram, no two of which share a node
+abbrev pub AreApart : Linked → Digram → List ℕ → Type 0
+AreApart I d [] = Unit {0}
+AreApart I d (k ∷ ks) = IsLinkedAs I d k × (SharesNoNode I k ks × AreApart I d ks)

@@ -1,0 +1,4 @@
+pub mod Partly
+pub mod Chains
+pub mod NewRules
+pub mod Turns

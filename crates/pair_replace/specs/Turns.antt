@@ -1,0 +1,26 @@
+-- The turns in which occurrences are folded.
+use Rattle.std.specs.Prelude.{◌≡◌, ◌+◌, ◌-◌, ◌*◌, ◌≤◌, ℕ, List, length, Option, IfSome, IfNone}
+use Rattle.rule_arena.specs.declared.key.Key.{Key}
+use Rattle.slt_grammar.specs.Grammars.{size, value_at}
+use Rattle.slt_grammar.specs.Keyed.{Keyed, rules_of}
+use Rattle.slt_grammar.specs.declared.digram.Digram.{Digram}
+use Rattle.digram_index.specs.Keeping.{IsIndexBut}
+use Rattle.digram_index.specs.Linked.{Linked}
+use Rattle.pair_replace.specs.Chains.{IsHead, IsLinkedAs, AreApart}
+use Rattle.pair_replace.specs.NewRules.{IsNewRule}
+
+-- what holds between two folds
+pub record IsRound (g : Keyed) (I : Linked) (d : Digram) (rule : ℕ) (own : Key) (first : Keyed) (count : ℕ) : Type 0 where
+  pub index : IsIndexBut g I (λ k. k ≡ own.number)
+  pub new : IsNewRule g.rules d rule own
+  pub values : (r : ℕ) → value_at (rules_of g.rules) r ≡ value_at (rules_of first.rules) r
+  pub many : length g.rules ≡ length first.rules
+  pub size_left : size (rules_of g.rules) + count ≡ size (rules_of first.rules)
+  pub apart : (ks : List ℕ) × (AreApart I d ks × (3 ≤ length ks + count))
+  pub room : 1 + 17 * (3 - count) ≤ I.spare_links
+  pub cells : g.limit ≤ length I.cells
+
+-- the occurrence to fold next, if there is one
+pub record IsTurn (I : Linked) (d : Digram) (next : Option Key) : Type 0 where
+  pub some : IfSome next (λ key. IsHead I d key.number)
+  pub none : IfNone next ((k : ℕ) → IsLinkedAs I d k → ⊥)

@@ -1,0 +1,119 @@
+// The rule for a digram.
+ghost use Rattle.std.specs.Prelude.{◌≡◌, ◌+◌, ◌-◌, ◌<◌, ◌≤◌, ◌++◌, ℕ, [], ◌∷◌, List, IfOk, OnOk, OnErr, length};
+ghost use Rattle.slt_grammar.specs.Algebras.{ranks_of};
+ghost use Rattle.slt_grammar.specs.Bodies.{arity, CallsBelow};
+ghost use Rattle.slt_grammar.specs.Digrams.{HasThreeDisjoint, digram_rank};
+ghost use Rattle.slt_grammar.specs.Grammars.{size, value};
+ghost use Rattle.slt_grammar.specs.Keyed.{rules_of};
+ghost use Rattle.slt_grammar.specs.KeyedEdits.{digram_body, parameters};
+ghost use Rattle.digram_index.specs.Keeping.{IsIndexBut};
+ghost use Rattle.digram_index.specs.Linked.{IsIndexOf};
+ghost use Rattle.pair_replace.specs.Chains.{AreApart};
+ghost use Rattle.pair_replace.specs.NewRules.{IsNewRule, IsSmall};
+
+use crate::reading::{arity_of, item};
+use digram_index::Index;
+use slt_grammar::{Body, Digram, Grammar, Key, Label};
+use std::alloc::{AllocError, Global};
+
+// A rule whose body is a digram over parameters: its place, and the lower one of the two nodes.
+#[derive(Clone, Copy, Drop)]
+pub(crate) struct NewRule {
+    pub(crate) place: usize,
+    pub(crate) lower: Key,
+}
+
+// Puts a rule for a digram among the rules, at the first place that its labels allow, and makes room in the index for so many more
+// occurrences. The node of its own occurrence is not linked. Where memory is refused, nothing changes.
+pub(crate) fn add_new_rule(
+    alloc: Global,
+    grammar: &mut Grammar,
+    index: &mut Index,
+    digram: Digram,
+    links: usize,
+) -> Result<NewRule, AllocError>
+    requires index { IsIndexOf grammar.old index.old }
+    requires three { HasThreeDisjoint (rules_of grammar.old.rules) digram }
+    requires rank { digram_rank (rules_of grammar.old.rules) digram ≤ 8 }
+    ensures index { IfOk result (λ new. IsIndexBut grammar.new index.new (λ k. k ≡ new.lower.number)) }
+    ensures new { IfOk result (λ new. IsNewRule grammar.new.rules digram new.place new.lower) }
+    ensures three { OnOk result ((ks : List ℕ) × (AreApart index.new digram ks × (length ks ≡ 3))) }
+    ensures room { OnOk result (links ≤ index.new.spare_links) }
+    ensures cells { OnOk result (grammar.new.limit ≤ length index.new.cells) }
+    ensures value { value (rules_of grammar.new.rules) ≡ value (rules_of grammar.old.rules) }
+    ensures rules { OnOk result (length grammar.new.rules ≡ length grammar.old.rules + 1) }
+    ensures size { OnOk result (size (rules_of grammar.new.rules) ≡ size (rules_of grammar.old.rules) + 2) }
+    ensures refused { OnErr result (grammar.new.rules ≡ grammar.old.rules) }
+    ensures refused_index { OnErr result (IsIndexOf grammar.new index.new) }
+{
+    // The calls tell that a key stands once, and that places can be counted.
+    let _limit = grammar.limit();
+    let _rules = grammar.rules();
+    let body = body_of(alloc, grammar, digram)?;
+    let place = place_for(digram);
+    let rank = body.len() - 2;
+    index.insert_rule(place)?;
+    if grammar.add_rule(place, rank, &body).is_err() {
+        index.remove_rule(place);
+        return Err(AllocError);
+    }
+    if index.reserve(grammar, links, 0).is_err() {
+        grammar.drop_rule(place);
+        index.remove_rule(place);
+        return Err(AllocError);
+    }
+    let root = item(grammar, grammar.root(place));
+    let lower = root.kids.get(digram.place - 1).unwrap();
+    Ok(NewRule { place, lower })
+}
+
+// The first place behind the rules that a digram's labels call.
+fn place_for(digram: Digram) -> usize
+    requires upper { IsSmall digram.upper }
+    requires lower { IsSmall digram.lower }
+    ensures below { CallsBelow result (digram.upper ∷ digram.lower ∷ []) }
+    ensures least { (r : ℕ) → CallsBelow r (digram.upper ∷ digram.lower ∷ []) → result ≤ r }
+{
+    let upper = place_behind(digram.upper);
+    let lower = place_behind(digram.lower);
+    if upper < lower { lower } else { upper }
+}
+
+// The first place behind the rule that a label calls.
+fn place_behind(label: Label) -> usize
+    requires { IsSmall label }
+    ensures below { CallsBelow result (label ∷ []) }
+    ensures least { (r : ℕ) → CallsBelow r (label ∷ []) → result ≤ r }
+{
+    match label {
+        Label::Call(rule) => rule + 1,
+        _ => 0,
+    }
+}
+
+// A digram over parameters.
+fn body_of(alloc: Global, grammar: &Grammar, digram: Digram) -> Result<Body, AllocError>
+    requires first { 1 ≤ digram.place }
+    requires last { digram.place ≤ arity (ranks_of (rules_of grammar.now.rules)) digram.upper }
+    ensures { IfOk result (λ body. body ≡ digram_body (ranks_of (rules_of grammar.now.rules)) digram.upper (digram.place - 1) digram.lower) }
+{
+    let upper = arity_of(grammar, digram.upper);
+    let lower = arity_of(grammar, digram.lower);
+    let mut body = Body::new(alloc);
+    body.push(digram.upper)?;
+    push_parameters(&mut body, digram.place - 1)?;
+    body.push(digram.lower)?;
+    push_parameters(&mut body, lower + (upper - digram.place))?;
+    Ok(body)
+}
+
+// Adds so many parameters.
+fn push_parameters(body: &mut Body, count: usize) -> Result<(), AllocError>
+    ensures { OnOk result (body.new ≡ body.old ++ parameters count) }
+{
+    for done in 0..count {
+        let _done = done;
+        body.push(Label::Param)?;
+    }
+    Ok(())
+}

@@ -1,0 +1,131 @@
+// Replacement of a digram.
+ghost use Rattle.std.specs.Prelude.{◌≡◌, ◌+◌, ◌≤◌, ℕ, List, IfOk, OnOk, OnErr, length};
+ghost use Rattle.slt_grammar.specs.Grammars.{size, value, value_at};
+ghost use Rattle.slt_grammar.specs.Digrams.{HasThreeDisjoint, digram_rank};
+ghost use Rattle.slt_grammar.specs.Keyed.{Keyed, rules_of};
+ghost use Rattle.digram_index.specs.Keeping.{IsIndexBut};
+ghost use Rattle.digram_index.specs.Linked.{IsIndexOf, cell};
+ghost use Rattle.pair_replace.specs.Chains.{AreApart, IsHead};
+ghost use Rattle.pair_replace.specs.Turns.{IsRound, IsTurn};
+ghost use Rattle.pair_replace.specs.NewRules.{IsNewRule};
+
+use crate::folding::fold_at;
+use crate::near::link_node;
+use crate::new_rule::{NewRule, add_new_rule};
+use crate::occurrences::{further, next_occurrence};
+use digram_index::Index;
+use slt_grammar::{Digram, Grammar, Key};
+use std::alloc::{AllocError, Global};
+
+/// What a replacement did.
+#[derive(Clone, Copy, Drop)]
+pub struct Replaced {
+    /// How many occurrences were folded into calls.
+    pub count: u64,
+    /// The place of the new rule.
+    pub rule: usize,
+}
+
+// How many occurrences are linked anew after a fold.
+const NEAR: usize = 17;
+
+/// Makes a rule of a digram, whose body is the digram over parameters, and folds occurrences into calls of it, as many as share no
+/// node: where its labels differ, all. The value stays.
+pub fn replace(
+    alloc: Global,
+    grammar: &mut Grammar,
+    index: &mut Index,
+    digram: Digram,
+) -> Result<Replaced, AllocError>
+    requires index { IsIndexOf grammar.old index.old }
+    requires three { HasThreeDisjoint (rules_of grammar.old.rules) digram }
+    requires rank { digram_rank (rules_of grammar.old.rules) digram ≤ 8 }
+    ensures index { IsIndexOf grammar.new index.new }
+    ensures value { value (rules_of grammar.new.rules) ≡ value (rules_of grammar.old.rules) }
+    ensures rules { OnOk result (length grammar.new.rules ≡ length grammar.old.rules + 1) }
+    ensures count { IfOk result (λ r. 3 ≤ r.count) }
+    ensures size { IfOk result (λ r. size (rules_of grammar.new.rules) + r.count ≡ size (rules_of grammar.old.rules) + 2) }
+    ensures refused { OnErr result (size (rules_of grammar.new.rules) ≤ size (rules_of grammar.old.rules)) }
+{
+    let new = add_new_rule(alloc, grammar, index, digram, 3 * NEAR + 1)?;
+    let count = fold_all(grammar, index, digram, &new);
+    let _limit = grammar.limit();
+    link_node(index, grammar, new.lower);
+    Ok(Replaced {
+        count: count?,
+        rule: new.place,
+    })
+}
+
+// Folds all occurrences that share no node. There is room for the first three, so that memory is not refused before these are folded.
+fn fold_all(
+    grammar: &mut Grammar,
+    index: &mut Index,
+    digram: Digram,
+    new: &NewRule,
+) -> Result<u64, AllocError>
+    requires index { IsIndexBut grammar.old index.old (λ k. k ≡ new.now.lower.number) }
+    requires new { IsNewRule grammar.old.rules digram new.now.place new.now.lower }
+    requires three { (ks : List ℕ) × (AreApart index.old digram ks × (length ks ≡ 3)) }
+    requires room { 52 ≤ index.old.spare_links }
+    requires cells { grammar.old.limit ≤ length index.old.cells }
+    ensures index { IsIndexBut grammar.new index.new (λ k. k ≡ new.now.lower.number) }
+    ensures new { IsNewRule grammar.new.rules digram new.now.place new.now.lower }
+    ensures values { (r : ℕ) → value_at (rules_of grammar.new.rules) r ≡ value_at (rules_of grammar.old.rules) r }
+    ensures rules { length grammar.new.rules ≡ length grammar.old.rules }
+    ensures count { IfOk result (λ count. 3 ≤ count) }
+    ensures size { IfOk result (λ count. size (rules_of grammar.new.rules) + count ≡ size (rules_of grammar.old.rules)) }
+    ensures refused { OnErr result (size (rules_of grammar.new.rules) + 3 ≤ size (rules_of grammar.old.rules)) }
+    ensures room { 1 ≤ index.new.spare_links }
+    ensures cells { grammar.new.limit ≤ length index.new.cells }
+{
+    // The call tells that the count fits.
+    let _size = grammar.size();
+    let mut count: u64 = 0;
+    let mut next = next_occurrence(grammar, index, digram, None);
+    while let Some(lower) = next {
+        next = fold_next(grammar, index, digram, new, lower, count)?;
+        count += 1;
+    }
+    Ok(count)
+}
+
+// Folds an occurrence after so many others, and answers the next one.
+fn fold_next(
+    grammar: &mut Grammar,
+    index: &mut Index,
+    digram: Digram,
+    new: &NewRule,
+    lower: Key,
+    count: u64,
+) -> Result<Option<Key>, AllocError>
+    requires round { (first : Keyed) × IsRound grammar.old index.old digram new.now.place new.now.lower first count }
+    requires head { IsHead index.old digram lower.number }
+    ensures turn { IfOk result (λ next. IsTurn index.new digram next) }
+    ensures round { OnOk result ((first : Keyed) → IsRound grammar.old index.old digram new.now.place new.now.lower first count → IsRound grammar.new index.new digram new.now.place new.now.lower first (count + 1)) }
+    ensures refused { OnErr result ((first : Keyed) → IsRound grammar.old index.old digram new.now.place new.now.lower first count → IsRound grammar.new index.new digram new.now.place new.now.lower first count) }
+    ensures three { OnErr result (3 ≤ count) }
+    ensures less { OnOk result (size (rules_of grammar.new.rules) + 1 ≡ size (rules_of grammar.old.rules)) }
+{
+    // The call tells that a key stands once.
+    let _limit = grammar.limit();
+    make_room(grammar, index, count)?;
+    let hint = further(grammar, digram, lower);
+    fold_at(grammar, index, lower, new.place, new.lower);
+    Ok(next_occurrence(grammar, index, digram, hint))
+}
+
+// Makes room for the next fold, where the first three are done.
+fn make_room(grammar: &Grammar, index: &mut Index, count: u64) -> Result<(), AllocError>
+    ensures rules { index.new.rules ≡ index.old.rules }
+    ensures cells { (k : ℕ) → cell index.new k ≡ cell index.old k }
+    ensures more { length index.old.cells ≤ length index.new.cells }
+    ensures spares { index.old.spare_links ≤ index.new.spare_links }
+    ensures room { OnOk result (3 ≤ count → 18 ≤ index.new.spare_links) }
+    ensures refused { OnErr result (3 ≤ count) }
+{
+    if count < 3 {
+        return Ok(());
+    }
+    index.reserve(grammar, NEAR + 1, 0)
+}

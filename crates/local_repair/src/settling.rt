@@ -1,0 +1,65 @@
+// Replacing and pruning in turn.
+ghost use Rattle.std.specs.Prelude.{◌≡◌, ◌≤◌, OnOk};
+ghost use Rattle.slt_grammar.specs.Digrams.{IsSettled, digram_rank, HasThreeDisjoint};
+ghost use Rattle.slt_grammar.specs.Keyed.{rules_of};
+ghost use Rattle.digram_index.specs.Linked.{IsIndexOf};
+ghost use Rattle.local_repair.specs.Settling.{IsNoLarger};
+ghost use Rattle.slt_grammar.specs.declared.digram.Digram.{Digram};
+
+use digram_index::{Index, build};
+use pair_replace::replace;
+use rule_pruning::prune;
+use slt_grammar::Grammar;
+use std::alloc::{AllocError, Global};
+
+/// Settles a grammar for digrams of a rank within the bound, which is at most 8. The value stays, and the grammar isn't larger. It fails
+/// where memory is refused; the value is then the same too, and the grammar no larger.
+pub fn settle(alloc: Global, grammar: &mut Grammar, bound: usize) -> Result<(), AllocError>
+    requires { bound ≤ 8 }
+    ensures settled { OnOk result (IsSettled (rules_of grammar.new.rules) bound) }
+    ensures kept { IsNoLarger (rules_of grammar.old.rules) (rules_of grammar.new.rules) }
+{
+    let mut index = build(alloc, grammar)?;
+    settle_touched(alloc, grammar, &mut index, bound)
+}
+
+/// The same over an index of the grammar, which is kept.
+pub fn settle_touched(
+    alloc: Global,
+    grammar: &mut Grammar,
+    index: &mut Index,
+    bound: usize,
+) -> Result<(), AllocError>
+    requires bound { bound ≤ 8 }
+    requires index { IsIndexOf grammar.old index.old }
+    ensures settled { OnOk result (IsSettled (rules_of grammar.new.rules) bound) }
+    ensures kept { IsNoLarger (rules_of grammar.old.rules) (rules_of grammar.new.rules) }
+    ensures index { IsIndexOf grammar.new index.new }
+{
+    prune(alloc, grammar, index)?;
+    while let Some(digram) = index.top(grammar, bound) {
+        replace(alloc, grammar, index, digram)?;
+        replace_all(alloc, grammar, index, bound)?;
+        prune(alloc, grammar, index)?;
+    }
+    Ok(())
+}
+
+// Replaces digrams as long as one within the bound has three occurrences that share no node.
+fn replace_all(
+    alloc: Global,
+    grammar: &mut Grammar,
+    index: &mut Index,
+    bound: usize,
+) -> Result<(), AllocError>
+    requires bound { bound ≤ 8 }
+    requires index { IsIndexOf grammar.old index.old }
+    ensures rare { OnOk result ((d : Digram) → digram_rank (rules_of grammar.new.rules) d ≤ bound → HasThreeDisjoint (rules_of grammar.new.rules) d → ⊥) }
+    ensures kept { IsNoLarger (rules_of grammar.old.rules) (rules_of grammar.new.rules) }
+    ensures index { IsIndexOf grammar.new index.new }
+{
+    while let Some(digram) = index.top(grammar, bound) {
+        replace(alloc, grammar, index, digram)?;
+    }
+    Ok(())
+}

@@ -1,10 +1,11 @@
 // Replacement of a digram.
-ghost use Rattle.std.specs.Prelude.{◌≡◌, ◌+◌, ◌≤◌, ℕ, List, IfOk, OnOk, OnErr, length};
-ghost use Rattle.slt_grammar.specs.Grammars.{size, value, value_at};
+ghost use Rattle.std.specs.Prelude.{◌≡◌, ◌≢◌, ◌+◌, ◌<◌, ◌≤◌, ℕ, List, IfOk, OnOk, OnErr, length};
+ghost use Rattle.slt_grammar.specs.Editing.{shifted};
+ghost use Rattle.slt_grammar.specs.Grammars.{size, value, value_at, IsSwept};
 ghost use Rattle.slt_grammar.specs.Digrams.{HasThreeDisjoint, digram_rank};
 ghost use Rattle.slt_grammar.specs.Keyed.{Keyed, rules_of};
 ghost use Rattle.digram_index.specs.Keeping.{IsIndexBut};
-ghost use Rattle.digram_index.specs.Linked.{IsIndexOf, cell};
+ghost use Rattle.digram_index.specs.Linked.{IsIndexOf, cell, cell_count};
 ghost use Rattle.pair_replace.specs.Chains.{AreApart, IsHead};
 ghost use Rattle.pair_replace.specs.Turns.{IsRound, IsTurn};
 ghost use Rattle.pair_replace.specs.NewRules.{IsNewRule};
@@ -30,7 +31,8 @@ pub struct Replaced {
 const NEAR: usize = 17;
 
 /// Makes a rule of a digram, whose body is the digram over parameters, and folds occurrences into calls of it, as many as share no
-/// node: where its labels differ, all. The value stays.
+/// node: where its labels differ, all. The value of each rule stays. It fails where memory is refused: the value stays then too, neither
+/// the size nor the size and the rules together are larger, and the index is the grammar's.
 pub fn replace(
     alloc: Global,
     grammar: &mut Grammar,
@@ -46,6 +48,11 @@ pub fn replace(
     ensures count { IfOk result (λ r. 3 ≤ r.count) }
     ensures size { IfOk result (λ r. size (rules_of grammar.new.rules) + r.count ≡ size (rules_of grammar.old.rules) + 2) }
     ensures refused { OnErr result (size (rules_of grammar.new.rules) ≤ size (rules_of grammar.old.rules)) }
+    ensures refused_rules { OnErr result (size (rules_of grammar.new.rules) + length grammar.new.rules ≤ size (rules_of grammar.old.rules) + length grammar.old.rules) }
+    ensures place { IfOk result (λ r. r.rule < length grammar.old.rules) }
+    ensures values { IfOk result (λ r. (q : ℕ) → q < length grammar.old.rules → value_at (rules_of grammar.new.rules) (shifted r.rule q) ≡ value_at (rules_of grammar.old.rules) q) }
+    ensures differ { IfOk result (λ r. digram.upper ≢ digram.lower → r.count ≡ cell_count digram index.old.cells) }
+    ensures swept { IsSwept (rules_of grammar.old.rules) → IsSwept (rules_of grammar.new.rules) }
 {
     let new = add_new_rule(alloc, grammar, index, digram, 3 * NEAR + 1)?;
     let count = fold_all(grammar, index, digram, &new);

@@ -13,7 +13,8 @@ use Rattle.digram_index.specs.declared.patterns.Pattern.{Pattern}
 use Rattle.digram_index.specs.Numbers.{Numbering, place_of}
 use Rattle.digram_index.specs.Grouped.{IsAmong, AreDifferent, named_count}
 use Rattle.digram_index.specs.Spots.{Spot, Entered, spot_at, upper_from, upper_in, AreApart, IsSpotOf, AreThreeSpots, HasMembers, IsOften}
-use Rattle.digram_index.specs.Digrams.{Cell, joint_rank, occurrence_at}
+use Rattle.digram_index.specs.Digrams.{Cell, OccursAt, joint_rank, occurrence_at}
+use Rattle.digram_index.specs.Keeping.{AreOccurrences}
 use Rattle.digram_index.specs.Linked.{Linked, IsIndexOf, label_of, IsKnown, digram_of, cell_of, AreKnown}
 use Rattle.digram_index.specs.Settled.{NodePair, OccursBetween, PairsShareNone, HasThreeApart, IsWithin}
 use Rattle.digram_index.proofs.NumberLemmas.{number-back}
@@ -43,10 +44,13 @@ label-injective ns Param (Symbol g) ka kb e = absurd (let z : ParamLabel ≡ Sym
 label-injective ns Param (Call m) ka kb e = absurd (let z : ParamLabel ≡ CallLabel (place_of ns m) = e in cc)
 label-injective ns Param Param ka kb e = refl
 
--- the cells of an index of a grammar
-pub record AreCells (g : Keyed) (n : Numbering) (e : Entered) : Type 0 where
-  pub all : (r p : ℕ) (key : Key) → key_at g.rules r p ≡ Some key → get_or (map (cell_of n.numbers) e.spots) key.number None ≡ occurrence_at g.rules r p
-  pub only : (k : ℕ) → get_or (map (cell_of n.numbers) e.spots) k None ≢ None → (key : Key) × ((r : ℕ) × ((p : ℕ) × ((key_at g.rules r p ≡ Some key) × (key.number ≡ k))))
+-- each cell is an occurrence
+abbrev pub AreCells : Keyed → Numbering → Entered → Type 0
+AreCells g n e = (key : Key) (o : Cell) → get_or (map (cell_of n.numbers) e.spots) key.number None ≡ Some o → OccursAt g.rules key o
+
+-- each occurrence has a cell
+abbrev pub AreAllCells : Keyed → Numbering → Entered → Type 0
+AreAllCells g n e = (r p : ℕ) (key : Key) → key_at g.rules r p ≡ Some key → get_or (map (cell_of n.numbers) e.spots) key.number None ≡ occurrence_at g.rules r p
 
 module _ (g : Keyed) (K : IsKeyed g) (n : Numbering) (e : Entered) (N : AreKnown n e) (C : AreCells g n e) where
   abbrev pub pair : ℕ → NodePair
@@ -64,14 +68,11 @@ module _ (g : Keyed) (K : IsKeyed g) (n : Numbering) (e : Entered) (N : AreKnown
   member p k s =
       let o : Cell = record { digram = digram_of n.numbers p; rank = p.rank; upper = s.0 } in
       let c : get_or (map (cell_of n.numbers) e.spots) k None ≡ Some o = cell-at n.numbers e.spots k ∙ ap (cell_of n.numbers) s.1 in
-      let w = C.only k (λ z. let x : Some o ≡ None = sym c ∙ z in cc) in
-      let key = w.0 in
-      let r = w.1.0 in
-      let q = w.1.1.0 in
-      let h : occurrence_at g.rules r q ≡ Some o = sym (C.all r q key w.1.1.1.0) ∙ ap (λ j. get_or (map (cell_of n.numbers) e.spots) j None) w.1.1.1.1 ∙ c in
+      let key : Key = record { number = k } in
+      let O = C key o c in
       record {
-        stood = record { rule = r; place = q; key = key; occurrence = o; key_at = w.1.1.1.0; at = stands g.rules r q key o w.1.1.1.0 h; low = w.1.1.1.1; high = ap upper_from (sym s.1); digram = refl };
-        here = h;
+        stood = record { rule = O.rule; place = O.place; key = key; occurrence = o; key_at = O.there; at = stands g.rules O.rule O.place key o O.there O.here; low = refl; high = ap upper_from (sym s.1); digram = refl };
+        here = O.here;
         rank = refl;
         upper = N.upper k (record { pattern = p; upper = s.0 }) s.1;
         lower = N.lower k (record { pattern = p; upper = s.0 }) s.1;
@@ -179,11 +180,11 @@ module _ (g : Keyed) (K : IsKeyed g) (n : Numbering) (e : Entered) (N : AreKnown
     pub rank : spot.pattern.rank ≡ joint_rank (ranks_of (rules_of g.rules)) d.upper d.lower
     pub upper : spot.upper ≡ m.high
 
-  found : (d : Digram) (m : NodePair) → OccursBetween g.rules d m → Found d m
-  found d m O = at (spot_at e m.low) refl
+  found : AreAllCells g n e → (d : Digram) (m : NodePair) → OccursBetween g.rules d m → Found d m
+  found all d m O = at (spot_at e m.low) refl
     where
       c : get_or (map (cell_of n.numbers) e.spots) m.low None ≡ Some O.occurrence
-      c = ap (λ k. get_or (map (cell_of n.numbers) e.spots) k None) (sym O.low) ∙ C.all O.at.rule O.at.place O.key O.at.there ∙ O.at.here
+      c = ap (λ k. get_or (map (cell_of n.numbers) e.spots) k None) (sym O.low) ∙ all O.at.rule O.at.place O.key O.at.there ∙ O.at.here
 
       at : (o : Option Spot) → spot_at e m.low ≡ o → Found d m
       at None x = absurd (let z : None ≡ Some O.occurrence = sym (cell-at n.numbers e.spots m.low ∙ ap (cell_of n.numbers) x) ∙ c in cc)
@@ -231,11 +232,11 @@ module _ (g : Keyed) (K : IsKeyed g) (n : Numbering) (e : Entered) (N : AreKnown
       }
 
   -- a digram with three occurrences that share no node has a pattern that is often
-  pub apart-often : (d : Digram) (bound : ℕ) → IsWithin g.rules bound d → HasThreeApart g.rules d → (p : Pattern) × ((p.rank ≤ bound) × IsOften p e.spots)
-  apart-often d bound w H =
-      let A = found d H.first H.a in
-      let B = found d H.second H.b in
-      let D = found d H.third H.c in
+  pub apart-often : AreAllCells g n e → (d : Digram) (bound : ℕ) → IsWithin g.rules bound d → HasThreeApart g.rules d → (p : Pattern) × ((p.rank ≤ bound) × IsOften p e.spots)
+  apart-often all d bound w H =
+      let A = found all d H.first H.a in
+      let B = found all d H.second H.b in
+      let D = found all d H.third H.c in
       let p = A.spot.pattern in
       let a = spot-of d H.first H.first A A in
       let b = spot-of d H.first H.second A B in
@@ -312,11 +313,11 @@ module _ (g : Keyed) (K : IsKeyed g) (n : Numbering) (e : Entered) (N : AreKnown
               ∙ ap (λ (m : Mark). record { upper = y.upper; place = y.place; lower = m; rank = x.rank }) l
               ∙ ap (λ (c : ℕ). record { upper = y.upper; place = y.place; lower = y.lower; rank = c }) r
 
-pub are-cells : (g : Keyed) (L : Linked) (n : Numbering) (e : Entered) → IsIndexOf g L → map (cell_of n.numbers) e.spots ≡ L.cells → AreCells g n e
-are-cells g L n e I q = record {
-  all = λ r p key k. ap (λ (cs : List (Option Cell)). get_or cs key.number None) q ∙ I.all r p key k;
-  only = λ k x. I.only k (λ z. x (ap (λ (cs : List (Option Cell)). get_or cs k None) q ∙ z));
-}
+pub are-cells : (g : Keyed) (L : Linked) (n : Numbering) (e : Entered) → AreOccurrences g.rules L → map (cell_of n.numbers) e.spots ≡ L.cells → AreCells g n e
+are-cells g L n e I q = λ key o c. I key o (sym (ap (λ (cs : List (Option Cell)). get_or cs key.number None) q) ∙ c)
+
+pub are-all-cells : (g : Keyed) (L : Linked) (n : Numbering) (e : Entered) → IsIndexOf g L → map (cell_of n.numbers) e.spots ≡ L.cells → AreAllCells g n e
+are-all-cells g L n e I q = λ r p key k. ap (λ (cs : List (Option Cell)). get_or cs key.number None) q ∙ I.all r p key k
 
 pub digram-is : (place : ℕ) (u l u' l' : Label) → u' ≡ u → l' ≡ l → let x : Digram = record { upper = u; place = place; lower = l } in let y : Digram = record { upper = u'; place = place; lower = l' } in x ≡ y
 digram-is place u l u' l' a b =

@@ -48,6 +48,7 @@ impl Index {
     ghost use Rattle.digram_index.specs.Digrams.{Cell, OccursAt, joint_rank};
     ghost use Rattle.slt_grammar.specs.Digrams.{digram_rank, HasThreeDisjoint};
     ghost use Rattle.slt_grammar.specs.declared.digram.Digram.{Digram};
+    ghost use Rattle.digram_index.specs.Keeping.{AreOccurrences};
     ghost use Rattle.digram_index.specs.Linked.{IsIndexOf, cell, cell_count, shifted_cell, unshifted_cell, Lacks};
 
     /// An index in which nothing is linked.
@@ -130,10 +131,10 @@ impl Index {
         self.entries.count_all(pattern) as u64
     }
 
-    /// The lower node of an occurrence of a digram, and none exactly where it has none. It is the one that was linked first of those
+    /// The lower node of a linked occurrence of a digram, and none exactly where none is linked. It is the one that was linked first of those
     /// that are left.
     pub fn first(&self, grammar: &Grammar, digram: Digram) -> Option<Key>
-        requires { IsIndexOf grammar.now self.now }
+        requires { AreOccurrences grammar.now.rules self.now }
         ensures some { IfSome result (λ key. (o : Cell) × ((cell self.now key.number ≡ Some o) × (o.digram ≡ digram))) }
         ensures none { IfNone result ((k : ℕ) (o : Cell) → cell self.now k ≡ Some o → o.digram ≢ digram) }
         ensures occurs { IfSome result (λ key. (o : Cell) × (OccursAt grammar.now.rules key o × (o.digram ≡ digram))) }

@@ -2,7 +2,6 @@ use Rattle.std.proofs.Common.{ap, sym, ◌∙◌}
 use Rattle.slt_grammar.specs.declared.digram.Digram.{Digram}
 use Rattle.digram_index.specs.Linked.{Linked}
 use Rattle.digram_index.proofs.CellLemmas.{spot-linked, unknown-nowhere}
-use Rattle.digram_index.proofs.Kept.{indexed-occurs}
 use Rattle.digram_index.proofs.RankLemmas.{unknown-label}
 use Rattle.digram_index.proofs.Tops.{digram-is, are-cells, first-none}
 use Rattle.digram_index.proofs.index.Index.first.Goals as goal
@@ -28,7 +27,7 @@ returns-in-Some-clause-some c = rw (← c.self.view_is) (
 pub returns-in-Some-clause-occurs : goal.returns-in-Some-clause-occurs
 returns-in-Some-clause-occurs c =
     let s = returns-in-Some-clause-some c in
-    (s.0, (indexed-occurs c.args.grammar.now c.args.self.now c.requires c.index.result.now s.0 s.1.0, s.1.1))
+    (s.0, (c.requires c.index.result.now s.0 s.1.0, s.1.1))
 
 pub returns-in-None-clause-none : goal.returns-in-None-clause-none
 returns-in-None-clause-none c =

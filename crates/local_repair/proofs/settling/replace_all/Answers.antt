@@ -1,0 +1,15 @@
+use Rattle.local_repair.proofs.Settlings.{no-larger-then, no-larger-replaced, no-larger-both}
+use Rattle.local_repair.proofs.settling.replace_all.Goals as goal
+
+pub loop-digram-preserved : goal.loop-digram-preserved
+loop-digram-preserved c =
+    let R = c.in_ok-replace.ensures in
+    record {
+      kept = no-larger-then _ _ _ c.loop-digram.invariant.kept (no-larger-replaced _ _ R.value R.swept _ R.count R.rules R.size);
+      index = R.index;
+    }
+
+pub returns-in_err-replace-clause-kept : goal.returns-in_err-replace-clause-kept
+returns-in_err-replace-clause-kept c =
+    let R = c.in_err-replace.ensures in
+    no-larger-then _ _ _ c.loop-digram.invariant.kept (no-larger-both _ _ R.value R.swept R.refused R.refused_rules)

@@ -1,0 +1,15 @@
+use Rattle.std.proofs.Common.{ℕ}
+use Rattle.slt_grammar.specs.Grammars.{size}
+use Rattle.slt_grammar.specs.Keyed.{rules_of}
+use Rattle.digram_index.specs.Linked.{IsIndexOf}
+use Rattle.local_repair.specs.Settling.{IsNoLarger}
+use Rattle.local_repair.proofs.settling.replace_all.Given as goal
+
+abbrev pub invariant-loop-digram : goal.invariant-loop-digram
+invariant-loop-digram l = record {
+  kept : IsNoLarger (rules_of l.initial.grammar.rules) (rules_of l.grammar.rules);
+  index : IsIndexOf l.grammar l.index;
+}
+
+abbrev pub decreases-loop-digram : goal.decreases-loop-digram
+decreases-loop-digram l = size (rules_of l.grammar.rules)

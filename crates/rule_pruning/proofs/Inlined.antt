@@ -1,8 +1,7 @@
 -- One call that gave way to a copy of its rule's body: which nodes stay, and what is counted.
-use Rattle.std.proofs.Common.{◌≡◌, ◌≢◌, ◌⊎◌, inl, inr, ℕ, zero, suc, ◌+◌, ◌<◌, ◌≤◌, Bool, List, [], ◌∷◌, ◌++◌, length, get_or, take, drop, Option, Some, None, slice_get, refl, sym, ap, ◌∙◌, subst, arith}
+use Rattle.std.proofs.Common.{◌≡◌, ◌≢◌, ◌⊎◌, inl, inr, ℕ, zero, suc, ◌+◌, ◌<◌, Bool, List, [], ◌∷◌, ◌++◌, length, get_or, take, drop, Some, None, slice_get, refl, sym, ap, ◌∙◌, subst, arith}
 use Rattle.std.proofs.lemmas.Bool.{cases_eq}
-use Rattle.rule_arena.specs.Preorder.{AreTerms, with_subterm}
-use Rattle.rule_arena.specs.Terms.{Node, key_in, kids_of}
+use Rattle.rule_arena.specs.Terms.{Node, kids_of}
 use Rattle.rule_arena.specs.declared.key.Key.{Key}
 use Rattle.rule_arena.specs.declared.label.Label.{Label}
 use Rattle.rule_arena.specs.declared.label.Label.TheVariants.{Bottom, Symbol, Call, Param}
@@ -12,20 +11,18 @@ use Rattle.slt_grammar.specs.Bodies.{calls_in}
 use Rattle.slt_grammar.specs.Copying.{hole, holes_in, copied, copied_node, args_at, back_at, kids_at, inlined_nodes}
 use Rattle.slt_grammar.specs.Grammars.{body_at, calls_of}
 use Rattle.slt_grammar.specs.Holding.{IsLawful}
-use Rattle.slt_grammar.specs.Keyed.{KeyedRule, key_at, labels_of, nodes_at, rules_of}
-use Rattle.slt_grammar.specs.KeyedEdits.{IsInlined, StandsAsCall, label_at, with_nodes}
-use Rattle.slt_grammar.proofs.Agreeing.{agree-of, label-is}
+use Rattle.slt_grammar.specs.Keyed.{KeyedRule, labels_of, nodes_at, rules_of}
+use Rattle.slt_grammar.specs.KeyedEdits.{StandsAsCall, with_nodes}
 use Rattle.slt_grammar.proofs.FoldedRules.{flat}
 use Rattle.slt_grammar.proofs.InlinedRules.{agree, behind, earlier, in-list, inlined-weighs, kids-holes}
 use Rattle.slt_grammar.proofs.KeyedEdits.{length-with_nodes, nodes-with_nodes, nodes-others, rules-with_nodes}
 use Rattle.slt_grammar.proofs.KeyedLemmas.{body_at-rules_of, length-rules_of, nodes-are-term}
-use Rattle.slt_grammar.proofs.TourWalking.{node-key, key-node}
 use Rattle.slt_grammar.proofs.Weights.{weigh, call_weight, calls-weigh, total, calls-total, total-with_body}
 use Rattle.slt_grammar.specs.Keyed.{Keyed, IsKeyed}
-use Rattle.slt_grammar.proofs.Inlinings.{Cut, cut-at}
+use Rattle.slt_grammar.proofs.Inlinings.{cut-at}
 use Rattle.slt_grammar.proofs.Removals.{calls-past}
 use Rattle.std.proofs.lemmas.Bool.{eq-eqb, ne_eqb}
-use Rattle.std.specs.Prelude.{if◌then◌else◌, eqb}
+use Rattle.std.specs.Prelude.{if◌then◌else◌}
 use Rattle.rule_pruning.specs.Calls.{StandsAsCallOf}
 use Rattle.rule_pruning.proofs.CallKeys.{split-append}
 

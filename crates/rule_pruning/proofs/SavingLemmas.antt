@@ -1,5 +1,5 @@
 -- What rules save.
-use Rattle.std.proofs.Common.{◌≡◌, ℕ, zero, suc, ◌+◌, ◌-◌, ◌*◌, ◌<◌, ◌≤◌, ◌^◌, List, [], ◌∷◌, length, refl, sym, ap, ◌∙◌, subst, arith}
+use Rattle.std.proofs.Common.{◌≡◌, ℕ, zero, suc, ◌+◌, ◌-◌, ◌*◌, ◌<◌, ◌≤◌, ◌^◌, List, [], ◌∷◌, length, refl, sym, subst, arith}
 use Rattle.rule_arena.specs.declared.label.Label.{Label}
 use Rattle.rule_arena.specs.declared.label.Label.TheVariants.{Bottom, Symbol, Call, Param}
 use Rattle.slt_grammar.specs.Bodies.{real_nodes}
@@ -7,8 +7,8 @@ use Rattle.slt_grammar.specs.Grammars.{body_at}
 use Rattle.slt_grammar.specs.Keyed.{Keyed, IsKeyed, rules_of}
 use Rattle.slt_grammar.proofs.CallCounts.{nodes-room, real_nodes-are}
 use Rattle.slt_grammar.proofs.KeyedLemmas.{length-rules_of}
-use Rattle.std.specs.Prelude.{ℤ, pos, negsuc, ◌*ℤ◌, ◌-ℤ◌, ◌≤ℤ◌, ◌<ℤ◌, FitsSigned, unsigned_abs, int_lt, ◌↔◌, Bool, true, false, MatchBool}
-use Rattle.std.proofs.lemmas.Int.{ints, to_z-of_z, to_z_pos, fits_signed_mul}
+use Rattle.std.specs.Prelude.{ℤ, pos, ◌*ℤ◌, ◌-ℤ◌, ◌≤ℤ◌, FitsSigned, unsigned_abs, int_lt, ◌↔◌, Bool, true, false, MatchBool}
+use Rattle.std.proofs.lemmas.Int.{ints, fits_signed_mul}
 use Rattle.slt_grammar.specs.Digrams.{Saves}
 use Rattle.slt_grammar.specs.Grammars.{calls_of}
 use Rattle.slt_grammar.specs.declared.rules.Rule.{Rule}

@@ -1,12 +1,12 @@
 -- Rules are looked at in turn, callees first.
-use Rattle.std.proofs.Common.{◌≡◌, ℕ, zero, suc, ◌+◌, ◌-◌, ◌<◌, ◌≤◌, List, [], ◌∷◌, length, get_or, remove, inl, inr, refl, sym, ap, ◌∙◌, subst, arith}
+use Rattle.std.proofs.Common.{◌≡◌, ℕ, ◌+◌, ◌-◌, ◌<◌, ◌≤◌, List, [], length, get_or, remove, inl, inr, refl, ◌∙◌, subst, arith}
 use Rattle.std.proofs.lemmas.Bool.{cases_lt}
 use Rattle.std.proofs.lemmas.List.{length-map}
 use Rattle.rule_arena.specs.declared.key.Key.{Key}
 use Rattle.slt_grammar.specs.Digrams.{Saves}
 use Rattle.slt_grammar.specs.Grammars.{IsSwept, size, value}
 use Rattle.slt_grammar.specs.Keyed.{KeyedRule, rules_of}
-use Rattle.slt_grammar.specs.KeyedEdits.{DropsTo, rule_dropped, unshifted_keyed}
+use Rattle.slt_grammar.specs.KeyedEdits.{DropsTo, unshifted_keyed}
 use Rattle.slt_grammar.specs.KeyedEdits.DropsTo.{NoDrop, Drop}
 use Rattle.slt_grammar.proofs.KeyedLemmas.{length-rules_of}
 use Rattle.slt_grammar.proofs.Removals.{length-left}

@@ -1,4 +1,4 @@
-use Rattle.std.proofs.Common.{rules, ◌≡◌, ◌+◌, ◌<◌, ℕ, List, length, Some, ap, ◌∙◌, arith}
+use Rattle.std.proofs.Common.{rules, ◌+◌, ℕ, List, ap, ◌∙◌, arith}
 use Rattle.rule_arena.specs.Terms.{Node}
 use Rattle.slt_grammar.specs.Keyed.{KeyedRule}
 use Rattle.slt_grammar.proofs.KeyedLemmas.{key_at-within}

@@ -1,7 +1,6 @@
-use Rattle.std.proofs.Common.{◌≡◌, ◌<◌, ℕ, List, length, Some, slice_get, sym, ap, refl, ◌∙◌, arith, rules}
+use Rattle.std.proofs.Common.{◌≡◌, ℕ, length, Some, slice_get, refl, arith}
 use Rattle.std.proofs.lemmas.Option.{slice_get_read}
-use Rattle.rule_arena.specs.declared.key.Key.{Key}
-use Rattle.rule_pruning.proofs.InlineCalls.{IsInlining, inlining-next, as-call}
+use Rattle.rule_pruning.proofs.InlineCalls.{inlining-next, as-call}
 use Rattle.rule_pruning.proofs.inlining.inline_calls.Goals as goal
 
 pub inline-requires : goal.inline-requires

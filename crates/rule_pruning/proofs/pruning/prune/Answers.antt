@@ -1,4 +1,4 @@
-use Rattle.std.proofs.Common.{◌≤◌, length, ap, arith}
+use Rattle.std.proofs.Common.{length, ap, arith}
 use Rattle.slt_grammar.proofs.KeyedLemmas.{length-rules_of}
 use Rattle.rule_pruning.proofs.Turns.{drops-fewer}
 use Rattle.rule_pruning.proofs.pruning.prune.Goals as goal

@@ -1,11 +1,11 @@
-use Rattle.std.proofs.Common.{◌≡◌, ◌+◌, ◌<◌, ℕ, List, [], length, refl, sym, ap, ◌∙◌, subst, arith}
+use Rattle.std.proofs.Common.{◌+◌, ◌<◌, ℕ, List, [], length, refl, subst, arith}
 use Rattle.std.proofs.lemmas.Option.{get_or_from_slice_get, slice_get_read}
 use Rattle.rule_arena.specs.declared.key.Key.{Key}
 use Rattle.rule_pruning.specs.Calls.{AreCallsOf}
 use Rattle.slt_grammar.specs.Keyed.{KeyedRule}
 use Rattle.slt_grammar.proofs.KeyedLemmas.{length-rules_of}
 use Rattle.rule_pruning.proofs.Taken.{IsTaken}
-use Rattle.rule_pruning.proofs.Turns.{IsPruning, pruning-begins, pruning-calls, pruning-stays, pruning-takes}
+use Rattle.rule_pruning.proofs.Turns.{pruning-begins, pruning-calls, pruning-stays, pruning-takes}
 use Rattle.rule_pruning.proofs.pruning.prune_swept.Goals as goal
 use Rattle.rule_pruning.proofs.pruning.prune_swept.Goals.{then-saves, else-saves+in_ok-take_away}
 

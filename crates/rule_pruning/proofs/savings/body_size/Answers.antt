@@ -1,4 +1,4 @@
-use Rattle.std.proofs.Common.{◌+◌, ap, arith}
+use Rattle.std.proofs.Common.{ap, arith}
 use Rattle.slt_grammar.specs.Bodies.{real_nodes}
 use Rattle.rule_pruning.proofs.SavingLemmas.{body-few, real-cons}
 use Rattle.rule_pruning.proofs.savings.body_size.Goals as goal

@@ -43,3 +43,21 @@ pub overflow_sub-digram : goal.overflow_sub-digram
 overflow_sub-digram c =
     let s = sound c.args.grammar.now c.limit-limit.ensures.keyed c.args.digram c.requires.three in
     s.first
+
+pub remove_rule-requires-clause-lacks : goal.remove_rule-requires-clause-lacks
+remove_rule-requires-clause-lacks c = ?
+
+pub returns-then-is_err-clause-refused_index : goal.returns-then-is_err-clause-refused_index
+returns-then-is_err-clause-refused_index c = ?
+
+pub returns-then-is_err-2-clause-refused_index : goal.returns-then-is_err-2-clause-refused_index
+returns-then-is_err-2-clause-refused_index c = ?
+
+pub unwrap-lower-requires : goal.unwrap-lower-requires
+unwrap-lower-requires c = ?
+
+pub returns-clause-new : goal.returns-clause-new
+returns-clause-new c = ?
+
+pub returns-clause-counted : goal.returns-clause-counted
+returns-clause-counted c = ?

@@ -62,9 +62,8 @@ arity-before ranks ranks' p e u l c = upper u c
     upper Param c = (refl, lower l c)
 
 module _ (g h : Keyed) (K : IsKeyed g) (M : IsKeyed h) (d : Digram) (place rank : ℕ) (body : List Label) (there : place < length g.rules)
-  (below : CallsBelow place (d.upper ∷ d.lower ∷ [])) (made : body ≡ digram_body (ranks_of (rules_of g.rules)) d.upper (d.place - 1) d.lower)
-  (W : IsLawfulBefore (rules_of g.rules) place rank body) (P : IsPut g.rules h.rules place rank body) where
-
+    (below : CallsBelow place (d.upper ∷ d.lower ∷ [])) (made : body ≡ digram_body (ranks_of (rules_of g.rules)) d.upper (d.place - 1) d.lower)
+    (W : IsLawfulBefore (rules_of g.rules) place rank body) (P : IsPut g.rules h.rules place rank body) where
   abbrev pub new : KeyedRule
   new = record { rank = rank; nodes = P.nodes }
 

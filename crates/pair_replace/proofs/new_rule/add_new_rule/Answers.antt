@@ -1,10 +1,13 @@
-use Rattle.std.proofs.Common.{◌≡◌, ◌+◌, ◌-◌, ◌∙◌, ◌≤◌, ◌<◌, ℕ, suc, List, arith, length, ap, sym}
+use Rattle.std.proofs.Common.{◌≡◌, ◌+◌, ◌-◌, ◌∙◌, ◌≤◌, ◌<◌, ℕ, suc, List, Option, IsSome, slice_get, arith, length, ap, sym, subst}
+use Rattle.rule_arena.specs.Terms.{kids_in}
+use Rattle.rule_arena.specs.declared.key.Key.{Key}
 use Rattle.slt_grammar.specs.Bodies.{real_nodes}
 use Rattle.slt_grammar.specs.Grammars.{size}
-use Rattle.slt_grammar.specs.Keyed.{KeyedRule, rules_of}
+use Rattle.slt_grammar.specs.Keyed.{KeyedRule, nodes_at, rules_of}
 use Rattle.slt_grammar.specs.KeyedEdits.{rule_dropped}
 use Rattle.slt_grammar.specs.RulePuts.{IsPut}
 use Rattle.digram_index.proofs.KeptRules.{put-kept}
+use Rattle.pair_replace.specs.NewRules.{IsNewRule}
 use Rattle.pair_replace.proofs.Bodies.{digram-lawful}
 use Rattle.pair_replace.proofs.Digrams.{sound, upper-small, lower-small}
 use Rattle.pair_replace.proofs.PutBack.{put-lacks, index-back, rules-back}
@@ -118,14 +121,15 @@ unwrap-lower-requires c =
     let a = added c.args.grammar.now c.add_rule.new.self c.limit-limit.ensures.keyed c.limit-grown.ensures.keyed c.args.digram c.requires.three c.requires.rank c.place_for-place.result (c.len-rank.result - 2)
     c.place_for-place.ensures.below c.place_for-place.ensures.least c.in_ok-body.body c.in_ok-body.ensures (omega arith)
     (when-ok (IsPut c.args.grammar.now.rules c.add_rule.new.self.rules c.place_for-place.result (c.len-rank.result - 2) c.in_ok-body.body) c.add_rule.result (sym c.is_err.ensures.value ∙ c.if-is_err.false) c.add_rule.ensures.rules) in
-    let f = a.first in let k = a.kids in let e = ap length (c.item-root.ensures.kids c.place_for-place.result 0 c.root.ensures) in ?
+    let f = a.first in let k = a.kids in let e : length (kids_in (nodes_at c.add_rule.new.self.rules c.place_for-place.result) 0) ≡ length c.item-root.result.kids = ap length (c.item-root.ensures.kids c.place_for-place.result 0 c.root.ensures) in
+    subst (λ (o : Option Key). IsSome o) (sym c.get.ensures) (some-there c.item-root.result.kids (c.args.digram.place - 1) (omega arith))
 
 pub returns-clause-new : goal.returns-clause-new
 returns-clause-new c =
     let a = added c.args.grammar.now c.add_rule.new.self c.limit-limit.ensures.keyed c.limit-grown.ensures.keyed c.args.digram c.requires.three c.requires.rank c.place_for-place.result (c.len-rank.result - 2)
     c.place_for-place.ensures.below c.place_for-place.ensures.least c.in_ok-body.body c.in_ok-body.ensures (omega arith)
     (when-ok (IsPut c.args.grammar.now.rules c.add_rule.new.self.rules c.place_for-place.result (c.len-rank.result - 2) c.in_ok-body.body) c.add_rule.result (sym c.is_err.ensures.value ∙ c.if-is_err.false) c.add_rule.ensures.rules) in
-    let n = is-new c.add_rule.new.self c.limit-grown.ensures.keyed c.args.digram c.place_for-place.result c.unwrap-lower.result a.first a.made ? c.place_for-place.ensures.least in
+    let n : IsNewRule c.add_rule.new.self.rules c.args.digram c.place_for-place.result c.unwrap-lower.result = is-new c.add_rule.new.self c.limit-grown.ensures.keyed c.args.digram c.place_for-place.result c.unwrap-lower.result a.first a.made (ap (λ (ks : List Key). slice_get ks (c.args.digram.place - 1)) (c.item-root.ensures.kids c.place_for-place.result 0 c.root.ensures) ∙ sym c.get.ensures ∙ c.unwrap-lower.ensures) c.place_for-place.ensures.least in
     n
 
 pub returns-clause-index : goal.returns-clause-index
@@ -133,7 +137,7 @@ returns-clause-index c =
     let a = added c.args.grammar.now c.add_rule.new.self c.limit-limit.ensures.keyed c.limit-grown.ensures.keyed c.args.digram c.requires.three c.requires.rank c.place_for-place.result (c.len-rank.result - 2)
     c.place_for-place.ensures.below c.place_for-place.ensures.least c.in_ok-body.body c.in_ok-body.ensures (omega arith)
     (when-ok (IsPut c.args.grammar.now.rules c.add_rule.new.self.rules c.place_for-place.result (c.len-rank.result - 2) c.in_ok-body.body) c.add_rule.result (sym c.is_err.ensures.value ∙ c.if-is_err.false) c.add_rule.ensures.rules) in
-    let n = is-new c.add_rule.new.self c.limit-grown.ensures.keyed c.args.digram c.place_for-place.result c.unwrap-lower.result a.first a.made ? c.place_for-place.ensures.least in
+    let n : IsNewRule c.add_rule.new.self.rules c.args.digram c.place_for-place.result c.unwrap-lower.result = is-new c.add_rule.new.self c.limit-grown.ensures.keyed c.args.digram c.place_for-place.result c.unwrap-lower.result a.first a.made (ap (λ (ks : List Key). slice_get ks (c.args.digram.place - 1)) (c.item-root.ensures.kids c.place_for-place.result 0 c.root.ensures) ∙ sym c.get.ensures ∙ c.unwrap-lower.ensures) c.place_for-place.ensures.least in
     let b = put-kept c.args.grammar.now c.add_rule.new.self c.limit-grown.ensures.keyed c.place_for-place.result a.rule (let t = a.there in omega arith) a.rules c.args.index.now c.reserve.new.self c.requires.index (c.reserve.ensures.rules ∙ c.in_ok-insert_rule.ensures.rules) (λ k. c.reserve.ensures.cells k ∙ c.in_ok-insert_rule.ensures.cells k) in
     index-but-lower c.add_rule.new.self c.limit-grown.ensures.keyed c.args.digram c.place_for-place.result c.unwrap-lower.result n c.reserve.new.self b
 

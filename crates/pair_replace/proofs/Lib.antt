@@ -12,3 +12,8 @@ pub mod NextFolds
 pub mod Rounds
 pub mod Bodies
 pub mod Digrams
+pub mod DigramBodies
+pub mod PutBack
+pub mod PutCounts
+pub mod PutFits
+pub mod PutRules

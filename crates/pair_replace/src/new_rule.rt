@@ -79,7 +79,7 @@ fn put_rule(alloc: Global, grammar: &mut Grammar, digram: Digram) -> Result<usiz
     ensures size { OnOk result (size (rules_of grammar.new.rules) ≡ size (rules_of grammar.old.rules) + 2) }
     ensures refused { OnErr result (grammar.new.rules ≡ grammar.old.rules) }
 {
-    // The same, and that places can be counted.
+    // The calls tell that a key stands once, before and after, and that places can be counted.
     let _limit = grammar.limit();
     let _rules = grammar.rules();
     let body = body_of(alloc, grammar, digram)?;

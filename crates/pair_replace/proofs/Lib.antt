@@ -15,5 +15,5 @@ pub mod Digrams
 pub mod DigramBodies
 pub mod PutBack
 pub mod PutCounts
-pub mod PutFits
+pub mod PutDigrams
 pub mod PutRules

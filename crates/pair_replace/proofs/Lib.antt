@@ -12,3 +12,4 @@ pub mod NextFolds
 pub mod Rounds
 pub mod Bodies
 pub mod Digrams
+pub mod Ends

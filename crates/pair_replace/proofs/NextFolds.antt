@@ -17,11 +17,11 @@ use Rattle.slt_grammar.proofs.KeyedLemmas.{key_at-within, nodes-are-term, body_a
 use Rattle.slt_grammar.proofs.KeyedEdits.{nodes-others}
 use Rattle.slt_grammar.proofs.KeptLemmas.{below-get, below-two}
 use Rattle.digram_index.specs.Digrams.{Cell, OccursAt, occurrence_at, occurrence_under, occurrence_below, parent_node}
-use Rattle.digram_index.specs.Keeping.{IsIndexBut}
+use Rattle.digram_index.specs.Keeping.{AreOccurrences, IsIndexBut}
 use Rattle.digram_index.specs.Linked.{Linked, cell}
 use Rattle.digram_index.proofs.Apartness.{Stands, stands, one-key}
 use Rattle.digram_index.proofs.ParentLemmas.{parent-key, keyed_place}
-use Rattle.pair_replace.specs.Chains.{AreOccurrences, IsLinkedAs, IsHead, upper_at, ShareNoNode, SharesNoNode, AreApart}
+use Rattle.pair_replace.specs.Chains.{IsLinkedAs, IsHead, upper_at, ShareNoNode, SharesNoNode, AreApart}
 use Rattle.pair_replace.specs.NewRules.{IsNewRule}
 use Rattle.pair_replace.specs.Partly.{IsAround, IsAmong}
 use Rattle.pair_replace.proofs.ChainLemmas.{linked-upper}

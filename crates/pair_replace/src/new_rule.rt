@@ -1,13 +1,14 @@
 // The rule for a digram.
 ghost use Rattle.std.specs.Prelude.{◌≡◌, ◌+◌, ◌-◌, ◌<◌, ◌≤◌, ◌++◌, ℕ, [], ◌∷◌, List, IfOk, OnOk, OnErr, length};
 ghost use Rattle.slt_grammar.specs.Algebras.{ranks_of};
-ghost use Rattle.slt_grammar.specs.Bodies.{arity, CallsBelow};
+ghost use Rattle.slt_grammar.specs.Bodies.{arity, calls_in, CallsBelow};
 ghost use Rattle.slt_grammar.specs.Digrams.{HasThreeDisjoint, digram_rank};
-ghost use Rattle.slt_grammar.specs.Grammars.{size, value};
+ghost use Rattle.slt_grammar.specs.Editing.{shifted};
+ghost use Rattle.slt_grammar.specs.Grammars.{calls_of, size, value, value_at};
 ghost use Rattle.slt_grammar.specs.Keyed.{rules_of};
 ghost use Rattle.slt_grammar.specs.KeyedEdits.{digram_body, parameters};
 ghost use Rattle.digram_index.specs.Keeping.{IsIndexBut};
-ghost use Rattle.digram_index.specs.Linked.{IsIndexOf};
+ghost use Rattle.digram_index.specs.Linked.{IsIndexOf, cell_count};
 ghost use Rattle.pair_replace.specs.Chains.{AreApart};
 ghost use Rattle.pair_replace.specs.NewRules.{IsNewRule, IsSmall};
 
@@ -42,6 +43,10 @@ pub(crate) fn add_new_rule(
     ensures cells { OnOk result (grammar.new.limit ≤ length index.new.cells) }
     ensures value { value (rules_of grammar.new.rules) ≡ value (rules_of grammar.old.rules) }
     ensures rules { OnOk result (length grammar.new.rules ≡ length grammar.old.rules + 1) }
+    ensures place { IfOk result (λ new. new.place < length grammar.old.rules) }
+    ensures values { IfOk result (λ new. (q : ℕ) → q < length grammar.old.rules → value_at (rules_of grammar.new.rules) (shifted new.place q) ≡ value_at (rules_of grammar.old.rules) q) }
+    ensures counted { IfOk result (λ new. cell_count digram index.new.cells ≡ cell_count digram index.old.cells) }
+    ensures calls { IfOk result (λ new. (q : ℕ) → q < length grammar.old.rules → calls_of (rules_of grammar.new.rules) (shifted new.place q) ≡ calls_of (rules_of grammar.old.rules) q + calls_in q (digram.upper ∷ digram.lower ∷ [])) }
     ensures size { OnOk result (size (rules_of grammar.new.rules) ≡ size (rules_of grammar.old.rules) + 2) }
     ensures refused { OnErr result (grammar.new.rules ≡ grammar.old.rules) }
     ensures refused_index { OnErr result (IsIndexOf grammar.new index.new) }

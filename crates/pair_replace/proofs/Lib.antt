@@ -6,6 +6,7 @@ pub mod NearFolds
 pub mod KidLinks
 pub mod FoldIndex
 pub mod Folds
+pub mod FoldedCalls
 pub mod Climbs
 pub mod ChainLemmas
 pub mod NextFolds

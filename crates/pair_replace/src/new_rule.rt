@@ -41,12 +41,13 @@ pub(crate) fn add_new_rule(
     ensures three { OnOk result ((ks : List ℕ) × (AreApart index.new digram ks × (length ks ≡ 3))) }
     ensures room { OnOk result (links ≤ index.new.spare_links) }
     ensures cells { OnOk result (grammar.new.limit ≤ length index.new.cells) }
-    ensures value { value (rules_of grammar.new.rules) ≡ value (rules_of grammar.old.rules) }
-    ensures rules { OnOk result (length grammar.new.rules ≡ length grammar.old.rules + 1) }
     ensures place { IfOk result (λ new. new.place < length grammar.old.rules) }
+    ensures value { value (rules_of grammar.new.rules) ≡ value (rules_of grammar.old.rules) }
     ensures values { IfOk result (λ new. (q : ℕ) → q < length grammar.old.rules → value_at (rules_of grammar.new.rules) (shifted new.place q) ≡ value_at (rules_of grammar.old.rules) q) }
-    ensures counted { IfOk result (λ new. cell_count digram index.new.cells ≡ cell_count digram index.old.cells) }
-    ensures calls { IfOk result (λ new. (q : ℕ) → q < length grammar.old.rules → calls_of (rules_of grammar.new.rules) (shifted new.place q) ≡ calls_of (rules_of grammar.old.rules) q + calls_in q (digram.upper ∷ digram.lower ∷ [])) }
+    ensures calls { IfOk result (λ new. (q : ℕ) → calls_of (rules_of grammar.new.rules) (shifted new.place q)
+        ≡ calls_of (rules_of grammar.old.rules) q + calls_in q (digram.upper ∷ digram.lower ∷ [])) }
+    ensures counted { OnOk result (cell_count digram index.new.cells ≡ cell_count digram index.old.cells) }
+    ensures rules { OnOk result (length grammar.new.rules ≡ length grammar.old.rules + 1) }
     ensures size { OnOk result (size (rules_of grammar.new.rules) ≡ size (rules_of grammar.old.rules) + 2) }
     ensures refused { OnErr result (grammar.new.rules ≡ grammar.old.rules) }
     ensures refused_index { OnErr result (IsIndexOf grammar.new index.new) }

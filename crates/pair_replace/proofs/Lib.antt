@@ -7,6 +7,7 @@ pub mod KidLinks
 pub mod FoldIndex
 pub mod Folds
 pub mod FoldedCalls
+pub mod Counts
 pub mod Climbs
 pub mod ChainLemmas
 pub mod NextFolds

@@ -8,6 +8,7 @@ pub mod FoldIndex
 pub mod Folds
 pub mod FoldedCalls
 pub mod Counts
+pub mod FewerCells
 pub mod Climbs
 pub mod ChainLemmas
 pub mod NextFolds

@@ -192,6 +192,11 @@ module _ (g : Keyed) (K : IsKeyed g) (d : Digram) (rule : ℕ) (own : Key) (R : 
           apart (sym z ∙ ap (λ (w : Key). w.number) v)
       by (inr (inr (i, (key, (e, z))))) = below (told O.place i low key O.there e z).0
 
+  pub far-from : (k : ℕ) → IsLinkedAs I d k → k ≢ low.number → upper_at I k ≢ low.number
+      → IsAround folds.upper (kids_in (nodes_at G folds.here.rule) folds.place) (kids_in (nodes_at G folds.here.rule) folds.here.place) k → ⊥
+  unfolding folds
+  far-from k L apart below near = far k L apart below near
+
   module _ (J : Linked) (same : (n : ℕ) → (IsAround folds.upper (kids_in ns folds.place) (kids_in ns folds.here.place) n → ⊥) → cell J n ≡ cell I n) where
     stays : (k : ℕ) → IsLinkedAs I d k → k ≢ low.number → upper_at I k ≢ low.number → cell J k ≡ cell I k
     stays k L a b = same k (far k L a b)

@@ -16,3 +16,8 @@ pub mod Rounds
 pub mod Bodies
 pub mod Digrams
 pub mod Ends
+pub mod DigramBodies
+pub mod PutBack
+pub mod PutCounts
+pub mod PutFits
+pub mod PutRules

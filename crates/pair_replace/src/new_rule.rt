@@ -63,6 +63,8 @@ pub(crate) fn add_new_rule(
         index.remove_rule(place);
         return Err(AllocError);
     }
+    // The call tells the same of the rules with the new one.
+    let _grown = grammar.limit();
     if index.reserve(grammar, links, 0).is_err() {
         grammar.drop_rule(place);
         index.remove_rule(place);

@@ -15,26 +15,28 @@ count-cons : (d : Digram) (c : Option Cell) (cs : List (Option Cell)) → cell_c
 count-cons d None cs = omega arith
 count-cons d (Some c) cs = refl
 
-count-none : (d : Digram) (cs : List (Option Cell)) → ((j : ℕ) → get_or cs j None ≡ None) → cell_count d cs ≡ 0
+-- where no cell has it
+pub count-none : (d : Digram) (cs : List (Option Cell)) → ((j : ℕ) → one_in d (get_or cs j None) ≡ 0) → cell_count d cs ≡ 0
 count-none d [] h = refl
 count-none d (c ∷ cs) h =
     let z = count-cons d c cs in
     let n = count-none d cs (λ j. h (suc j)) in
-    let o = ap (one_in d) (h 0) in
+    let o = h 0 in
     omega arith
 
-count-same : (d : Digram) (cs ds : List (Option Cell)) → ((j : ℕ) → get_or ds j None ≡ get_or cs j None) → cell_count d ds ≡ cell_count d cs
+-- where each cell has it as before
+pub count-same : (d : Digram) (cs ds : List (Option Cell)) → ((j : ℕ) → one_in d (get_or ds j None) ≡ one_in d (get_or cs j None)) → cell_count d ds ≡ cell_count d cs
 count-same d [] ds h = count-none d ds h
 count-same d (c ∷ cs) [] h = sym (count-none d (c ∷ cs) (λ j. sym (h j)))
 count-same d (c ∷ cs) (e ∷ ds) h =
     let x = count-cons d c cs in
     let y = count-cons d e ds in
-    let o = ap (one_in d) (h 0) in
+    let o = h 0 in
     let n = count-same d cs ds (λ j. h (suc j)) in
     omega arith
 
--- where all cells but one stay, the count changes by what that one adds
-pub count-changed : (d : Digram) (cs ds : List (Option Cell)) (k : ℕ) → ((j : ℕ) → j ≢ k → get_or ds j None ≡ get_or cs j None)
+-- where all cells but one have it as before, the count changes by what that one adds
+pub count-changed : (d : Digram) (cs ds : List (Option Cell)) (k : ℕ) → ((j : ℕ) → j ≢ k → one_in d (get_or ds j None) ≡ one_in d (get_or cs j None))
     → cell_count d ds + one_in d (get_or cs k None) ≡ cell_count d cs + one_in d (get_or ds k None)
 count-changed d [] [] k h = refl
 count-changed d [] (e ∷ ds) zero h =
@@ -43,7 +45,7 @@ count-changed d [] (e ∷ ds) zero h =
     omega arith
 count-changed d [] (e ∷ ds) (suc k) h =
     let y = count-cons d e ds in
-    let o = ap (one_in d) (h 0 (λ z. omega arith)) in
+    let o = h 0 (λ z. omega arith) in
     let n = count-changed d [] ds k (λ j x. h (suc j) (λ z. x (omega arith))) in
     omega arith
 count-changed d (c ∷ cs) [] zero h =
@@ -52,7 +54,7 @@ count-changed d (c ∷ cs) [] zero h =
     omega arith
 count-changed d (c ∷ cs) [] (suc k) h =
     let x = count-cons d c cs in
-    let o = ap (one_in d) (h 0 (λ z. omega arith)) in
+    let o = h 0 (λ z. omega arith) in
     let n = count-changed d cs [] k (λ j x. h (suc j) (λ z. x (omega arith))) in
     omega arith
 count-changed d (c ∷ cs) (e ∷ ds) zero h =
@@ -63,7 +65,7 @@ count-changed d (c ∷ cs) (e ∷ ds) zero h =
 count-changed d (c ∷ cs) (e ∷ ds) (suc k) h =
     let x = count-cons d c cs in
     let y = count-cons d e ds in
-    let o = ap (one_in d) (h 0 (λ z. omega arith)) in
+    let o = h 0 (λ z. omega arith) in
     let n = count-changed d cs ds k (λ j x. h (suc j) (λ z. x (omega arith))) in
     omega arith
 
@@ -82,7 +84,7 @@ one-in-other d c n = at (eqs.eq-value.it c.digram d) refl
 pub count-freed : (d : Digram) (cs ds : List (Option Cell)) (k : ℕ) (c : Cell) → get_or cs k None ≡ Some c → c.digram ≡ d → get_or ds k None ≡ None → ((j : ℕ) → j ≢ k → get_or ds j None ≡ get_or cs j None)
     → cell_count d ds + 1 ≡ cell_count d cs
 count-freed d cs ds k c a e b h =
-    let z = count-changed d cs ds k h in
+    let z = count-changed d cs ds k (λ j x. ap (one_in d) (h j x)) in
     let o = ap (one_in d) a ∙ one-in-same d c e in
     let n = ap (one_in d) b in
     omega arith
@@ -91,7 +93,7 @@ count-freed d cs ds k c a e b h =
 pub count-filled : (d : Digram) (cs ds : List (Option Cell)) (k : ℕ) (c : Cell) → get_or cs k None ≡ None → get_or ds k None ≡ Some c → c.digram ≡ d → ((j : ℕ) → j ≢ k → get_or ds j None ≡ get_or cs j None)
     → cell_count d ds ≡ cell_count d cs + 1
 count-filled d cs ds k c a b e h =
-    let z = count-changed d cs ds k h in
+    let z = count-changed d cs ds k (λ j x. ap (one_in d) (h j x)) in
     let o = ap (one_in d) b ∙ one-in-same d c e in
     let n = ap (one_in d) a in
     omega arith

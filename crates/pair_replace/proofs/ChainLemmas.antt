@@ -12,7 +12,7 @@ use Rattle.digram_index.proofs.Apartness.{Stands, stands, one-key}
 use Rattle.digram_index.proofs.ParentLemmas.{parent-there}
 use Rattle.digram_index.proofs.RankLemmas.{digram-sound, digram-same}
 use Rattle.slt_grammar.specs.contracts.digram.DigramPartialEq.TheImpl as eqs
-use Rattle.pair_replace.specs.Chains.{AreOccurrences, IsLinkedAs, IsHead, upper_at, upper_of}
+use Rattle.pair_replace.specs.Chains.{IsLinkedAs, IsHead, upper_at, upper_of}
 use Rattle.pair_replace.proofs.Climbs.{all_before, climbs}
 
 -- the upper node of an occurrence stands before its lower one

@@ -21,7 +21,7 @@ use Rattle.pair_replace.proofs.NearFolds.{near, fold-near, near-there, arrives, 
 around-same : (up up' : Key) (s s' c c' : List Key) → up ≡ up' → s ≡ s' → c ≡ c' → (n : ℕ) → IsAround up s c n → IsAround up' s' c' n
 around-same up up' s s' c c' e f k n z = subst (λ (x : Key). IsAround x s' c' n) e (subst (λ (x : List Key). IsAround up x c' n) f (subst (λ (x : List Key). IsAround up s x n) k z))
 
-around-test : (up : Key) (s c : List Key) (n : ℕ) → IsAround up s c n ⊎ (IsAround up s c n → ⊥)
+pub around-test : (up : Key) (s c : List Key) (n : ℕ) → IsAround up s c n ⊎ (IsAround up s c n → ⊥)
 around-test up s c n = by (cases_eq n up.number) (among-test s n) (among-test c n)
   where
     no : (n ≡ up.number → ⊥) → (IsAmong s n → ⊥) → (IsAmong c n → ⊥) → IsAround up s c n → ⊥

@@ -6,17 +6,17 @@ use Rattle.rule_arena.specs.declared.key.Key.{Key}
 use Rattle.rule_arena.proofs.NodeLemmas.{same_key}
 use Rattle.rule_arena.proofs.PreorderLemmas.{slice_get-left, slice_get-right}
 use Rattle.pair_replace.proofs.Sides.{Side, first, second, side, get-left, get-right}
-use Rattle.pair_replace.proofs.OpenPlaces.{Opens, ups, IsOpen, get-places, length-places, length-ups, open_behind, ups-append, behind-terms, drop-places, places-append, below-roots}
+use Rattle.pair_replace.proofs.OpenPlaces.{Opens, ups, AreOpen, get-places, length-places, length-ups, open_behind, ups-append, behind-terms, drop-places, places-append, below-roots}
 
--- a place below one of two nodes
-pub data IsBelow (u l : Key) (e : Option (Key × ℕ)) : Type 0 where
-  upper : (i : ℕ) → e ≡ Some (u, i) → IsBelow u l e
-  lower : (i : ℕ) → e ≡ Some (l, i) → IsBelow u l e
+-- a place below one of two nodes becomes one below the first of them
+pub data IsBelow (u l : Key) (e f : Option (Key × ℕ)) : Type 0 where
+  upper : (i j : ℕ) → e ≡ Some (u, i) → f ≡ Some (u, j) → IsBelow u l e f
+  lower : (i j : ℕ) → e ≡ Some (l, i) → f ≡ Some (u, j) → IsBelow u l e f
 
--- parents that are the same but for some that are one of two nodes
+-- parents that are the same but for some that were one of two nodes and are the first of them
 pub record AreClose (u l : Key) (old new : Opens) : Type 0 where
   pub many : length old ≡ length new
-  pub each : (p : ℕ) → (get_or old p None ≡ get_or new p None) ⊎ IsBelow u l (get_or old p None)
+  pub each : (p : ℕ) → (get_or old p None ≡ get_or new p None) ⊎ IsBelow u l (get_or old p None) (get_or new p None)
 
 close-append : (u l : Key) (ws bs cs ds : Opens) → AreClose u l ws bs → AreClose u l cs ds → AreClose u l (ws ++ cs) (bs ++ ds)
 close-append u l ws bs cs ds C D = record {
@@ -24,7 +24,7 @@ close-append u l ws bs cs ds C D = record {
   each = λ p. at p (side (length ws) p);
 }
   where
-    at : (p : ℕ) → Side (length ws) p → (get_or (ws ++ cs) p None ≡ get_or (bs ++ ds) p None) ⊎ IsBelow u l (get_or (ws ++ cs) p None)
+    at : (p : ℕ) → Side (length ws) p → (get_or (ws ++ cs) p None ≡ get_or (bs ++ ds) p None) ⊎ IsBelow u l (get_or (ws ++ cs) p None) (get_or (bs ++ ds) p None)
     at p (first h) =
         let e = get-left ws cs p h in
         let f = get-left bs ds p (let m = C.many in omega arith) in
@@ -38,15 +38,18 @@ close-same : (u l : Key) (os : Opens) → AreClose u l os os
 close-same u l os = record { many = refl; each = λ p. inl refl }
 
 -- terms below one of the two nodes, before and behind
-close-terms : (u l : Key) (n : ℕ) (A B : Opens) (xs : List Node) → AreTerms kids_of n xs → ((at : ℕ) → at < n → IsBelow u l (get_or A at None)) → AreClose u l (ups A xs) (ups B xs)
+close-terms : (u l : Key) (n : ℕ) (A B : Opens) (xs : List Node) → AreTerms kids_of n xs → ((at : ℕ) → at < n → IsBelow u l (get_or A at None) (get_or B at None)) → AreClose u l (ups A xs) (ups B xs)
 close-terms u l n A B xs t from = record {
   many = length-ups A xs ∙ sym (length-ups B xs);
   each = λ p. up p (below-roots n n [] A B xs (omega arith) t p);
 }
   where
-    up : (p : ℕ) → (get_or (ups A xs) p None ≡ get_or (ups B xs) p None) ⊎ IsOpen A n (get_or (ups A xs) p None) → (get_or (ups A xs) p None ≡ get_or (ups B xs) p None) ⊎ IsBelow u l (get_or (ups A xs) p None)
+    up : (p : ℕ) → (get_or (ups A xs) p None ≡ get_or (ups B xs) p None) ⊎ AreOpen A B n (get_or (ups A xs) p None) (get_or (ups B xs) p None)
+        → (get_or (ups A xs) p None ≡ get_or (ups B xs) p None) ⊎ IsBelow u l (get_or (ups A xs) p None) (get_or (ups B xs) p None)
     up p (inl h) = inl h
-    up p (inr o) = inr (subst (λ (e : Option (Key × ℕ)). IsBelow u l e) (sym o.is) (from o.at o.few))
+    up p (inr o) =
+        inr (subst (λ (e : Option (Key × ℕ)). IsBelow u l e (get_or (ups B xs) p None)) (sym o.first)
+        (subst (λ (f : Option (Key × ℕ)). IsBelow u l (get_or A o.at None) f) (sym o.second) (from o.at o.few)))
 
 module _ (front : List Node) (N : Node) (before : List Node) (L : Node) (below after back : List Node) (M : Node) (c more : ℕ) (named : M.key ≡ N.key) (kids : N.kids ≡ c + suc more) (kids' : M.kids ≡ c + (L.kids + more))
     (tb : AreTerms kids_of c before) (tl : AreTerms kids_of L.kids below) (ta : AreTerms kids_of more after) where
@@ -120,16 +123,16 @@ module _ (front : List Node) (N : Node) (before : List Node) (L : Node) (below a
   heads-close =
       close-append u l (ups (None ∷ []) front) (ups (None ∷ []) front) (get_or os 0 None ∷ ups (places u 1 N.kids ++ rest) before) (get_or os 0 None ∷ ups (places u 1 M.kids ++ rest) before) (close-same u l (ups (None ∷ []) front))
       (close-append u l (get_or os 0 None ∷ []) (get_or os 0 None ∷ []) (ups (places u 1 N.kids ++ rest) before) (ups (places u 1 M.kids ++ rest) before) (close-same u l (get_or os 0 None ∷ []))
-      (close-terms u l c (places u 1 N.kids ++ rest) (places u 1 M.kids ++ rest) before tb (λ i h. upper (1 + i) (get-places u 1 N.kids i rest (omega (arith, kids))))))
+      (close-terms u l c (places u 1 N.kids ++ rest) (places u 1 M.kids ++ rest) before tb (λ i h. upper (1 + i) (1 + i) (get-places u 1 N.kids i rest (omega (arith, kids))) (get-places u 1 M.kids i rest (omega (arith, kids'))))))
 
   pub tails-close : AreClose u l old_tail new_tail
   tails-close =
       close-append u l (ups (places l 1 L.kids ++ (places u (2 + c) more ++ rest)) below) (ups (places u (1 + c) L.kids ++ (places u (1 + c + L.kids) more ++ rest)) below)
       (ups (places u (2 + c) more ++ rest) after ++ ups rest back) (ups (places u (1 + c + L.kids) more ++ rest) after ++ ups rest back)
       (close-terms u l L.kids (places l 1 L.kids ++ (places u (2 + c) more ++ rest)) (places u (1 + c) L.kids ++ (places u (1 + c + L.kids) more ++ rest)) below tl
-      (λ i h. lower (1 + i) (get-places l 1 L.kids i (places u (2 + c) more ++ rest) h)))
+      (λ i h. lower (1 + i) (1 + c + i) (get-places l 1 L.kids i (places u (2 + c) more ++ rest) h) (get-places u (1 + c) L.kids i (places u (1 + c + L.kids) more ++ rest) h)))
       (close-append u l (ups (places u (2 + c) more ++ rest) after) (ups (places u (1 + c + L.kids) more ++ rest) after) (ups rest back) (ups rest back)
-      (close-terms u l more (places u (2 + c) more ++ rest) (places u (1 + c + L.kids) more ++ rest) after ta (λ i h. upper (2 + c + i) (get-places u (2 + c) more i rest h))) (close-same u l (ups rest back)))
+      (close-terms u l more (places u (2 + c) more ++ rest) (places u (1 + c + L.kids) more ++ rest) after ta (λ i h. upper (2 + c + i) (1 + c + L.kids + i) (get-places u (2 + c) more i rest h) (get-places u (1 + c + L.kids) more i rest h))) (close-same u l (ups rest back)))
 
   abbrev pub behind : List Node
   behind = below ++ (after ++ back)
@@ -140,11 +143,11 @@ module _ (front : List Node) (N : Node) (before : List Node) (L : Node) (below a
   abbrev pub new : List Node
   new = front ++ (M ∷ (before ++ behind))
 
-  -- where a node of the new nodes was, and that its parent was one of the two, or is the same
+  -- where a node of the new nodes was, and that its parent was one of the two and is the new one, or is the same
   pub record Came (j : ℕ) : Type 0 where
     pub place : ℕ
     pub node : (slice_get new j ≡ slice_get old place) ⊎ ((slice_get new j ≡ Some M) × (slice_get old place ≡ Some N))
-    pub parent : (parent_in old place ≡ parent_in new j) ⊎ IsBelow u l (parent_in old place)
+    pub parent : (parent_in old place ≡ parent_in new j) ⊎ IsBelow u l (parent_in old place) (parent_in new j)
     pub gone : place ≡ length (front ++ (N ∷ before)) → ⊥
 
   heads-nodes : (fs : List Node) (j : ℕ) → (slice_get (fs ++ (M ∷ before)) j ≡ slice_get (fs ++ (N ∷ before)) j) ⊎ ((slice_get (fs ++ (M ∷ before)) j ≡ Some M) × (slice_get (fs ++ (N ∷ before)) j ≡ Some N))

@@ -6,12 +6,16 @@ pub mod NearFolds
 pub mod KidLinks
 pub mod FoldIndex
 pub mod Folds
+pub mod FoldedCalls
+pub mod Counts
+pub mod FewerCells
 pub mod Climbs
 pub mod ChainLemmas
 pub mod NextFolds
 pub mod Rounds
 pub mod Bodies
 pub mod Digrams
+pub mod Ends
 pub mod DigramBodies
 pub mod PutBack
 pub mod PutCounts

@@ -8,7 +8,7 @@ use Rattle.rule_arena.specs.Laws.{IsKeyedTerm}
 use Rattle.rule_arena.specs.declared.key.Key.{Key}
 use Rattle.rule_arena.specs.declared.label.Label.{Label}
 use Rattle.rule_arena.proofs.NodeLemmas.{key_of_node, node_of, same_key}
-use Rattle.rule_arena.proofs.PreorderLemmas.{AreTerms-append, with_subterm-split}
+use Rattle.rule_arena.proofs.PreorderLemmas.{AreTerms-append, with_subterm-split, slice_get-right}
 use Rattle.slt_grammar.specs.Names.{Call}
 use Rattle.slt_grammar.specs.Algebras.{ranks_of}
 use Rattle.slt_grammar.specs.Holding.{IsLawful}
@@ -16,10 +16,12 @@ use Rattle.slt_grammar.specs.Keyed.{Keyed, KeyedRule, IsKeyed, key_at, nodes_at,
 use Rattle.slt_grammar.specs.KeyedEdits.{FoldsInto, Stands, with_nodes, folded_nodes}
 use Rattle.slt_grammar.proofs.FoldedRules.{N, D, C, high, in-rules, one-term, merged-is, folded-ranks}
 use Rattle.slt_grammar.proofs.KeyedEdits.{nodes-with_nodes, nodes-others, length-with_nodes}
+use Rattle.slt_grammar.proofs.KeyedLemmas.{key_at-within, nodes-are-term}
 use Rattle.digram_index.specs.Keeping.{TellsSame, IsNear}
+use Rattle.digram_index.proofs.Apartness.{one-key}
 use Rattle.pair_replace.specs.Partly.{IsAmong, IsAround}
 use Rattle.pair_replace.proofs.FoldedParents.{IsBelow, upper, lower, Came, came, stays, low-there}
-use Rattle.pair_replace.proofs.Kids.{child-of, IsChildOf, kid-there}
+use Rattle.pair_replace.proofs.Kids.{child-of, IsChildOf, kid-there, kid-parent}
 
 module _ (g h : Keyed) (K : IsKeyed g) (low : Key) (q : ℕ) (F : FoldsInto g.rules low q)
     (made : h.rules ≡ with_nodes g.rules F.here.rule (folded_nodes (nodes_at g.rules F.here.rule) F.place F.upper F.here.place (Call q))) where
@@ -126,17 +128,20 @@ module _ (g h : Keyed) (K : IsKeyed g) (low : Key) (q : ℕ) (F : FoldsInto g.ru
   in-olds p key e = ap (λ (zs : List Node). key_in zs p) whole ∙ e
 
   -- a node below one of the two is near
-  below-near : (p : ℕ) (key : Key) → key_in ns p ≡ Some key → IsBelow U.key T.node.key (parent_in ns p) → near key.number
-  below-near p key k (upper i e) = inr (inl (child-near p key U.key i F.place k e (F.above ∙ ap Some (sym upper-key))))
-  below-near p key k (lower i e) = inr (inr (child-near p key T.node.key i F.here.place k e (F.here.there ∙ ap Some (sym low-key))))
+  upper-near : (p : ℕ) (key : Key) (i : ℕ) → key_in ns p ≡ Some key → parent_in ns p ≡ Some (U.key, i) → near key.number
+  upper-near p key i k e = inr (inl (child-near p key U.key i F.place k e (F.above ∙ ap Some (sym upper-key))))
+
+  below-near : (p : ℕ) (key : Key) (f : Option (Key × ℕ)) → key_in ns p ≡ Some key → IsBelow U.key T.node.key (parent_in ns p) f → near key.number
+  below-near p key f k (upper i j e z) = upper-near p key i k e
+  below-near p key f k (lower i j e z) = inr (inr (child-near p key T.node.key i F.here.place k e (F.here.there ∙ ap Some (sym low-key))))
 
   -- the parent of a node that is not near
   parent-same : (p : ℕ) (key : Key) (A : Arrived p) → key_in ns A.place ≡ Some key → (near key.number → ⊥) → parent_in news p ≡ parent_in ns A.place
   parent-same p key A k far = by A.parent
     where
-      by : (parent_in olds A.place ≡ parent_in news p) ⊎ IsBelow U.key T.node.key (parent_in olds A.place) → parent_in news p ≡ parent_in ns A.place
+      by : (parent_in olds A.place ≡ parent_in news p) ⊎ IsBelow U.key T.node.key (parent_in olds A.place) (parent_in news p) → parent_in news p ≡ parent_in ns A.place
       by (inl e) = sym e ∙ ap (λ (zs : List Node). parent_in zs A.place) (sym whole)
-      by (inr b) = absurd (far (below-near A.place key k (subst (λ (zs : List Node). IsBelow U.key T.node.key (parent_in zs A.place)) (sym whole) b)))
+      by (inr b) = absurd (far (below-near A.place key (parent_in news p) k (subst (λ (zs : List Node). IsBelow U.key T.node.key (parent_in zs A.place) (parent_in news p)) (sym whole) b)))
 
   -- the label of its parent
   above-same : (p : ℕ) (key : Key) (A : Arrived p) → key_in ns A.place ≡ Some key → (near key.number → ⊥) → (a b : ℕ) (m n : Node) → slice_get news a ≡ Some m → slice_get ns b ≡ Some n → m.key ≡ n.key → (c : ℕ) → parent_in news p ≡ Some (m.key, c) → m.label ≡ n.label
@@ -149,7 +154,7 @@ module _ (g h : Keyed) (K : IsKeyed g) (low : Key) (q : ℕ) (F : FoldsInto g.ru
           at-node (inr w) =
               let z : m.key ≡ U.key = ap (λ (x : Node). x.key) (one-node m merge (sym f ∙ w.0)) in
               let v : parent_in ns A.place ≡ Some (U.key, c) = sym (parent-same p key A k far) ∙ up ∙ ap (λ (x : Key). let o : Option (Key × ℕ) = Some (x, c) in o) z in
-              absurd (far (below-near A.place key k (upper c v)))
+              absurd (far (upper-near A.place key c k v))
           at-node (inl w) =
               let v : slice_get ns B.place ≡ Some m = ap (λ (zs : List Node). slice_get zs B.place) whole ∙ sym w ∙ f in
               let z : B.place ≡ b = once B.place b m.key (key_of_node ns B.place m v) (key_of_node ns b n e ∙ ap Some (sym same)) in
@@ -279,3 +284,68 @@ module _ (g h : Keyed) (K : IsKeyed g) (low : Key) (q : ℕ) (F : FoldsInto g.ru
   near-there n (inr (inr (i, (key, (e, z))))) =
       let t = kid-there ns F.here.place low i key (one-term G low q lawful F once) F.here.there e in
       (t.0, (key, (t.1, z)))
+
+  -- the node that stands for both
+  pub merge-label : (K' : IsKeyed h) (s p : ℕ) (n : Node) → slice_get (nodes_at h.rules s) p ≡ Some n → n.key ≡ F.upper → n.label ≡ Call q
+  merge-label K' s p n e k =
+      let there : slice_get (nodes_at h.rules r) (length at.front + 0) ≡ Some merge = ap (λ (zs : List Node). slice_get zs (length at.front + 0)) nodes-r ∙ slice_get-right at.front (merge ∷ (T.before ++ (T.below ++ (T.after ++ T.back)))) 0 in
+      let o = K'.once F.upper s p r (length at.front + 0) (key_of_node (nodes_at h.rules s) p n e ∙ ap Some k) (key_of_node (nodes_at h.rules r) (length at.front + 0) merge there ∙ ap Some upper-key) in
+      let z : slice_get (nodes_at h.rules r) (length at.front + 0) ≡ Some n = subst (λ (t : ℕ). slice_get (nodes_at h.rules t) (length at.front + 0) ≡ Some n) o.0 (subst (λ (t : ℕ). slice_get (nodes_at h.rules s) t ≡ Some n) o.1 e) in
+      ap (λ (x : Node). x.label) (one-node n merge (sym z ∙ there))
+
+  abbrev IsUnder : (s p : ℕ) → Type 0
+  IsUnder s p = (j : ℕ) × (parent_in (nodes_at h.rules s) p ≡ Some (F.upper, j))
+
+  -- the other near nodes are its children
+  pub near-parent : (K' : IsKeyed h) (s p : ℕ) (key : Key) → key_at h.rules s p ≡ Some key → near key.number → (key ≡ F.upper → ⊥) → (j : ℕ) × (parent_in (nodes_at h.rules s) p ≡ Some (F.upper, j))
+  near-parent K' s p key k close other = by close
+    where
+      -- a child of one of the two in the old rule
+      from : (t i : ℕ) (up : Key) → key_in ns t ≡ Some key → parent_in ns t ≡ Some (up, i) → (up ≡ F.upper) ⊎ (up ≡ low) → IsUnder s p
+      from t i up there e which = at-r (K.once key s (arrives s p key k).0 r t (arrives s p key k).1.0 there).0
+        where
+          at-r : s ≡ r → IsUnder s p
+          at-r z = subst (λ (x : ℕ). IsUnder x p) (sym z) (of (arrived p))
+            where
+              k' : key_at h.rules r p ≡ Some key
+              k' = subst (λ (x : ℕ). key_at h.rules x p ≡ Some key) z k
+
+              here : key_in news p ≡ Some key
+              here = ap (λ (zs : List Node). key_in zs p) (sym nodes-r) ∙ k'
+
+              end : (j : ℕ) → parent_in news p ≡ Some (U.key, j) → IsUnder r p
+              end j x = (j, ap (λ (zs : List Node). parent_in zs p) nodes-r ∙ x ∙ ap (λ (y : Key). let o : Option (Key × ℕ) = Some (y, j) in o) upper-key)
+
+              kept : parent_in news p ≡ Some (up, i) → (up ≡ F.upper) ⊎ (up ≡ low) → IsUnder r p
+              kept x (inl y) = end i (x ∙ ap (λ (v : Key). let o : Option (Key × ℕ) = Some (v, i) in o) (y ∙ sym upper-key))
+              kept x (inr y) =
+                  let v : parent_in (nodes_at h.rules r) p ≡ Some (low, i) = ap (λ (zs : List Node). parent_in zs p) nodes-r ∙ x ∙ ap (λ (w : Key). let o : Option (Key × ℕ) = Some (w, i) in o) y in
+                  let c = child-of (nodes_at h.rules r) p (low, i) (nodes-are-term h K' r (key_at-within h.rules r p key k').0) v in
+                  absurd ((arrives r c.above low c.there).1.1 refl)
+
+              of : Arrived p → IsUnder r p
+              of A = at-node A.node
+                where
+                  at-node : (slice_get news p ≡ slice_get olds A.place) ⊎ ((slice_get news p ≡ Some merge) × (slice_get olds A.place ≡ Some U)) → IsUnder r p
+                  at-node (inr w) = absurd (other (one key merge.key (sym here ∙ key_of_node news p merge w.0) ∙ upper-key))
+                  at-node (inl w) = moved A.parent
+                    where
+                      same : A.place ≡ t
+                      same = once A.place t key (in-olds A.place key (sym (same_key news olds p A.place w) ∙ here)) there
+
+                      moved : (parent_in olds A.place ≡ parent_in news p) ⊎ IsBelow U.key T.node.key (parent_in olds A.place) (parent_in news p) → IsUnder r p
+                      moved (inl x) = kept (sym x ∙ ap (λ (zs : List Node). parent_in zs A.place) (sym whole) ∙ ap (λ (j : ℕ). parent_in ns j) same ∙ e) which
+                      moved (inr (upper i' j x y)) = end j y
+                      moved (inr (lower i' j x y)) = end j y
+
+      child : (t : ℕ) (up key' : Key) (i : ℕ) → key_in ns t ≡ Some up → (up ≡ F.upper) ⊎ (up ≡ low) → slice_get (kids_in ns t) i ≡ Some key' → key'.number ≡ key.number → IsUnder s p
+      child t up key' i there which e z =
+          let K1 = one-term G low q lawful F once in
+          let c = kid-there ns t up i key' K1 there e in
+          let y = kid-parent ns t c.0 up i key' K1 there e c.1 in
+          from c.0 (suc i) up (c.1 ∙ ap Some (one-key key' key z)) y which
+
+      by : near key.number → IsUnder s p
+      by (inl z) = absurd (other (one-key key F.upper z))
+      by (inr (inl (i, (key', (e, z))))) = child F.place F.upper key' i F.above (inl refl) e z
+      by (inr (inr (i, (key', (e, z))))) = child F.here.place low key' i F.here.there (inr refl) e z

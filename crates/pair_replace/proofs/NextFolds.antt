@@ -17,11 +17,11 @@ use Rattle.slt_grammar.proofs.KeyedLemmas.{key_at-within, nodes-are-term, body_a
 use Rattle.slt_grammar.proofs.KeyedEdits.{nodes-others}
 use Rattle.slt_grammar.proofs.KeptLemmas.{below-get, below-two}
 use Rattle.digram_index.specs.Digrams.{Cell, OccursAt, occurrence_at, occurrence_under, occurrence_below, parent_node}
-use Rattle.digram_index.specs.Keeping.{IsIndexBut}
+use Rattle.digram_index.specs.Keeping.{AreOccurrences, IsIndexBut}
 use Rattle.digram_index.specs.Linked.{Linked, cell}
 use Rattle.digram_index.proofs.Apartness.{Stands, stands, one-key}
 use Rattle.digram_index.proofs.ParentLemmas.{parent-key, keyed_place}
-use Rattle.pair_replace.specs.Chains.{AreOccurrences, IsLinkedAs, IsHead, upper_at, ShareNoNode, SharesNoNode, AreApart}
+use Rattle.pair_replace.specs.Chains.{IsLinkedAs, IsHead, upper_at, ShareNoNode, SharesNoNode, AreApart}
 use Rattle.pair_replace.specs.NewRules.{IsNewRule}
 use Rattle.pair_replace.specs.Partly.{IsAround, IsAmong}
 use Rattle.pair_replace.proofs.ChainLemmas.{linked-upper}
@@ -153,13 +153,22 @@ module _ (g : Keyed) (K : IsKeyed g) (d : Digram) (rule : ℕ) (own : Key) (R : 
         ∙ ap (λ (l : Label). digram_body (ranks_of (rules_of G)) (label_at G r child.above) child.child l) (sym low-label);
   }
 
+  -- its labels are the digram's
+  pub upper-is : label_at G folds.here.rule folds.place ≡ d.upper
+  unfolding folds
+  upper-is = high-label
+
+  pub lower-is : label_at G folds.here.rule folds.here.place ≡ d.lower
+  unfolding folds
+  lower-is = low-label
+
   -- another occurrence of the digram that shares no node with it is not near
   far : (k : ℕ) → IsLinkedAs I d k → k ≢ low.number → upper_at I k ≢ low.number → IsAround folds.upper (kids_in ns folds.place) (kids_in ns folds.here.place) k → ⊥
   unfolding folds S
   far k L apart below near = by near
     where
-      upper-is : upper_at I low.number ≡ S.up.key.number
-      upper-is = linked-upper I d low.number o H.linked.1.0 ∙ sym S.upper
+      up-number : upper_at I low.number ≡ S.up.key.number
+      up-number = linked-upper I d low.number o H.linked.1.0 ∙ sym S.upper
 
       -- a child of a node of the rule that is the lower node of the other
       told : (s i : ℕ) (up key : Key) → key_in ns s ≡ Some up → slice_get (kids_in ns s) i ≡ Some key → key.number ≡ k → (upper_at I k ≡ up.number) × (d.place ≡ suc i)
@@ -175,13 +184,18 @@ module _ (g : Keyed) (K : IsKeyed g) (d : Digram) (rule : ℕ) (own : Key) (R : 
           (linked-upper I d k L.0 L.1.0 ∙ x.0, ap (λ (y : Digram). y.place) (sym L.1.1) ∙ x.1)
 
       by : IsAround folds.upper (kids_in ns folds.place) (kids_in ns folds.here.place) k → ⊥
-      by (inl z) = H.first (subst (λ (n : ℕ). IsLinkedAs I d n) (z ∙ sym upper-is) L)
+      by (inl z) = H.first (subst (λ (n : ℕ). IsLinkedAs I d n) (z ∙ sym up-number) L)
       by (inr (inl (i, (key, (e, z))))) =
           let x = told child.above i S.up.key key child.there e z in
           let y : i ≡ child.child = let f = ap (λ (w : Digram). w.place) digram-is in let h = child.place in omega (arith, x.1, f, h) in
           let v : key ≡ low = one key low (sym e ∙ ap (λ (j : ℕ). slice_get (kids_in ns child.above) j) y ∙ child.is_child ∙ O.there) in
           apart (sym z ∙ ap (λ (w : Key). w.number) v)
       by (inr (inr (i, (key, (e, z))))) = below (told O.place i low key O.there e z).0
+
+  pub far-from : (k : ℕ) → IsLinkedAs I d k → k ≢ low.number → upper_at I k ≢ low.number
+      → IsAround folds.upper (kids_in (nodes_at G folds.here.rule) folds.place) (kids_in (nodes_at G folds.here.rule) folds.here.place) k → ⊥
+  unfolding folds
+  far-from k L apart below near = far k L apart below near
 
   module _ (J : Linked) (same : (n : ℕ) → (IsAround folds.upper (kids_in ns folds.place) (kids_in ns folds.here.place) n → ⊥) → cell J n ≡ cell I n) where
     stays : (k : ℕ) → IsLinkedAs I d k → k ≢ low.number → upper_at I k ≢ low.number → cell J k ≡ cell I k

@@ -73,15 +73,16 @@ places-append up i (suc m) n =
     let y : suc i + m ≡ i + suc m = omega arith in
     ap (λ (k : ℕ). places up i k) z ∙ ap (λ (os : Opens). Some (up, i) ∷ os) (places-append up (suc i) m n ∙ ap (λ (k : ℕ). places up (suc i) m ++ places up k n) y)
 
--- one of the first so many open places
-pub record IsOpen (os : Opens) (n : ℕ) (e : Option (Key × ℕ)) : Type 0 where
+-- one of the first so many open places, in one list and in another
+pub record AreOpen (A B : Opens) (n : ℕ) (e f : Option (Key × ℕ)) : Type 0 where
   pub at : ℕ
   pub few : at < n
-  pub is : e ≡ get_or os at None
+  pub first : e ≡ get_or A at None
+  pub second : f ≡ get_or B at None
 
 -- the roots of terms have the open places as parents, and what stands below them does not depend on these
 pub below-roots : (k n : ℕ) (S A B : Opens) (xs : List Node) → k ≡ length S + n → AreTerms kids_of k xs → (p : ℕ)
-    → (get_or (ups (S ++ A) xs) p None ≡ get_or (ups (S ++ B) xs) p None) ⊎ IsOpen A n (get_or (ups (S ++ A) xs) p None)
+    → (get_or (ups (S ++ A) xs) p None ≡ get_or (ups (S ++ B) xs) p None) ⊎ AreOpen A B n (get_or (ups (S ++ A) xs) p None) (get_or (ups (S ++ B) xs) p None)
 below-roots k n S A B [] e t p = inl refl
 below-roots zero n S A B (x ∷ xs) e t p = absurd t
 below-roots (suc k) n (s ∷ S) A B (x ∷ xs) e t zero = inl refl
@@ -90,14 +91,14 @@ below-roots (suc k) n (s ∷ S) A B (x ∷ xs) e t (suc p) =
     let l : x.kids + k ≡ length (P ++ S) + n = omega (arith, e, length-append P S, length-places x.key 1 x.kids) in
     rw (append_assoc P S A, append_assoc P S B) at (below-roots (x.kids + k) n (P ++ S) A B xs l t p)
 below-roots (suc k) zero [] A B (x ∷ xs) e t p = absurd (omega (arith, e))
-below-roots (suc k) (suc n) [] A B (x ∷ xs) e t zero = inr (record { at = 0; few = omega arith; is = refl })
+below-roots (suc k) (suc n) [] A B (x ∷ xs) e t zero = inr (record { at = 0; few = omega arith; first = refl; second = refl })
 below-roots (suc k) (suc n) [] A B (x ∷ xs) e t (suc p) =
     up (below-roots (x.kids + k) n (places x.key 1 x.kids) (drop 1 A) (drop 1 B) xs (omega (arith, e, length-places x.key 1 x.kids)) t p)
   where
-    up : (get_or (ups (places x.key 1 x.kids ++ drop 1 A) xs) p None ≡ get_or (ups (places x.key 1 x.kids ++ drop 1 B) xs) p None) ⊎ IsOpen (drop 1 A) n (get_or (ups (places x.key 1 x.kids ++ drop 1 A) xs) p None)
-        → (get_or (ups (places x.key 1 x.kids ++ drop 1 A) xs) p None ≡ get_or (ups (places x.key 1 x.kids ++ drop 1 B) xs) p None) ⊎ IsOpen A (suc n) (get_or (ups (places x.key 1 x.kids ++ drop 1 A) xs) p None)
+    up : (get_or (ups (places x.key 1 x.kids ++ drop 1 A) xs) p None ≡ get_or (ups (places x.key 1 x.kids ++ drop 1 B) xs) p None) ⊎ AreOpen (drop 1 A) (drop 1 B) n (get_or (ups (places x.key 1 x.kids ++ drop 1 A) xs) p None) (get_or (ups (places x.key 1 x.kids ++ drop 1 B) xs) p None)
+        → (get_or (ups (places x.key 1 x.kids ++ drop 1 A) xs) p None ≡ get_or (ups (places x.key 1 x.kids ++ drop 1 B) xs) p None) ⊎ AreOpen A B (suc n) (get_or (ups (places x.key 1 x.kids ++ drop 1 A) xs) p None) (get_or (ups (places x.key 1 x.kids ++ drop 1 B) xs) p None)
     up (inl h) = inl h
-    up (inr o) = inr (record { at = suc o.at; few = let w = o.few in omega arith; is = o.is ∙ get-drop A o.at })
+    up (inr o) = inr (record { at = suc o.at; few = let w = o.few in omega arith; first = o.first ∙ get-drop A o.at; second = o.second ∙ get-drop B o.at })
 
 pub get-places : (up : Key) (i n c : ℕ) (rest : Opens) → c < n → get_or (places up i n ++ rest) c None ≡ Some (up, i + c)
 get-places up i zero c rest h = absurd (omega arith)

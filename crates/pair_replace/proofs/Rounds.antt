@@ -15,7 +15,8 @@ use Rattle.pair_replace.specs.NewRules.{IsNewRule}
 use Rattle.pair_replace.specs.Partly.{IsAround}
 use Rattle.pair_replace.specs.Turns.{IsRound, IsTurn}
 use Rattle.pair_replace.proofs.NearFolds.{ranks, rules}
-use Rattle.pair_replace.proofs.NextFolds.{folds, apart-after, new-stays}
+use Rattle.pair_replace.proofs.FoldedCalls.{calls-kept, called-more}
+use Rattle.pair_replace.proofs.NextFolds.{folds, upper-is, lower-is, apart-after, new-stays}
 
 index-same : (g : Keyed) (I J : Linked) (own : Key) → IsIndexBut g I (λ k. k ≡ own.number) → J.rules ≡ I.rules → ((k : ℕ) → cell J k ≡ cell I k) → IsIndexBut g J (λ k. k ≡ own.number)
 index-same g I J own B rules same = record {
@@ -45,6 +46,8 @@ round-same g I J d rule own first count R rules same cells spare = record {
   values = R.values;
   many = R.many;
   size_left = R.size_left;
+  calls = R.calls;
+  called = R.called;
   apart = (R.apart.0, (apart-same I J d same R.apart.0 R.apart.1.0, R.apart.1.1));
   room = let r = R.room in omega (arith, r, spare);
   cells = let c = R.cells in omega (arith, c, cells);
@@ -60,6 +63,8 @@ pub round-next : (g h : Keyed) (K : IsKeyed g) (I J : Linked) (d : Digram) (rule
 round-next g h K I J d rule own first count R spare low H made index others values less spare' cells =
     let F = folds g K d rule own R.new I R.index low H in
     let m = made F in
+    let u = upper-is g K d rule own R.new I R.index low H in
+    let l = lower-is g K d rule own R.new I R.index low H in
     let A = apart-after g K d rule own R.new I R.index low H J (others F) R.apart.0 R.apart.1.0 in
     record {
       index = index;
@@ -67,6 +72,8 @@ round-next g h K I J d rule own first count R spare low H made index others valu
       values = λ r. values r ∙ R.values r;
       many = rules g h K low rule F m ∙ R.many;
       size_left = let s = R.size_left in omega (arith, s, less);
+      calls = λ k z. let a = R.calls k z in let b = calls-kept g h K d rule own R.new low F m u l k z in omega (arith, a, b);
+      called = let a = R.called in let b = called-more g h K d rule own R.new low F m u l in omega (arith, a, b);
       apart = (A.0, (A.1.0, let x = A.1.1 in let y = R.apart.1.1 in omega (arith, x, y)));
       room = let r = R.room in omega (arith, r, spare, spare');
       cells = cells;

@@ -1,14 +1,8 @@
 -- Occurrences of one digram, and which of them share no node.
 use Rattle.std.specs.Prelude.{◌≡◌, ◌≢◌, ℕ, List, [], ◌∷◌, Option, Some, None}
-use Rattle.rule_arena.specs.declared.key.Key.{Key}
-use Rattle.slt_grammar.specs.Keyed.{KeyedRule}
 use Rattle.slt_grammar.specs.declared.digram.Digram.{Digram}
-use Rattle.digram_index.specs.Digrams.{Cell, OccursAt}
+use Rattle.digram_index.specs.Digrams.{Cell}
 use Rattle.digram_index.specs.Linked.{Linked, cell}
-
--- what is linked occurs in the rules
-abbrev pub AreOccurrences : List KeyedRule → Linked → Type 0
-AreOccurrences G I = (key : Key) (o : Cell) → cell I key.number ≡ Some o → OccursAt G key o
 
 -- an occurrence of the digram is linked, whose lower node has this number
 abbrev pub IsLinkedAs : Linked → Digram → ℕ → Type 0

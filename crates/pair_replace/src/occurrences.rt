@@ -1,7 +1,8 @@
 // Where a digram occurs.
 ghost use Rattle.std.specs.Prelude.{◌≡◌, ℕ, IfSome, IfNone, MatchBool};
 ghost use Rattle.digram_index.specs.Digrams.{Cell, OccursAt};
-ghost use Rattle.pair_replace.specs.Chains.{AreOccurrences, IsHead, IsLinkedAs};
+ghost use Rattle.digram_index.specs.Keeping.{AreOccurrences};
+ghost use Rattle.pair_replace.specs.Chains.{IsHead, IsLinkedAs};
 
 use crate::reading::item;
 use digram_index::Index;

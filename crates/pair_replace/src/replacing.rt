@@ -1,7 +1,8 @@
 // Replacement of a digram.
-ghost use Rattle.std.specs.Prelude.{◌≡◌, ◌≢◌, ◌+◌, ◌<◌, ◌≤◌, ℕ, List, IfOk, OnOk, OnErr, length};
+ghost use Rattle.std.specs.Prelude.{◌≡◌, ◌≢◌, ◌+◌, ◌<◌, ◌≤◌, ℕ, List, [], ◌∷◌, IfOk, OnOk, OnErr, length};
+ghost use Rattle.slt_grammar.specs.Bodies.{calls_in};
 ghost use Rattle.slt_grammar.specs.Editing.{shifted};
-ghost use Rattle.slt_grammar.specs.Grammars.{size, value, value_at, IsSwept};
+ghost use Rattle.slt_grammar.specs.Grammars.{calls_of, size, value, value_at, IsSwept};
 ghost use Rattle.slt_grammar.specs.Digrams.{HasThreeDisjoint, digram_rank};
 ghost use Rattle.slt_grammar.specs.Keyed.{Keyed, rules_of};
 ghost use Rattle.digram_index.specs.Keeping.{IsIndexBut};
@@ -82,6 +83,9 @@ fn fold_all(
     ensures rules { length grammar.new.rules ≡ length grammar.old.rules }
     ensures count { IfOk result (λ count. 3 ≤ count) }
     ensures size { IfOk result (λ count. size (rules_of grammar.new.rules) + count ≡ size (rules_of grammar.old.rules)) }
+    ensures calls { (r : ℕ) → calls_in r (digram.upper ∷ digram.lower ∷ []) ≡ 0 → calls_of (rules_of grammar.old.rules) r ≤ calls_of (rules_of grammar.new.rules) r }
+    ensures called { 3 ≤ calls_of (rules_of grammar.new.rules) new.now.place }
+    ensures differ { IfOk result (λ count. digram.upper ≢ digram.lower → count ≡ cell_count digram index.old.cells) }
     ensures refused { OnErr result (size (rules_of grammar.new.rules) + 3 ≤ size (rules_of grammar.old.rules)) }
     ensures room { 1 ≤ index.new.spare_links }
     ensures cells { grammar.new.limit ≤ length index.new.cells }
@@ -113,12 +117,14 @@ fn fold_next(
     ensures refused { OnErr result ((first : Keyed) → IsRound grammar.old index.old digram new.now.place new.now.lower first count → IsRound grammar.new index.new digram new.now.place new.now.lower first count) }
     ensures three { OnErr result (3 ≤ count) }
     ensures less { OnOk result (size (rules_of grammar.new.rules) + 1 ≡ size (rules_of grammar.old.rules)) }
+    ensures fewer { OnOk result (digram.upper ≢ digram.lower → cell_count digram index.new.cells + 1 ≡ cell_count digram index.old.cells) }
 {
-    // The call tells that a key stands once.
+    // The calls tell that a key stands once.
     let _limit = grammar.limit();
     make_room(grammar, index, count)?;
     let hint = further(grammar, digram, lower);
     fold_at(grammar, index, lower, new.place, new.lower);
+    let _folded = grammar.limit();
     Ok(next_occurrence(grammar, index, digram, hint))
 }
 

@@ -12,7 +12,5 @@ mod new_rule;
 mod occurrences;
 mod reading;
 mod replacing;
-#[cfg(test)]
-mod tests;
 
 pub use replacing::{Replaced, replace};

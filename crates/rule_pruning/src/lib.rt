@@ -9,8 +9,6 @@ mod call_lists;
 mod inlining;
 mod pruning;
 mod savings;
-#[cfg(test)]
-mod tests;
 
 pub use pruning::prune;
 pub use savings::saving;

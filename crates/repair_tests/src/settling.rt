@@ -1,19 +1,21 @@
-// Replacements in small grammars, after each of which the index is that of the grammar from scratch.
-use crate::{Replaced, replace};
+// Replacements in a small grammar, after each of which the index counts as one from scratch.
+ghost use Rattle.digram_index.specs.Linked.{IsIndexOf};
+
+use super::rows::{Row, rules_of};
 use digram_index::{Index, build};
-use slt_grammar::Label::{self, Bottom, Call, Param, Symbol};
-use slt_grammar::{Body, Digram, Grammar, RuleList, check};
+use local_repair::settle;
+use pair_replace::replace;
+use rule_pruning::saving;
+use slt_grammar::Label::{self, Bottom, Call, Symbol};
+use slt_grammar::{Digram, Grammar, check};
 use std::alloc::{AllocError, Global};
 use std::process::Abort;
 use std::test::Fail;
 
-// A rank and the labels of a body.
-type Row = (usize, &'static [Label]);
-
 const B: Label = Symbol(2);
 
 // document(a(b(bottom, b(bottom, .. bottom)), bottom), bottom) with six b.
-const SIX: Row = (
+static SIX: [Row; 1] = [(
     0,
     &[
         Symbol(0),
@@ -34,19 +36,7 @@ const SIX: Row = (
         Bottom,
         Bottom,
     ],
-);
-
-fn rules_of(alloc: Global, rows: &[Row]) -> Result<RuleList, AllocError> {
-    let mut rules = RuleList::new(alloc);
-    for &(rank, labels) in rows {
-        let mut body = Body::new(alloc);
-        for label in labels {
-            body.push(*label)?;
-        }
-        rules.push(rank, body)?;
-    }
-    Ok(rules)
-}
+)];
 
 static LABELS: [Label; 8] = [
     Bottom,
@@ -79,10 +69,29 @@ fn is_kept(alloc: Global, grammar: &Grammar, index: &Index) -> Result<bool, Allo
     Ok(true)
 }
 
+// Replaces the digram that the index names, where it is this one, and answers how many occurrences were folded.
+fn replaced(
+    alloc: Global,
+    grammar: &mut Grammar,
+    index: &mut Index,
+    wanted: Digram,
+) -> Result<u64, AllocError>
+    requires { IsIndexOf grammar.old index.old }
+    ensures { IsIndexOf grammar.new index.new }
+{
+    match index.top(grammar, 4) {
+        Some(digram) => {
+            let count = replace(alloc, grammar, index, digram)?.count;
+            if digram == wanted { Ok(count) } else { Ok(0) }
+        }
+        None => Ok(0),
+    }
+}
+
 #[test]
-fn six_leaves(rt: HostRuntime) -> Result<(), Fail> {
+fn six_leaves_are_a_rule_of_a_rule(rt: HostRuntime) -> Result<(), Fail> {
     let alloc = rt.alloc();
-    let mut grammar = check(alloc, rules_of(alloc, &[SIX])?)?;
+    let mut grammar = check(alloc, rules_of(alloc, &SIX)?)?;
     let mut index = build(alloc, &grammar)?;
     let leaf = Digram {
         upper: B,
@@ -90,23 +99,31 @@ fn six_leaves(rt: HostRuntime) -> Result<(), Fail> {
         lower: Bottom,
     };
     assert_eq!(rt; index.count(leaf), 6);
-    let replaced = replace(alloc, &mut grammar, &mut index, leaf)?;
-    assert_eq!(rt; replaced.count, 6);
-    assert_eq!(rt; replaced.rule, 0);
+    assert_eq!(rt; replaced(alloc, &mut grammar, &mut index, leaf)?, 6);
     assert_eq!(rt; grammar.size(), 13);
-    assert_eq!(rt; grammar.rules(), 2);
     assert!(rt; is_kept(alloc, &grammar, &index)?);
-    // A chain of six: every other one of five.
+    // Of a chain of six every other one of five.
     let chain = Digram {
         upper: Call(0),
         place: 1,
         lower: Call(0),
     };
     assert_eq!(rt; index.count(chain), 5);
-    let replaced = replace(alloc, &mut grammar, &mut index, chain)?;
-    assert_eq!(rt; replaced.count, 3);
-    assert_eq!(rt; replaced.rule, 1);
+    assert_eq!(rt; replaced(alloc, &mut grammar, &mut index, chain)?, 3);
     assert_eq!(rt; grammar.size(), 12);
     assert!(rt; is_kept(alloc, &grammar, &index)?);
+    Ok(())
+}
+
+#[test]
+fn six_leaves_settle(rt: HostRuntime) -> Result<(), Fail> {
+    let alloc = rt.alloc();
+    let mut grammar = check(alloc, rules_of(alloc, &SIX)?)?;
+    settle(alloc, &mut grammar, 4)?;
+    assert_eq!(rt; grammar.rules(), 2);
+    assert_eq!(rt; grammar.size(), 12);
+    if grammar.rules() > 1 {
+        assert_eq!(rt; saving(&grammar, 0), 5);
+    }
     Ok(())
 }

@@ -1,14 +1,12 @@
 // Grammars that are pruned.
-use crate::{prune, saving};
+use super::rows::{Row, rules_of};
 use digram_index::build;
+use rule_pruning::{prune, saving};
 use slt_grammar::Label::{self, Bottom, Call, Param, Symbol};
-use slt_grammar::{Body, Grammar, RuleList, check};
-use std::alloc::{AllocError, Global};
+use slt_grammar::{Grammar, check};
+use std::alloc::Global;
 use std::process::Abort;
 use std::test::Fail;
-
-// A rank and the labels of a body.
-type Row = (usize, &'static [Label]);
 
 const DOCUMENT: Label = Symbol(0);
 
@@ -63,18 +61,6 @@ static NESTED: [Row; 3] = [
         ],
     ),
 ];
-
-fn rules_of(alloc: Global, rows: &[Row]) -> Result<RuleList, AllocError> {
-    let mut rules = RuleList::new(alloc);
-    for &(rank, labels) in rows {
-        let mut body = Body::new(alloc);
-        for label in labels {
-            body.push(*label)?;
-        }
-        rules.push(rank, body)?;
-    }
-    Ok(rules)
-}
 
 // What a rule saves, and none where it is the start or is not there.
 fn saving_of(grammar: &Grammar, rule: usize) -> Option<i128> {

@@ -10,12 +10,15 @@ pub data Act : Type 0 where
   SaveGrammar : (name : List ℕ) → Act
   -- the node with this number is printed
   Show : (number : ℕ) → Act
+  -- the grammar is settled
+  Repair : Act
 
 abbrev pub needs_document : Act → Bool
 needs_document (Load name) = false
 needs_document (Save name) = true
 needs_document (SaveGrammar name) = true
 needs_document (Show number) = true
+needs_document Repair = true
 
 -- the name of the file that the command reads
 abbrev pub file_read : Act → Option (List ℕ)
@@ -23,12 +26,14 @@ file_read (Load name) = Some name
 file_read (Save name) = None
 file_read (SaveGrammar name) = None
 file_read (Show number) = None
+file_read Repair = None
 
 abbrev pub writes_file : Act → Bool
 writes_file (Load name) = false
 writes_file (Save name) = true
 writes_file (SaveGrammar name) = true
 writes_file (Show number) = false
+writes_file Repair = false
 
 -- the number of the node that the command asks for
 abbrev pub node_asked : Act → Option ℕ

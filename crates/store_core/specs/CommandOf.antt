@@ -1,5 +1,5 @@
 -- The act that a command of the program asks for.
-use Rattle.store_core.specs.Acts.{Act, Load, Save, SaveGrammar, Show}
+use Rattle.store_core.specs.Acts.{Act, Load, Save, SaveGrammar, Show, Repair}
 use Rattle.store_core.specs.declared.command.Command.{Command}
 use Rattle.store_core.specs.declared.command.Command.TheVariants as c
 
@@ -8,3 +8,4 @@ act_of (c.Load name) = Load name.now
 act_of (c.Save name) = Save name.now
 act_of (c.SaveGrammar name) = SaveGrammar name.now
 act_of (c.Show number) = Show number
+act_of c.Repair = Repair

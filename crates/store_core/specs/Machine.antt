@@ -6,22 +6,24 @@ use Rattle.plain_tree.specs.Numbers.{nodes}
 use Rattle.plain_tree.specs.Tree.{Tree, node_count}
 use Rattle.xml_nodes.specs.Spelling.{Spells}
 use Rattle.xml_nodes.specs.Saved.{saved_bytes, spelling}
+use Rattle.slt_grammar.specs.declared.rules.Rule.{Rule}
+use Rattle.slt_grammar.specs.Digrams.{IsSettled}
 use Rattle.slt_grammar.specs.Grammars.{size}
 use Rattle.fcns_encoding.specs.Interning.{Interns, pairs_of_tree}
 use Rattle.grammar_file.specs.FileBytes.{file_bytes}
-use Rattle.store_core.specs.Acts.{Act, Load, Save, SaveGrammar, Show}
-use Rattle.store_core.specs.Worlds.{Parts, PartsStandFor, IsLawfulState, World, Same, HasFile}
+use Rattle.store_core.specs.Acts.{Act, Load, Save, SaveGrammar, Show, Repair}
+use Rattle.store_core.specs.Worlds.{Parts, with_rules, PartsStandFor, IsLawfulState, World, Same, HasFile}
 use Rattle.store_core.specs.Texts.{answer_line, refusal_line}
 use Rattle.store_core.specs.Refusals.{Cause}
 use Rattle.store_core.specs.declared.answer.Answer.{Answer}
 use Rattle.store_core.specs.declared.answer.Answer.TheVariants as ok
 use Rattle.store_core.specs.declared.answer.Refusal.{Refusal}
 
--- what a loading makes of a document: names in the order of their first nodes, and a grammar of one rule
+-- what a loading makes of a document: names in the order of their first nodes, and a settled grammar
 pub record Encodes (tree : Tree) (parts : Parts) : Type 0 where
   pub stand : PartsStandFor parts tree
   pub names : Interns [] (pairs_of_tree tree) parts.names
-  pub one : length parts.rules ≡ 1
+  pub settled : IsSettled parts.rules 4
 
 -- the document is the one that the file's bytes, fewer than 2^30, spell
 pub record HoldsDocument (name : List ℕ) (w : World) (tree : Tree) : Type 0 where
@@ -77,12 +79,27 @@ pub record Shows (number : ℕ) (old : World) (out : List ℕ) (new : World) : T
   pub same : Same old new
   pub printed : out ≡ bytes ++ answer_line ok.Shown
 
+-- the rules become settled ones that stand for the same document and have no more nodes, and nothing else changes
+pub record Repairs (old : World) (out : List ℕ) (new : World) : Type 0 where
+  pub parts : Parts
+  pub tree : Tree
+  pub rules : List Rule
+  pub held : old.state ≡ Some parts
+  pub stand : PartsStandFor parts tree
+  pub state : new.state ≡ Some (with_rules parts rules)
+  pub still : PartsStandFor (with_rules parts rules) tree
+  pub settled : IsSettled rules 4
+  pub smaller : size rules ≤ size parts.rules
+  pub files : Stays old.files new.files
+  pub printed : out ≡ answer_line (ok.Repaired (length rules) (size rules))
+
 -- the command is done
 abbrev pub Does : Act → World → List ℕ → World → Type 0
 Does (Load name) old out new = Loads name old out new
 Does (Save name) old out new = Saves name old out new
 Does (SaveGrammar name) old out new = SavesGrammar name old out new
 Does (Show number) old out new = Shows number old out new
+Does Repair old out new = Repairs old out new
 
 -- what a command comes to that printed this text: it is done, or it is refused for this cause, printed none and changes nothing
 abbrev pub Comes : Act → World → List ℕ → Result Answer Refusal → World → Type 0

@@ -11,6 +11,7 @@ answer_line (ok.Nodes n) = codes "ok nodes " ++ decimal n ++ codes "\n"
 answer_line (ok.Bytes n) = codes "ok bytes " ++ decimal n ++ codes "\n"
 answer_line (ok.Grammar rules size bytes) =
     codes "ok rules " ++ decimal rules ++ codes " size " ++ decimal size ++ codes " bytes " ++ decimal bytes ++ codes "\n"
+answer_line (ok.Repaired rules size) = codes "ok rules " ++ decimal rules ++ codes " size " ++ decimal size ++ codes "\n"
 answer_line ok.Shown = codes "ok shown\n"
 
 abbrev pub refusal_line : Refusal → List ℕ

@@ -1,5 +1,5 @@
 -- What a command finds and leaves.
-use Rattle.std.specs.Prelude.{◌≡◌, ◌≤◌, ◌<◌, ◌^◌, ℕ, List, [], length, Option, IfSome, Some, None}
+use Rattle.std.specs.Prelude.{◌≡◌, ◌≤◌, ◌<◌, ◌^◌, ℕ, List, [], Option, IfSome, Some, None}
 use Rattle.std.specs.FinMap.{get}
 use Rattle.std.specs.Option.{IsSomeAnd, option_map}
 use Rattle.plain_tree.specs.declared.kind.Kind.{Kind}
@@ -15,6 +15,10 @@ pub record Parts : Type 0 where
   pub names : List (Kind × List ℕ)
   pub rules : List Rule
   pub texts : List (List ℕ)
+
+-- other rules in their place
+abbrev pub with_rules : Parts → List Rule → Parts
+with_rules parts rules = record parts { rules = rules }
 
 -- the parts stand for the document
 abbrev pub PartsStandFor : Parts → Tree → Type 0

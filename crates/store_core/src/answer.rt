@@ -24,6 +24,11 @@ pub enum Answer {
         size: u64,
         bytes: u128,
     },
+    /// The grammar is settled, and has so many rules and nodes.
+    Repaired {
+        rules: usize,
+        size: u64,
+    },
     /// The node was printed before the line.
     Shown,
 }
@@ -80,6 +85,7 @@ pub(crate) fn write_line<K: Sink>(
         Ok(Answer::Nodes(count)) => write_count(b"ok nodes ", count, sink),
         Ok(Answer::Bytes(count)) => write_count(b"ok bytes ", count, sink),
         Ok(Answer::Grammar { rules, size, bytes }) => write_grammar(rules, size, bytes, sink),
+        Ok(Answer::Repaired { rules, size }) => write_repaired(rules, size, sink),
         Ok(Answer::Shown) => sink.write(b"ok shown\n"),
         Err(refusal) => write_refusal(refusal, sink),
     }
@@ -127,6 +133,20 @@ fn write_grammar<K: Sink>(rules: usize, size: u64, bytes: u128, sink: &mut K) ->
     add_number(&mut line, size);
     add(&mut line, b" bytes ");
     add_number(&mut line, bytes);
+    add(&mut line, b"\n");
+    sink.write(line.as_slice())
+}
+
+fn write_repaired<K: Sink>(rules: usize, size: u64, sink: &mut K) -> Result<(), Failed>
+    ensures content { Writes (K.got sink.old) (K.got sink.new) result (answer_line (Answer.Repaired rules size)) }
+    ensures kept { Keeps (K.kept sink.old) (K.kept sink.new) }
+    ensures cause { HasCause (K.faults sink.old) (K.faults sink.new) result }
+{
+    let mut line: AnswerLine = ArrayVec::new();
+    add(&mut line, b"ok rules ");
+    add_number(&mut line, rules);
+    add(&mut line, b" size ");
+    add_number(&mut line, size);
     add(&mut line, b"\n");
     sink.write(line.as_slice())
 }

@@ -11,6 +11,8 @@ pub enum Command<'a> {
     SaveGrammar { name: &'a str },
     /// The node with this number is printed, and number 0 prints the document as `Save` writes it.
     Show { number: u64 },
+    /// The grammar is settled.
+    Repair,
 }
 
 /// How a session keeps its grammar small.

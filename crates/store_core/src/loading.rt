@@ -7,6 +7,8 @@ ghost use Rattle.plain_tree.specs.Lawful.{IsDocument};
 ghost use Rattle.slt_grammar.specs.Grammars.{IsGrammar, IsSwept, value};
 ghost use Rattle.slt_grammar.specs.Keyed.{rules_of};
 ghost use Rattle.slt_grammar.specs.Segments.{listed};
+ghost use Rattle.slt_grammar.specs.Standing.{StandsFor};
+ghost use Rattle.fcns_encoding.specs.Interning.{Interns, pairs_of_tree};
 ghost use Rattle.segment_counts.specs.Counting.{AreCounts};
 ghost use Rattle.segment_counts.specs.Weights.{node_weight};
 ghost use Rattle.store_core.specs.Acts as act;
@@ -18,8 +20,9 @@ ghost use Rattle.store_core.specs.Texts.{answer_line};
 
 use crate::answer::{Answer, Refusal};
 use crate::reading::read_document;
-use crate::store::Store;
+use crate::store::{RULE_RANK, Store};
 use fcns_encoding::encode;
+use local_repair::settle;
 use plain_tree::{Names, Node};
 use segment_counts::{CountError, Counts};
 use slt_grammar::{Grammar, GrammarError, RuleList, check};
@@ -51,7 +54,7 @@ pub(crate) fn load_document<F: Shelf>(
         → Cause refusal (act.Load name.now) (world state (F.told shelf.old) (F.faults shelf.old)) (world state (F.told shelf.new) (F.faults shelf.new))) }
 {
     let document = read_file(alloc, name, shelf)?;
-    let store = store_of(alloc, &document)?;
+    let store = store_of(alloc, document)?;
     let count = store.counts.total();
     Ok(ReadDocument { store, count })
 }
@@ -78,27 +81,53 @@ fn read_file<F: Shelf>(alloc: Global, name: &str, shelf: &mut F) -> Result<Node,
     read
 }
 
-// The document as a grammar of one rule, and its counts. It is refused only for want of memory.
-fn store_of(alloc: Global, document: &Node) -> Result<Store, AllocError>
-    requires document { IsDocument (tree_of document.now) }
-    requires small { node_count (tree_of document.now) < 2 ^ 30 }
-    ensures encoded { IfOk result (λ s. Encodes (tree_of document.now) (parts_of s)) }
+// The document as a settled grammar, and its counts. It is refused only for want of memory.
+fn store_of(alloc: Global, document: Node) -> Result<Store, AllocError>
+    requires document { IsDocument (tree_of document) }
+    requires small { node_count (tree_of document) < 2 ^ 30 }
+    ensures encoded { IfOk result (λ s. Encodes (tree_of document) (parts_of s)) }
     ensures grammar { IfOk result (λ s. IsGrammar (rules_of s.grammar.rules)) }
-    ensures swept { IfOk result (λ s. IsSwept (rules_of s.grammar.rules)) }
     ensures counted { IfOk result IsCounted }
 {
-    let mut names = Names::new(alloc);
-    let coded = encode(alloc, document, &mut names)?;
-    let mut rules = RuleList::new(alloc);
-    rules.push(0, coded.body)?;
-    let grammar = grammar_of(alloc, rules)?;
+    let CodedDocument {
+        mut grammar,
+        names,
+        texts,
+    } = code_document(alloc, document)?;
+    settle(alloc, &mut grammar, RULE_RANK)?;
     let counts = counts_of(alloc, &grammar, &names)?;
-    let texts = TextList::new(coded.texts);
     Ok(Store {
         grammar,
         names,
         texts,
         counts,
+    })
+}
+
+// A document as a grammar of one rule.
+#[derive(Drop)]
+struct CodedDocument {
+    grammar: Grammar,
+    names: Names,
+    texts: TextList,
+}
+
+// The document as a grammar of one rule. The tree is let go with it, since settling takes memory of its own.
+fn code_document(alloc: Global, document: Node) -> Result<CodedDocument, AllocError>
+    requires { IsDocument (tree_of document) }
+    ensures stand { IfOk result (λ c. StandsFor (rules_of c.grammar.rules) c.names c.texts.texts (tree_of document)) }
+    ensures names { IfOk result (λ c. Interns [] (pairs_of_tree (tree_of document)) c.names) }
+{
+    let mut names = Names::new(alloc);
+    let coded = encode(alloc, &document, &mut names)?;
+    let mut rules = RuleList::new(alloc);
+    rules.push(0, coded.body)?;
+    let grammar = grammar_of(alloc, rules)?;
+    let texts = TextList::new(coded.texts);
+    Ok(CodedDocument {
+        grammar,
+        names,
+        texts,
     })
 }
 

@@ -7,6 +7,7 @@ ghost use Rattle.tree_outside.specs.Shelf.{Keeps};
 use crate::answer::{Answer, Refusal, write_line};
 use crate::command::{Command, Settings};
 use crate::loading::load_document;
+use crate::repairing::repair_store;
 use crate::saving::{save_document, save_grammar};
 use crate::showing::walk_to;
 use crate::store::Store;
@@ -78,7 +79,7 @@ impl Session {
     /// failed; session and shelf are then as after the command, and the sink got a front of the text. Where the shelf tells that
     /// no file was open and none pending, that is so after the command too.
     ///
-    /// The counter counts the reads of `save` and `show`. The settings serve commands that change a grammar, of which there is none yet.
+    /// The counter counts the reads of `save` and `show`. The settings serve edits, of which there is none yet.
     pub fn command<K: Sink, F: Shelf, L: Ledger>(
         &mut self,
         alloc: Global,
@@ -124,6 +125,7 @@ impl Session {
             Command::Save { name } => Ok(self.save(alloc, name, shelf, steps)),
             Command::SaveGrammar { name } => Ok(self.save_grammar(name, shelf)),
             Command::Show { number } => self.show(alloc, number, sink, steps),
+            Command::Repair => Ok(self.repair(alloc)),
         }
     }
 
@@ -175,6 +177,16 @@ impl Session {
         match &self.store {
             None => Err(Refusal::NoDocument),
             Some(store) => save_grammar(name, store, shelf),
+        }
+    }
+
+    fn repair(&mut self, alloc: Global) -> Result<Answer, Refusal>
+        ensures lawful { IsLawfulState self.old × IsLawfulState self.new }
+        ensures comes { (told : Option Told) (count : ℕ) → Comes act.Repair (world self.old told count) [] result (world self.new told count) }
+    {
+        match &mut self.store {
+            None => Err(Refusal::NoDocument),
+            Some(store) => Ok(repair_store(alloc, store)?),
         }
     }
 

@@ -4,6 +4,9 @@ use segment_counts::Counts;
 use slt_grammar::Grammar;
 use text_list::TextList;
 
+/// The greatest rank of a rule that a settling makes.
+pub(crate) const RULE_RANK: usize = 4;
+
 /// A document, held as a grammar over a table of names beside its texts, with the counts of the grammar's segments.
 #[derive(Drop)]
 pub struct Store {

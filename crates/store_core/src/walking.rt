@@ -60,7 +60,7 @@ impl NodeWalk {
 
 // So many places for open nodes are enough for a walk from the node with this number. It is refused only for want of memory.
 //
-// Where the value has no more nodes than the rules, as it has after a loading, each gets a place: that takes fewer bytes than the
+// Where the value has no more nodes than the rules, as where little repeats, each gets a place: that takes fewer bytes than the
 // rules do, and a walk ahead would double the time. Else there may be far more nodes than memory, so a walk ahead finds how many
 // are open at once.
 fn enough_places<L: Ledger>(

@@ -4,7 +4,7 @@ use Rattle.std.proofs.Common.{sym, ap, ◌∙◌, arith}
 use Rattle.std.specs.List.{ends_with}
 use Rattle.std.proofs.lemmas.Fmt.{decimal_injective}
 use Rattle.std.proofs.lemmas.List.{length-take}
-use Rattle.store_core.specs.Acts.{Act, Load, Save, SaveGrammar, Show}
+use Rattle.store_core.specs.Acts.{Act, Load, Save, SaveGrammar, Show, Repair}
 use Rattle.store_shell.specs.Forms.{Form, Empty, Long, Bad, Quit, Command, IsForm, Asks, without_return}
 use Rattle.store_shell.specs.Lines.{longest}
 
@@ -29,12 +29,14 @@ byte_at place (Load n) = get_or (codes "load " ++ n) place 0
 byte_at place (Save n) = get_or (codes "save " ++ n) place 0
 byte_at place (SaveGrammar n) = get_or (codes "save-grammar " ++ n) place 0
 byte_at place (Show n) = get_or (codes "show " ++ decimal n) place 0
+byte_at place Repair = get_or (codes "repair") place 0
 
 asked : (words : List ℕ) (place : ℕ) (a : Act) → Asks words a → byte_at place a ≡ get_or words place 0
 asked words place (Load n) h = ap (λ ws. get_or ws place 0) (sym h.1)
 asked words place (Save n) h = ap (λ ws. get_or ws place 0) (sym h.1)
 asked words place (SaveGrammar n) h = ap (λ ws. get_or ws place 0) (sym h.1)
 asked words place (Show n) h = ap (λ ws. get_or ws place 0) (sym h.1)
+asked words place Repair h = ap (λ ws. get_or ws place 0) (sym h)
 
 same_byte : (words : List ℕ) (place : ℕ) (a b : Act) → Asks words a → Asks words b → byte_at place a ≡ byte_at place b
 same_byte words place a b h k = asked words place a h ∙ sym (asked words place b k)
@@ -56,6 +58,7 @@ asks-one words (Show n) (Show m) h k =
     let e : codes "show " ++ decimal n ≡ codes "show " ++ decimal m = sym h.1 ∙ k.1 in
     let digits : decimal n ≡ decimal m = cc in
     ap Show (decimal_injective n m h.0 k.0 digits)
+asks-one words Repair Repair h k = refl
 asks-one words (Load n) (Save m) h k = let same : ◌≡◌ {A = ℕ} 108 115 = same_byte words 0 (Load n) (Save m) h k in absurd (omega arith)
 asks-one words (Load n) (SaveGrammar m) h k = let same : ◌≡◌ {A = ℕ} 108 115 = same_byte words 0 (Load n) (SaveGrammar m) h k in absurd (omega arith)
 asks-one words (Save n) (Load m) h k = let same : ◌≡◌ {A = ℕ} 115 108 = same_byte words 0 (Save n) (Load m) h k in absurd (omega arith)
@@ -68,6 +71,14 @@ asks-one words (Save n) (Show m) h k = let same : ◌≡◌ {A = ℕ} 97 104 = s
 asks-one words (Show n) (Save m) h k = let same : ◌≡◌ {A = ℕ} 104 97 = same_byte words 1 (Show n) (Save m) h k in absurd (omega arith)
 asks-one words (SaveGrammar n) (Show m) h k = let same : ◌≡◌ {A = ℕ} 97 104 = same_byte words 1 (SaveGrammar n) (Show m) h k in absurd (omega arith)
 asks-one words (Show n) (SaveGrammar m) h k = let same : ◌≡◌ {A = ℕ} 104 97 = same_byte words 1 (Show n) (SaveGrammar m) h k in absurd (omega arith)
+asks-one words (Load n) Repair h k = let same : ◌≡◌ {A = ℕ} 108 114 = same_byte words 0 (Load n) Repair h k in absurd (omega arith)
+asks-one words Repair (Load m) h k = let same : ◌≡◌ {A = ℕ} 114 108 = same_byte words 0 Repair (Load m) h k in absurd (omega arith)
+asks-one words (Save n) Repair h k = let same : ◌≡◌ {A = ℕ} 115 114 = same_byte words 0 (Save n) Repair h k in absurd (omega arith)
+asks-one words Repair (Save m) h k = let same : ◌≡◌ {A = ℕ} 114 115 = same_byte words 0 Repair (Save m) h k in absurd (omega arith)
+asks-one words (SaveGrammar n) Repair h k = let same : ◌≡◌ {A = ℕ} 115 114 = same_byte words 0 (SaveGrammar n) Repair h k in absurd (omega arith)
+asks-one words Repair (SaveGrammar m) h k = let same : ◌≡◌ {A = ℕ} 114 115 = same_byte words 0 Repair (SaveGrammar m) h k in absurd (omega arith)
+asks-one words (Show n) Repair h k = let same : ◌≡◌ {A = ℕ} 115 114 = same_byte words 0 (Show n) Repair h k in absurd (omega arith)
+asks-one words Repair (Show m) h k = let same : ◌≡◌ {A = ℕ} 114 115 = same_byte words 0 Repair (Show m) h k in absurd (omega arith)
 
 -- no command is asked for by no words
 asks_some : (words : List ℕ) (a : Act) → Asks words a → words ≡ [] → ⊥
@@ -75,6 +86,7 @@ asks_some words (Load n) h e = let f : codes "load " ++ n ≡ [] = sym h.1 ∙ e
 asks_some words (Save n) h e = let f : codes "save " ++ n ≡ [] = sym h.1 ∙ e in absurd (cc)
 asks_some words (SaveGrammar n) h e = let f : codes "save-grammar " ++ n ≡ [] = sym h.1 ∙ e in absurd (cc)
 asks_some words (Show n) h e = let f : codes "show " ++ decimal n ≡ [] = sym h.1 ∙ e in absurd (cc)
+asks_some words Repair h e = let f : codes "repair" ≡ [] = sym h ∙ e in absurd (cc)
 
 -- quit asks for no command
 asks_no_quit : (words : List ℕ) (a : Act) → Asks words a → words ≡ codes "quit" → ⊥
@@ -89,6 +101,9 @@ asks_no_quit words (SaveGrammar n) h e =
     absurd (omega arith)
 asks_no_quit words (Show n) h e =
     let same : ◌≡◌ {A = ℕ} 115 113 = asked words 0 (Show n) h ∙ ap (λ ws. get_or ws 0 0) e in
+    absurd (omega arith)
+asks_no_quit words Repair h e =
+    let same : ◌≡◌ {A = ℕ} 114 113 = asked words 0 Repair h ∙ ap (λ ws. get_or ws 0 0) e in
     absurd (omega arith)
 
 quit_some : (words : List ℕ) → words ≡ codes "quit" → words ≡ [] → ⊥

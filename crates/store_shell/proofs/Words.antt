@@ -5,7 +5,7 @@ use Rattle.std.specs.List.{position}
 use Rattle.std.proofs.lemmas.Bool.Decides.{nat_tests}
 use Rattle.std.proofs.lemmas.List.{take_at}
 use Rattle.std.proofs.lemmas.Option.{same_Some}
-use Rattle.store_core.specs.Acts.{Act, Load, Save, SaveGrammar, Show}
+use Rattle.store_core.specs.Acts.{Act, Load, Save, SaveGrammar, Show, Repair}
 use Rattle.store_shell.specs.Forms.{Asks}
 use Rattle.store_shell.specs.Verbs.{verb_word, is_blank}
 use Rattle.store_shell.specs.declared.verb.Verb.{Verb}
@@ -35,3 +35,4 @@ no_verb words at (Load name) e none h = none verb.Load (word_at verb.Load name w
 no_verb words at (Save name) e none h = none verb.Save (word_at verb.Save name words at e h.1)
 no_verb words at (SaveGrammar name) e none h = none verb.SaveGrammar (word_at verb.SaveGrammar name words at e h.1)
 no_verb words at (Show number) e none h = none verb.Show (word_at verb.Show (decimal number) words at e h.1)
+no_verb words at Repair e none h = let unspaced : None ≡ Some at = sym (ap (position is_blank) h) ∙ e in cc

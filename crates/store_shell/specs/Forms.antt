@@ -2,7 +2,7 @@
 use Rattle.std.specs.Prelude.{◌≡◌, ◌≢◌, ◌<◌, ◌≤◌, ◌-◌, ◌^◌, ℕ, List, [], ◌∷◌, ◌++◌, All, length, take, if◌then◌else◌, codes, decimal, nat_eq}
 use Rattle.std.specs.List.{ends_with}
 use Rattle.std.specs.Str.{IsUtf8}
-use Rattle.store_core.specs.Acts.{Act, Load, Save, SaveGrammar, Show}
+use Rattle.store_core.specs.Acts.{Act, Load, Save, SaveGrammar, Show, Repair}
 use Rattle.store_shell.specs.Lines.{longest}
 
 pub data Form : Type 0 where
@@ -29,6 +29,7 @@ Asks words (Load name) = IsFileName name × (words ≡ codes "load " ++ name)
 Asks words (Save name) = IsFileName name × (words ≡ codes "save " ++ name)
 Asks words (SaveGrammar name) = IsFileName name × (words ≡ codes "save-grammar " ++ name)
 Asks words (Show number) = (number < 2 ^ 64) × (words ≡ codes "show " ++ decimal number)
+Asks words Repair = words ≡ codes "repair"
 
 -- a line has this form
 abbrev pub IsForm : List ℕ → Form → Type 0

@@ -1,4 +1,4 @@
--- The words that begin commands, and what ends them.
+-- The words that begin commands with arguments, and what ends them.
 use Rattle.std.specs.Prelude.{◌==◌, ℕ, Bool, List, codes}
 use Rattle.store_shell.specs.declared.verb.Verb.{Verb}
 use Rattle.store_shell.specs.declared.verb.Verb.TheVariants as verb

@@ -59,10 +59,13 @@ fn is_quit(words: &[u8]) -> bool
     matches!(words, b"quit")
 }
 
-/// Reads a command: its verb, and after one space its arguments.
+/// Reads a command: its verb, and where it takes arguments, these after one space.
 fn parse_command(words: &[u8]) -> Option<Command<'_>>
     ensures { MatchOption result ((act : Act) → Asks words.now act → ⊥) (λ command. Asks words.now (act_of command)) }
 {
+    if is_repair(words) {
+        return Some(Command::Repair);
+    }
     let space = first_space(words)?;
     let verb = Verb::of(&words[..space])?;
     let arguments = &words[space + 1..];
@@ -72,6 +75,13 @@ fn parse_command(words: &[u8]) -> Option<Command<'_>>
         Verb::SaveGrammar => file_name(arguments).map(|name| Command::SaveGrammar { name }),
         Verb::Show => number(arguments).map(|number| Command::Show { number }),
     }
+}
+
+/// Whether the words ask for a settling.
+fn is_repair(words: &[u8]) -> bool
+    ensures { (result ≡ true) ↔ (words.now ≡ codes "repair") }
+{
+    matches!(words, b"repair")
 }
 
 fn first_space(words: &[u8]) -> Option<usize>

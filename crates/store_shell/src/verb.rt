@@ -1,5 +1,5 @@
-// The words that begin commands.
-/// What a command begins with.
+// The words that begin commands with arguments.
+/// What a command with arguments begins with.
 #[derive(Clone, Copy)]
 pub enum Verb {
     Load,

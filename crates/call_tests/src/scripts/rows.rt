@@ -15,7 +15,7 @@ const DONE: Row = Row {
     saved: "old",
 };
 
-static ROWS: [Row; 17] = [
+static ROWS: [Row; 19] = [
     Row {
         script: "load a\nsave c\nfly\n",
         printed: "ok nodes 4\nok bytes 16\n! bad-command\n",
@@ -43,9 +43,24 @@ static ROWS: [Row; 17] = [
     },
     Row {
         document: "<a/>",
-        script: "load a\nsave-grammar c\n",
-        printed: "ok nodes 2\nok rules 1 size 5 bytes 20\n",
+        script: "load a\nrepair\nsave-grammar c\n",
+        printed: "ok nodes 2\nok rules 1 size 5\nok rules 1 size 5 bytes 20\n",
         saved: "TGF1\x02\x00\x00\x01\x01a\x01\x00\x02\x00\x02\x01\x00\x00\x00\x00",
+        ..DONE
+    },
+    // Rule 0 is `b(bottom, b(bottom, y1))`, and the start calls it three times, over one another.
+    Row {
+        document: "<a><b/><b/><b/><b/><b/><b/></a>",
+        script: "load a\nrepair\nsave-grammar c\n",
+        printed: "ok nodes 8\nok rules 2 size 12\nok rules 2 size 12 bytes 37\n",
+        saved: "TGF1\x03\x00\x00\x01\x01a\x01\x01b\x02\x01\x02\x02\x00\x02\x02\x00\x01\
+            \x00\x02\x00\x02\x01\x03\x00\x03\x00\x03\x00\x00\x00\x00",
+        ..DONE
+    },
+    Row {
+        script: "repair\nrepair \nrepair x\n repair\nload a\nrepair\r\nsave c\n",
+        printed: "! no-document\n! bad-command\n! bad-command\n! bad-command\nok nodes 4\nok rules 1 size 9\nok bytes 16\n",
+        saved: SAVED,
         ..DONE
     },
     Row {

@@ -1,5 +1,4 @@
-use Rattle.std.proofs.Common.{◌≡◌, ◌≤◌, ◌<◌, None, Some, refl, sym, ◌∙◌, arith}
-use Rattle.std.proofs.lemmas.Bool.{cases_lt}
+use Rattle.std.proofs.Common.{◌≡◌, ◌≤◌, None, Some, refl, sym, ◌∙◌, arith}
 use Rattle.plain_tree.specs.Tree.{node_count}
 use Rattle.preorder_address.specs.TreeNumbers.{text_rank_at}
 use Rattle.slt_grammar.specs.Grammars.{value}

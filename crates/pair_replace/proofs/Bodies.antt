@@ -1,6 +1,5 @@
 -- The body of a rule for a digram.
 use Rattle.std.proofs.Common.{◌≡◌, ◌≢◌, ◌-◌, ◌≤◌, ℕ, length, length-append, subst, zero, suc, ◌+◌, List, [], ◌∷◌, ◌++◌, refl, sym, ap, ◌∙◌, arith, append_assoc}
-use Rattle.std.proofs.lemmas.List.{append-nil}
 use Rattle.rule_arena.specs.declared.label.Label.{Label}
 use Rattle.rule_arena.specs.Preorder.{AreTerms}
 use Rattle.slt_grammar.specs.Names.{Bottom, Symbol, Call, Param}

@@ -1,6 +1,6 @@
 -- What an occurrence says of its digram.
-use Rattle.std.proofs.Common.{◌≡◌, ◌≢◌, ℕ, suc, ◌+◌, ◌<◌, ◌≤◌, ◌^◌, List, [], ◌∷◌, length, Some, None, slice_get, refl, sym, ap, ◌∙◌, subst, arith}
-use Rattle.rule_arena.specs.Terms.{Node, kids_in, parent_in, key_in}
+use Rattle.std.proofs.Common.{◌≡◌, ◌≢◌, ℕ, ◌<◌, ◌≤◌, List, [], ◌∷◌, length, Some, slice_get, sym, ap, ◌∙◌, subst, arith}
+use Rattle.rule_arena.specs.Terms.{Node, kids_in}
 use Rattle.rule_arena.specs.declared.key.Key.{Key}
 use Rattle.rule_arena.specs.declared.label.Label.{Label}
 use Rattle.rule_arena.proofs.ChildLemmas.{length-kids}
@@ -9,7 +9,7 @@ use Rattle.slt_grammar.specs.Names.{Bottom, Symbol, Call, Param}
 use Rattle.slt_grammar.specs.Algebras.{ranks_of}
 use Rattle.slt_grammar.specs.Bodies.{arity, CallsBelow}
 use Rattle.slt_grammar.specs.Grammars.{body_at}
-use Rattle.slt_grammar.specs.Keyed.{Keyed, KeyedRule, IsKeyed, nodes_at, key_at, rules_of}
+use Rattle.slt_grammar.specs.Keyed.{Keyed, IsKeyed, nodes_at, rules_of}
 use Rattle.slt_grammar.specs.KeyedEdits.{label_at}
 use Rattle.slt_grammar.specs.Digrams.{HasThreeDisjoint}
 use Rattle.slt_grammar.specs.declared.digram.Digram.{Digram}
@@ -17,7 +17,7 @@ use Rattle.slt_grammar.proofs.Agreeing.{agree-of}
 use Rattle.slt_grammar.proofs.FoldedRules.{agree-node}
 use Rattle.slt_grammar.proofs.KeptLemmas.{below-get, below-two}
 use Rattle.slt_grammar.proofs.KeyedLemmas.{key_at-within, nodes-are-term, label-there, length-rules_of}
-use Rattle.digram_index.specs.Digrams.{Cell, OccursAt, occurrence_at, occurrence_under, occurrence_below, parent_node}
+use Rattle.digram_index.specs.Digrams.{Cell, OccursAt, occurrence_under, occurrence_below}
 use Rattle.digram_index.proofs.Apartness.{Stands, stands}
 use Rattle.digram_index.proofs.ParentLemmas.{parent-key, keyed_place}
 use Rattle.digram_index.proofs.PlainDigrams.{three-apart}

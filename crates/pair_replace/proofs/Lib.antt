@@ -19,5 +19,5 @@ pub mod Ends
 pub mod DigramBodies
 pub mod PutBack
 pub mod PutCounts
-pub mod PutFits
+pub mod PutDigrams
 pub mod PutRules

@@ -1,19 +1,21 @@
 -- Where a digram's new rule stands, and what the index has then.
-use Rattle.std.proofs.Common.{◌≡◌, ◌≢◌, ◌⊎◌, inl, inr, ◌+◌, ◌-◌, ◌<◌, ◌≤◌, ℕ, zero, suc, List, [], ◌∷◌, length, Option, Some, None, slice_get, refl, ap, sym, ◌∙◌, subst, arith}
+use Rattle.std.proofs.Common.{◌≡◌, ◌≢◌, ◌⊎◌, inl, inr, ◌-◌, ◌<◌, ◌≤◌, ℕ, zero, suc, List, [], ◌∷◌, length, Option, Some, None, IsSome, slice_get, refl, ap, sym, ◌∙◌, arith}
 use Rattle.std.proofs.lemmas.Bool.{cases_eq}
-use Rattle.rule_arena.specs.Terms.{Node, kids_in, key_in}
+use Rattle.rule_arena.specs.Preorder.{AreTerms}
+use Rattle.rule_arena.specs.Terms.{Node, kids_in, kids_of}
 use Rattle.rule_arena.specs.declared.key.Key.{Key}
 use Rattle.rule_arena.specs.declared.label.Label.{Label}
+use Rattle.rule_arena.proofs.ChildLemmas.{length-kids}
 use Rattle.slt_grammar.specs.Names.{Param}
 use Rattle.slt_grammar.specs.Algebras.{ranks_of}
-use Rattle.slt_grammar.specs.Bodies.{CallsBelow}
+use Rattle.slt_grammar.specs.Bodies.{arity, CallsBelow}
 use Rattle.slt_grammar.specs.Digrams.{HasThreeDisjoint}
 use Rattle.slt_grammar.specs.Grammars.{body_at}
 use Rattle.slt_grammar.specs.Keyed.{Keyed, KeyedRule, IsKeyed, rules_of, labels_of, nodes_at, key_at}
 use Rattle.slt_grammar.specs.KeyedEdits.{digram_body}
 use Rattle.slt_grammar.specs.declared.digram.Digram.{Digram}
-use Rattle.slt_grammar.proofs.Agreeing.{agree-of}
-use Rattle.slt_grammar.proofs.KeyedLemmas.{body_at-rules_of, label-there}
+use Rattle.slt_grammar.proofs.Agreeing.{Agree, agree-of}
+use Rattle.slt_grammar.proofs.KeyedLemmas.{body_at-rules_of, label-there, nodes-are-term}
 use Rattle.digram_index.specs.Building.{IsNumberIn}
 use Rattle.digram_index.specs.Digrams.{Cell, occurrence_at, occurrence_under, occurrence_below, parent_node}
 use Rattle.digram_index.specs.Keeping.{IsIndexBut}
@@ -59,6 +61,27 @@ module _ (G : List KeyedRule) (r p : ℕ) (key : Key) (o : Cell) (k : key_at G r
       at (inl x) = absurd (no-root x)
       at (inr (inl x)) = x
       at (inr (inr x)) = absurd (no-parameter x)
+
+kids-many : (ranks ranks' : List ℕ) (u l : Label) (c : ℕ) (ns : List Node) → labels_of ns ≡ digram_body ranks' u c l → Agree ranks ns → AreTerms kids_of 1 ns → length (kids_in ns 0) ≡ arity ranks u
+kids-many ranks ranks' u l c [] e a t = absurd (cc)
+kids-many ranks ranks' u l c (x ∷ ns) e a t =
+    let z : x.label ≡ u = cc in
+    length-kids 1 (x ∷ ns) 0 x t refl ∙ a.0 ∙ ap (arity ranks) z
+
+some-there : {X : Type 0} (xs : List X) (i : ℕ) → i < length xs → IsSome (slice_get xs i)
+some-there [] i h = absurd (omega arith)
+some-there (x ∷ xs) zero h = refl
+some-there (x ∷ xs) (suc i) h = some-there xs i (omega arith)
+
+-- the root of a digram over parameters has a child at the digram's place
+pub child-there : (g : Keyed) → IsKeyed g → (d : Digram) (rule : ℕ) → rule < length g.rules → 1 ≤ d.place → d.place ≤ arity (ranks_of (rules_of g.rules)) d.upper
+    → body_at (rules_of g.rules) rule ≡ digram_body (ranks_of (rules_of g.rules)) d.upper (d.place - 1) d.lower → (keys : List Key) → kids_in (nodes_at g.rules rule) 0 ≡ keys → IsSome (slice_get keys (d.place - 1))
+child-there g K d rule h first last body keys e =
+    let ranks : List ℕ = ranks_of (rules_of g.rules) in
+    let ns : List Node = nodes_at g.rules rule in
+    let k : length (kids_in ns 0) ≡ arity ranks d.upper = kids-many ranks ranks d.upper d.lower (d.place - 1) ns (sym (body_at-rules_of g.rules rule) ∙ body) (agree-of ranks ns (K.arities rule)) (nodes-are-term g K rule h) in
+    let m = ap length e in
+    some-there keys (d.place - 1) (omega arith)
 
 -- a rule whose body is a digram over parameters is the digram's new rule
 pub is-new : (g : Keyed) → IsKeyed g → (d : Digram) (rule : ℕ) (lower : Key) → 1 ≤ d.place → body_at (rules_of g.rules) rule ≡ digram_body (ranks_of (rules_of g.rules)) d.upper (d.place - 1) d.lower

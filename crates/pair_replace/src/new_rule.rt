@@ -8,9 +8,9 @@ ghost use Rattle.slt_grammar.specs.Grammars.{calls_of, size, value, value_at};
 ghost use Rattle.slt_grammar.specs.Keyed.{rules_of};
 ghost use Rattle.slt_grammar.specs.KeyedEdits.{digram_body, parameters};
 ghost use Rattle.digram_index.specs.Keeping.{IsIndexBut};
-ghost use Rattle.digram_index.specs.Linked.{IsIndexOf, cell_count};
+ghost use Rattle.digram_index.specs.Linked.{IsIndexOf, cell, cell_count, shifted_cell};
 ghost use Rattle.pair_replace.specs.Chains.{AreApart};
-ghost use Rattle.pair_replace.specs.NewRules.{IsNewRule, IsSmall};
+ghost use Rattle.pair_replace.specs.NewRules.{IsAdded, IsNewRule, IsSmall};
 
 use crate::reading::{arity_of, item};
 use digram_index::Index;
@@ -52,27 +52,60 @@ pub(crate) fn add_new_rule(
     ensures refused { OnErr result (grammar.new.rules ≡ grammar.old.rules) }
     ensures refused_index { OnErr result (IsIndexOf grammar.new index.new) }
 {
-    // The calls tell that a key stands once, and that places can be counted.
+    // The calls tell that a key stands once, before and after.
+    let _limit = grammar.limit();
+    let place = put_rule(alloc, grammar, digram)?;
+    let _grown = grammar.limit();
+    match make_place(grammar, index, place, links) {
+        Ok(()) => {
+            let root = item(grammar, grammar.root(place));
+            let lower = root.kids.get(digram.place - 1).unwrap();
+            Ok(NewRule { place, lower })
+        }
+        Err(refused) => {
+            grammar.drop_rule(place);
+            Err(refused)
+        }
+    }
+}
+
+// Puts a rule for a digram among the rules: its place. Where memory is refused, nothing changes.
+fn put_rule(alloc: Global, grammar: &mut Grammar, digram: Digram) -> Result<usize, AllocError>
+    requires three { HasThreeDisjoint (rules_of grammar.old.rules) digram }
+    requires rank { digram_rank (rules_of grammar.old.rules) digram ≤ 8 }
+    ensures added { IfOk result (λ place. IsAdded grammar.old.rules grammar.new.rules digram place) }
+    ensures first { IfOk result (λ place. (r : ℕ) → CallsBelow r (digram.upper ∷ digram.lower ∷ []) → place ≤ r) }
+    ensures value { value (rules_of grammar.new.rules) ≡ value (rules_of grammar.old.rules) }
+    ensures size { OnOk result (size (rules_of grammar.new.rules) ≡ size (rules_of grammar.old.rules) + 2) }
+    ensures refused { OnErr result (grammar.new.rules ≡ grammar.old.rules) }
+{
+    // The calls tell that a key stands once, before and after, and that places can be counted.
     let _limit = grammar.limit();
     let _rules = grammar.rules();
     let body = body_of(alloc, grammar, digram)?;
     let place = place_for(digram);
     let rank = body.len() - 2;
-    index.insert_rule(place)?;
-    if grammar.add_rule(place, rank, &body).is_err() {
-        index.remove_rule(place);
-        return Err(AllocError);
-    }
-    // The call tells the same of the rules with the new one.
+    grammar.add_rule(place, rank, &body)?;
     let _grown = grammar.limit();
-    if index.reserve(grammar, links, 0).is_err() {
-        grammar.drop_rule(place);
-        index.remove_rule(place);
-        return Err(AllocError);
-    }
-    let root = item(grammar, grammar.root(place));
-    let lower = root.kids.get(digram.place - 1).unwrap();
-    Ok(NewRule { place, lower })
+    Ok(place)
+}
+
+// Makes a place for a rule in the index, and room for so many more occurrences. Where memory is refused, the index stays.
+fn make_place(
+    grammar: &Grammar,
+    index: &mut Index,
+    place: usize,
+    links: usize,
+) -> Result<(), AllocError>
+    requires { place ≤ index.old.rules }
+    ensures rules { OnOk result (index.new.rules ≡ index.old.rules + 1) }
+    ensures shifted { OnOk result ((k : ℕ) → cell index.new k ≡ shifted_cell place (cell index.old k)) }
+    ensures room { OnOk result (links ≤ index.new.spare_links) }
+    ensures cells { OnOk result (grammar.now.limit ≤ length index.new.cells) }
+    ensures refused { OnErr result ((index.new.rules ≡ index.old.rules) × ((k : ℕ) → cell index.new k ≡ cell index.old k)) }
+{
+    index.reserve(grammar, links, 0)?;
+    index.insert_rule(place)
 }
 
 // The first place behind the rules that a digram's labels call.

@@ -1,14 +1,12 @@
 -- A digram over parameters that was put among the rules.
-use Rattle.std.proofs.Common.{◌≡◌, ◌+◌, ◌-◌, ◌<◌, ◌≤◌, ℕ, zero, suc, List, [], ◌∷◌, ◌++◌, length, map, get_or, IsSome, slice_get, Result, Ok, Err, OnOk, OnErr, is_err, Bool, true, false, refl, ap, sym, ◌∙◌, subst, arith}
+use Rattle.std.proofs.Common.{◌≡◌, ◌+◌, ◌-◌, ◌<◌, ◌≤◌, ℕ, zero, suc, List, [], ◌∷◌, ◌++◌, length, map, get_or, refl, ap, sym, ◌∙◌, subst, arith}
 use Rattle.std.proofs.Math.ListN.{get_or-map}
 use Rattle.std.proofs.lemmas.List.{length-map}
-use Rattle.rule_arena.specs.Preorder.{AreTerms}
-use Rattle.rule_arena.specs.Terms.{Node, kids_in, kids_of}
+use Rattle.rule_arena.specs.Terms.{Node}
 use Rattle.rule_arena.specs.declared.label.Label.{Label}
-use Rattle.rule_arena.proofs.ChildLemmas.{length-kids}
 use Rattle.slt_grammar.specs.Names.{Bottom, Symbol, Call, Param}
 use Rattle.slt_grammar.specs.Algebras.{ranks_of}
-use Rattle.slt_grammar.specs.Bodies.{arity, calls_in, params, real_nodes, CallsBelow, IsTerm}
+use Rattle.slt_grammar.specs.Bodies.{arity, calls_in, params, CallsBelow, IsTerm}
 use Rattle.slt_grammar.specs.Digrams.{HasThreeDisjoint, digram_rank}
 use Rattle.slt_grammar.specs.Editing.{shifted}
 use Rattle.slt_grammar.specs.Grammars.{body_at, calls_of, value_at}
@@ -21,10 +19,11 @@ use Rattle.slt_grammar.specs.declared.rules.Rule.{Rule}
 use Rattle.slt_grammar.proofs.Additions.{Fits, get-new, get-shifted, plain, put-is, put-calls, put-uncalled, put-length}
 use Rattle.slt_grammar.proofs.Agreeing.{Agree, agree-of}
 use Rattle.slt_grammar.proofs.Keeping.{shifted-before}
-use Rattle.slt_grammar.proofs.KeyedLemmas.{body_at-rules_of, length-rules_of, nodes-are-term}
+use Rattle.slt_grammar.proofs.KeyedLemmas.{body_at-rules_of, length-rules_of}
 use Rattle.slt_grammar.proofs.Values.{value_at-added}
+use Rattle.pair_replace.specs.NewRules.{IsAdded}
 use Rattle.pair_replace.proofs.Bodies.{digram-lawful}
-use Rattle.pair_replace.proofs.DigramBodies.{calls-digram, two-real}
+use Rattle.pair_replace.proofs.DigramBodies.{calls-digram}
 use Rattle.pair_replace.proofs.Digrams.{IsSound, sound}
 
 abbrev no_nodes : KeyedRule
@@ -133,49 +132,25 @@ module _ (g h : Keyed) (K : IsKeyed g) (M : IsKeyed h) (d : Digram) (place rank 
       ap (λ (G : List KeyedRule). calls_of (rules_of G) (shifted place q)) P.rules
       ∙ put-calls g.rules place new L there F q ∙ ap (λ (k : ℕ). calls_of (rules_of g.rules) q + k) c
 
-  kids-many : (ns : List Node) → labels_of ns ≡ digram_body new-ranks d.upper (d.place - 1) d.lower → Agree new-ranks ns → AreTerms kids_of 1 ns → length (kids_in ns 0) ≡ arity new-ranks d.upper
-  kids-many [] e a t = absurd (cc)
-  kids-many (x ∷ ns) e a t =
-      let z : x.label ≡ d.upper = cc in
-      length-kids 1 (x ∷ ns) 0 x t refl ∙ a.0 ∙ ap (arity new-ranks) z
+  pub upper-same : arity new-ranks d.upper ≡ arity old-ranks d.upper
+  upper-same = (arity-before old-ranks new-ranks place ranks-same d.upper d.lower below).0
 
-  -- the root has as many children as the upper label says
-  pub root-kids : length (kids_in (nodes_at h.rules place) 0) ≡ arity old-ranks d.upper
-  root-kids =
-      let ns : List Node = nodes_at h.rules place in
-      let l : place < length h.rules = omega (arith, there, one-more) in
-      kids-many ns (sym (body_at-rules_of h.rules place) ∙ body-new) (agree-of new-ranks ns (M.arities place)) (nodes-are-term h M place l)
-      ∙ (arity-before old-ranks new-ranks place ranks-same d.upper d.lower below).0
-
--- what is true once a digram's rule was put at the first place that its labels allow
-pub record IsAdded (g h : Keyed) (d : Digram) (place : ℕ) (body : List Label) : Type 0 where
-  pub there : place < length g.rules
-  pub first : 1 ≤ d.place
-  pub kids : d.place ≤ length (kids_in (nodes_at h.rules place) 0)
-  pub made : body_at (rules_of h.rules) place ≡ digram_body (ranks_of (rules_of h.rules)) d.upper (d.place - 1) d.lower
-  pub two : real_nodes body ≡ 2
-  pub uncalled : calls_of (rules_of h.rules) place ≡ 0
-  pub more : length h.rules ≡ length g.rules + 1
-  pub values : (q : ℕ) → q < length g.rules → value_at (rules_of h.rules) (shifted place q) ≡ value_at (rules_of g.rules) q
-  pub calls : (q : ℕ) → calls_of (rules_of h.rules) (shifted place q) ≡ calls_of (rules_of g.rules) q + calls_in q (d.upper ∷ d.lower ∷ [])
-  pub rule : KeyedRule
-  pub rules : h.rules ≡ rule_put g.rules place rule
-
+-- a digram's rule that was put before one that its labels do not call
 pub added : (g h : Keyed) → IsKeyed g → IsKeyed h → (d : Digram) → HasThreeDisjoint (rules_of g.rules) d → digram_rank (rules_of g.rules) d ≤ 8 → (place rank : ℕ) → CallsBelow place (d.upper ∷ d.lower ∷ [])
     → ((r : ℕ) → CallsBelow r (d.upper ∷ d.lower ∷ []) → place ≤ r) → (body : List Label) → body ≡ digram_body (ranks_of (rules_of g.rules)) d.upper (d.place - 1) d.lower → rank ≡ length body - 2
-    → IsPut g.rules h.rules place rank body → IsAdded g h d place body
+    → IsPut g.rules h.rules place rank body → IsAdded g.rules h.rules d place
 added g h K M d T small place rank below least body made many P = record {
   there = there;
-  first = S.first;
-  kids = let k = root-kids g h K M d place rank body there below made W P in let l = S.last in omega arith;
-  made = body-new g h K M d place rank body there below made W P;
-  two = ap real_nodes made ∙ two-real (ranks_of (rules_of g.rules)) d.upper d.lower (d.place - 1) S.upper S.lower;
-  uncalled = uncalled g h K M d place rank body there below made W P;
-  more = one-more g h K M d place rank body there below made W P;
-  values = values-stay g h K M d place rank body there below made W P;
-  calls = calls-more g h K M d place rank body there below made W P;
+  below = below;
   rule = record { rank = rank; nodes = P.nodes };
   rules = P.rules;
+  many = one-more g h K M d place rank body there below made W P;
+  first = S.first;
+  last = let k = upper-same g h K M d place rank body there below made W P in let l = S.last in omega arith;
+  body = body-new g h K M d place rank body there below made W P;
+  uncalled = uncalled g h K M d place rank body there below made W P;
+  calls = calls-more g h K M d place rank body there below made W P;
+  values = values-stay g h K M d place rank body there below made W P;
 }
   where
     S : IsSound g d
@@ -186,18 +161,3 @@ added g h K M d T small place rank below least body made many P = record {
 
     W : IsLawfulBefore (rules_of g.rules) place rank body
     W = let f = S.first in let l = S.last in digram-lawful (rules_of g.rules) place (d.place - 1) rank d.upper d.lower body made many (omega arith) small S.upper S.lower below
-
--- where a call did not fail
-pub when-ok : {A E : Type 0} (P : Type 0) (r : Result A E) → is_err r ≡ false → OnOk r P → P
-when-ok P (Ok a) e h = h
-when-ok P (Err x) e h = absurd (cc)
-
--- where a call failed
-pub when-err : {A E : Type 0} (P : Type 0) (r : Result A E) → is_err r ≡ true → OnErr r P → P
-when-err P (Ok a) e h = absurd (cc)
-when-err P (Err x) e h = h
-
-pub some-there : {X : Type 0} (xs : List X) (i : ℕ) → i < length xs → IsSome (slice_get xs i)
-some-there [] i h = absurd (omega arith)
-some-there (x ∷ xs) zero h = refl
-some-there (x ∷ xs) (suc i) h = some-there xs i (omega arith)

@@ -1,5 +1,5 @@
 -- A node that folds into its parent.
-use Rattle.std.proofs.Common.{◌≡◌, ℕ, suc, Option, Some, sym, ap, ◌∙◌}
+use Rattle.std.proofs.Common.{◌≡◌, ℕ, suc, Option, Some, refl, sym, ap, ◌∙◌}
 use Rattle.rule_arena.specs.Terms.{parent_in}
 use Rattle.rule_arena.specs.declared.key.Key.{Key}
 use Rattle.slt_grammar.specs.Holding.{IsLawful}

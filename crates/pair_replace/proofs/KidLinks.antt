@@ -1,9 +1,9 @@
 -- Occurrences of nodes that are taken away and linked one after another.
-use Rattle.std.proofs.Common.{◌≡◌, ◌≢◌, ◌⊎◌, inl, inr, ℕ, zero, suc, ◌+◌, ◌<◌, ◌≤◌, List, [], ◌∷◌, length, Some, None, Result, Ok, Err, IsOk, OnOk, slice_get, refl, sym, ap, ◌∙◌, subst, arith}
+use Rattle.std.proofs.Common.{◌≡◌, ◌≢◌, ◌⊎◌, inl, inr, ℕ, zero, suc, ◌+◌, ◌<◌, ◌≤◌, List, [], ◌∷◌, length, Option, Some, None, Result, Ok, Err, IsOk, OnOk, slice_get, refl, sym, ap, ◌∙◌, subst, arith}
 use Rattle.std.proofs.lemmas.Bool.{cases_eq}
 use Rattle.rule_arena.specs.Terms.{Apart}
 use Rattle.rule_arena.specs.declared.key.Key.{Key}
-use Rattle.slt_grammar.specs.Keyed.{Keyed, IsKeyed, key_at}
+use Rattle.slt_grammar.specs.Keyed.{Keyed, KeyedRule, IsKeyed, key_at}
 use Rattle.slt_grammar.specs.KeyedEdits.{Stands}
 use Rattle.digram_index.specs.Digrams.{Cell, OccursAt, occurrence_at}
 use Rattle.digram_index.specs.Linked.{Linked, cell}

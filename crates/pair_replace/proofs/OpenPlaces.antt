@@ -1,5 +1,5 @@
 -- Open places, from which the parents of nodes in preorder come.
-use Rattle.std.proofs.Common.{◌≡◌, ◌⊎◌, inl, inr, ℕ, zero, suc, ◌+◌, ◌<◌, List, [], ◌∷◌, ◌++◌, length, get_or, drop, Option, Some, None, refl, ap, ◌∙◌, arith, length-append, append_assoc}
+use Rattle.std.proofs.Common.{◌≡◌, ◌⊎◌, inl, inr, ℕ, zero, suc, ◌+◌, ◌<◌, List, [], ◌∷◌, ◌++◌, length, get_or, drop, Option, Some, None, refl, sym, ap, ◌∙◌, subst, arith, length-append, append_assoc}
 use Rattle.rule_arena.specs.Preorder.{AreTerms, places, parents}
 use Rattle.rule_arena.specs.Terms.{Node, key_of, kids_of}
 use Rattle.rule_arena.specs.declared.key.Key.{Key}

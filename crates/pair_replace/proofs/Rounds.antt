@@ -1,16 +1,17 @@
 -- The rounds in which occurrences are folded.
-use Rattle.std.proofs.Common.{◌≡◌, ◌⊎◌, inl, inr, Result, Ok, Err, OnErr, ℕ, ◌+◌, ◌-◌, ◌*◌, ◌<◌, ◌≤◌, List, [], ◌∷◌, length, Some, None, Option, ◌∙◌, arith}
+use Rattle.std.proofs.Common.{◌≡◌, ◌≢◌, ◌⊎◌, inl, inr, Result, Ok, Err, OnErr, ℕ, zero, suc, ◌+◌, ◌-◌, ◌*◌, ◌<◌, ◌≤◌, List, [], ◌∷◌, length, Some, None, Option, IfSome, IfNone, refl, sym, ap, ◌∙◌, subst, arith}
 use Rattle.std.proofs.lemmas.Bool.{cases_lt}
 use Rattle.rule_arena.specs.Terms.{kids_in}
 use Rattle.rule_arena.specs.declared.key.Key.{Key}
 use Rattle.slt_grammar.specs.Names.{Call}
 use Rattle.slt_grammar.specs.Grammars.{size, value_at}
-use Rattle.slt_grammar.specs.Keyed.{Keyed, IsKeyed, rules_of, nodes_at}
+use Rattle.slt_grammar.specs.Keyed.{Keyed, IsKeyed, rules_of, nodes_at, key_at}
 use Rattle.slt_grammar.specs.KeyedEdits.{FoldsInto, with_nodes, folded_nodes}
 use Rattle.slt_grammar.specs.declared.digram.Digram.{Digram}
 use Rattle.digram_index.specs.Keeping.{IsIndexBut}
 use Rattle.digram_index.specs.Linked.{Linked, cell}
-use Rattle.pair_replace.specs.Chains.{IsHead, IsLinkedAs, AreApart, SharesNoNode}
+use Rattle.pair_replace.specs.Chains.{IsHead, IsLinkedAs, AreApart, SharesNoNode, ShareNoNode}
+use Rattle.pair_replace.specs.NewRules.{IsNewRule}
 use Rattle.pair_replace.specs.Partly.{IsAround}
 use Rattle.pair_replace.specs.Turns.{IsRound, IsTurn}
 use Rattle.pair_replace.proofs.NearFolds.{ranks, rules}

@@ -1,5 +1,5 @@
 -- Two lists, one behind the other.
-use Rattle.std.proofs.Common.{◌≡◌, ℕ, zero, suc, ◌+◌, ◌<◌, List, [], ◌∷◌, ◌++◌, length, get_or, slice_get, Option, None, ap, refl, arith}
+use Rattle.std.proofs.Common.{◌≡◌, ℕ, zero, suc, ◌+◌, ◌<◌, List, [], ◌∷◌, ◌++◌, length, get_or, slice_get, Option, None, ap, ◌∙◌, refl, arith}
 use Rattle.rule_arena.specs.declared.key.Key.{Key}
 
 -- a place is in the first of two lists or in the second

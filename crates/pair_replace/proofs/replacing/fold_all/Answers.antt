@@ -1,4 +1,4 @@
-use Rattle.std.proofs.Common.{arith}
+use Rattle.std.proofs.Common.{◌≡◌, ◌≤◌, arith}
 use Rattle.pair_replace.proofs.Counts.{none-linked}
 use Rattle.pair_replace.proofs.Rounds.{three-folded, turns-end}
 use Rattle.pair_replace.proofs.replacing.fold_all.Goals as goal

@@ -1,4 +1,7 @@
-use Rattle.std.proofs.Common.{◌∙◌}
+use Rattle.std.proofs.Common.{◌≡◌, ◌∙◌, ◌≤◌, ◌+◌, ◌-◌, ◌*◌, ℕ, arith}
+use Rattle.std.proofs.lemmas.Bool.{cases_lt}
+use Rattle.slt_grammar.specs.Keyed.{Keyed}
+use Rattle.pair_replace.specs.Turns.{IsRound}
 use Rattle.pair_replace.proofs.Rounds.{round-same, round-next, enough, err-says}
 use Rattle.pair_replace.proofs.Counts.{count-alike}
 use Rattle.pair_replace.proofs.FewerCells.{fewer}

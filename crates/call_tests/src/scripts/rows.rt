@@ -54,7 +54,7 @@ static ROWS: [Row; 19] = [
         script: "load a\nrepair\nsave-grammar c\n",
         printed: "ok nodes 8\nok rules 2 size 12\nok rules 2 size 12 bytes 37\n",
         saved: "TGF1\x03\x00\x00\x01\x01a\x01\x01b\x02\x01\x02\x02\x00\x02\x02\x00\x01\
-            \x00\x02\x00\x02\x01\x03\x00\x03\x00\x03\x00\x00\x00\x00",
+            \x00\x02\x00\x02\x01\x03\x00\x03\x00\x03\x00\x00\x00\x00\x00",
         ..DONE
     },
     Row {

@@ -70,6 +70,7 @@ impl Arena {
         ensures succeeds { more ≤ self.old.spare → IsOk result }
         ensures terms { (r : ℕ) → term_at self.new r ≡ term_at self.old r }
         ensures limit { self.old.limit ≤ self.new.limit }
+        ensures stays { more ≤ self.old.spare → self.new.limit ≡ self.old.limit }
     {
         if more <= room_in(&self.slots) {
             return Ok(());

@@ -32,6 +32,7 @@ impl Grammar {
         ensures spare_nodes { OnOk result (self.old.spare_nodes ≤ self.new.spare_nodes + length body.now) }
         ensures spare_rules { OnOk result (self.old.spare_rules ≤ self.new.spare_rules + 1) }
         ensures limit { self.old.limit ≤ self.new.limit }
+        ensures stays { length body.now ≤ self.old.spare_nodes → self.new.limit ≡ self.old.limit }
     {
         self.reserve(0, 1)?;
         self.put_rule(place, rank, body)
@@ -50,6 +51,7 @@ impl Grammar {
         ensures spare_nodes { OnOk result (self.old.spare_nodes ≤ self.new.spare_nodes + length body.now) }
         ensures spare_rules { OnOk result (self.new.spare_rules + 1 ≡ self.old.spare_rules) }
         ensures limit { self.old.limit ≤ self.new.limit }
+        ensures stays { length body.now ≤ self.old.spare_nodes → self.new.limit ≡ self.old.limit }
     {
         // The call tells that nodes are few.
         let _limit = self.arena.limit();

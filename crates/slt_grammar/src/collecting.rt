@@ -47,6 +47,7 @@ pub(crate) fn prepare(
     requires { IsRoot arena.old root }
     ensures terms { (r : ℕ) → term_at arena.new r ≡ term_at arena.old r }
     ensures limit { arena.old.limit ≤ arena.new.limit }
+    ensures stays { (ns : List Node) → term_at arena.old root.number ≡ Some ns → length ns ≤ arena.old.spare → arena.new.limit ≡ arena.old.limit }
     ensures shapes { OnOk result ((ns : List Node) → term_at arena.old root.number ≡ Some ns → shapes.new.items ≡ ns) }
     ensures room { OnOk result ((length shapes.new.items ≤ arena.new.spare) × (length shapes.new.items ≤ length stack.new.items)) }
     ensures kept { OnOk result (arena.old.spare ≤ arena.new.spare) }

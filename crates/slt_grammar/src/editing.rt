@@ -97,6 +97,8 @@ impl Grammar {
             → self.old.spare_nodes ≤ self.new.spare_nodes + length (nodes_at self.old.rules C.called)) }
         ensures spare_rules { self.new.spare_rules ≡ self.old.spare_rules }
         ensures limit { self.old.limit ≤ self.new.limit }
+        ensures stays { (C : StandsAsCall self.old.rules call) → length (nodes_at self.old.rules C.called) ≤ self.old.spare_nodes
+            → self.new.limit ≡ self.old.limit }
     {
         // The call tells that a key stands once.
         let _limit = self.arena.limit();

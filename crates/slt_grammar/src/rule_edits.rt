@@ -21,6 +21,7 @@ impl Grammar {
         ensures grown { OnOk result (self.old.spare_nodes ≤ self.new.spare_nodes) }
         ensures grown_rules { self.old.spare_rules ≤ self.new.spare_rules }
         ensures limit { self.old.limit ≤ self.new.limit }
+        ensures stays { nodes ≤ self.old.spare_nodes → self.new.limit ≡ self.old.limit }
     {
         self.order.reserve(rules)?;
         self.roots.reserve(rules)?;

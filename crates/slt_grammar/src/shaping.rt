@@ -25,6 +25,7 @@ pub(crate) fn prepare_body(
     requires ranked { length ranks.now ≡ length order.now.order }
     ensures terms { (r : ℕ) → term_at arena.new r ≡ term_at arena.old r }
     ensures limit { arena.old.limit ≤ arena.new.limit }
+    ensures stays { length body.now ≤ arena.old.spare → arena.new.limit ≡ arena.old.limit }
     ensures shapes { OnOk result (placed order.now.order shapes.new.items ≡ nodes_of ranks.now key body.now) }
     ensures known { OnOk result (AreKnown order.now.order shapes.new.items) }
     ensures room { OnOk result ((length body.now ≤ arena.new.spare) × (length body.now ≤ length stack.new.items)) }

@@ -25,6 +25,7 @@ impl Grammar {
         ensures spare_nodes { OnOk result (self.old.spare_nodes ≤ self.new.spare_nodes + 1) }
         ensures spare_rules { OnOk result (self.old.spare_rules ≤ self.new.spare_rules + 1) }
         ensures limit { self.old.limit ≤ self.new.limit }
+        ensures stays { 0 < self.old.spare_nodes → self.new.limit ≡ self.old.limit }
     {
         self.reserve(1, 1)?;
         Ok(self.move_out(at))

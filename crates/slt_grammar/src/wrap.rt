@@ -38,6 +38,7 @@ impl Grammar {
         ensures spare_nodes { OnOk result (self.old.spare_nodes ≤ self.new.spare_nodes + length body.now) }
         ensures spare_rules { self.new.spare_rules ≡ self.old.spare_rules }
         ensures limit { self.old.limit ≤ self.new.limit }
+        ensures stays { length body.now ≤ self.old.spare_nodes → self.new.limit ≡ self.old.limit }
     {
         // The calls tell that a key stands once.
         let _limit = self.arena.limit();

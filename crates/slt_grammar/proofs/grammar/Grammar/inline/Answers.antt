@@ -317,3 +317,29 @@ returns-clause-size c = λ C.
     subst (λ (ks : List Key). size (rules_of (seen c.self.inside.order.order c.self.inside.ranks.items (terms_of c.inline_at.new.arena ks))) + 1 ≡ size (rules_of c.args.self.now.rules) + real_nodes (body_at (rules_of c.args.self.now.rules) C.called)) (sym wr)
     (size-inlined c.prepare.new.arena c.self.inside.roots.items c.self.inside.ranks.items c.self.inside.calls.items c.self.inside.order.order c.self.inside.size c.args.self.now.rules KS.0 seeb c.args.call C c.inline_at.new.arena c.inline_at.new.roots c.count_copy-come.new.calls.items c.count_copy-come.result c.args.follow c.inline_at.result i2 c.count_copy-come.ensures.len mo
     (c.count_copy-come.ensures.real ∙ ap (λ (ns : List Node). real_nodes (labels_of (placed c.self.inside.order.order ns))) s1))
+
+pub returns-in_err-prepare-clause-stays : goal.returns-in_err-prepare-clause-stays
+returns-in_err-prepare-clause-stays c = λ C h.
+    let see : seen c.self.inside.order.order c.self.inside.ranks.items (terms_of c.self.inside.arena c.self.inside.roots.items) ≡ c.args.self.now.rules = ap (λ (k : Keyed). k.rules) c.self.view_is in
+    let n = called-node c.self.inside.arena c.self.inside.roots.items c.self.inside.ranks.items c.self.inside.calls.items c.self.inside.order.order c.self.inside.size c.args.self.now.rules c.self.invariant see c.args.call C in
+    let e : c.called_rule-rule.result ≡ C.called = c.called_rule-rule.ensures (call-at c.self.inside.arena c.self.inside.roots.items c.self.inside.ranks.items c.self.inside.calls.items c.self.inside.order.order c.self.inside.size c.args.self.now.rules c.self.invariant see c.args.call C) n.0 C.called n.1 n.2 in
+    let g : slice_get c.self.inside.roots.items C.called ≡ Some c.index-root.result.now =
+    ap (λ (i : ℕ). slice_get c.self.inside.roots.items i) (sym e) ∙ slice_get_read c.self.inside.roots.items (length c.self.inside.roots.items) c.called_rule-rule.result c.index-root.result.now refl (omega (arith, e, callee-within c.self.inside.arena c.self.inside.roots.items c.self.inside.ranks.items c.self.inside.calls.items c.self.inside.order.order c.self.inside.size c.args.self.now.rules c.self.invariant see c.args.call C)) c.index-root.ensures in
+    let t = root-stands c.self.inside.arena c.self.inside.roots.items c.self.inside.ranks.items c.self.inside.calls.items c.self.inside.order.order c.self.inside.size c.args.self.now.rules c.self.invariant see c.args.call C c.index-root.result.now g in
+    let m = ap (λ (k : Keyed). k.spare_nodes) c.self.view_is in
+    let v = ap (λ (k : Keyed). k.limit) c.self.view_is in
+    let l = length-callee c.self.inside.arena c.self.inside.roots.items c.self.inside.ranks.items c.self.inside.calls.items c.self.inside.order.order c.self.inside.size c.args.self.now.rules c.self.invariant see c.args.call C in
+    c.prepare.ensures.stays (raw c.self.inside.arena c.self.inside.roots.items c.self.inside.ranks.items c.self.inside.calls.items c.self.inside.order.order c.self.inside.size c.args.self.now.rules c.self.invariant see c.args.call C C.called) t (omega (arith, l, h, m)) ∙ v
+
+pub returns-clause-stays : goal.returns-clause-stays
+returns-clause-stays c = λ C h.
+    let see : seen c.self.inside.order.order c.self.inside.ranks.items (terms_of c.self.inside.arena c.self.inside.roots.items) ≡ c.args.self.now.rules = ap (λ (k : Keyed). k.rules) c.self.view_is in
+    let n = called-node c.self.inside.arena c.self.inside.roots.items c.self.inside.ranks.items c.self.inside.calls.items c.self.inside.order.order c.self.inside.size c.args.self.now.rules c.self.invariant see c.args.call C in
+    let e : c.called_rule-rule.result ≡ C.called = c.called_rule-rule.ensures (call-at c.self.inside.arena c.self.inside.roots.items c.self.inside.ranks.items c.self.inside.calls.items c.self.inside.order.order c.self.inside.size c.args.self.now.rules c.self.invariant see c.args.call C) n.0 C.called n.1 n.2 in
+    let g : slice_get c.self.inside.roots.items C.called ≡ Some c.index-root.result.now =
+    ap (λ (i : ℕ). slice_get c.self.inside.roots.items i) (sym e) ∙ slice_get_read c.self.inside.roots.items (length c.self.inside.roots.items) c.called_rule-rule.result c.index-root.result.now refl (omega (arith, e, callee-within c.self.inside.arena c.self.inside.roots.items c.self.inside.ranks.items c.self.inside.calls.items c.self.inside.order.order c.self.inside.size c.args.self.now.rules c.self.invariant see c.args.call C)) c.index-root.ensures in
+    let t = root-stands c.self.inside.arena c.self.inside.roots.items c.self.inside.ranks.items c.self.inside.calls.items c.self.inside.order.order c.self.inside.size c.args.self.now.rules c.self.invariant see c.args.call C c.index-root.result.now g in
+    let m = ap (λ (k : Keyed). k.spare_nodes) c.self.view_is in
+    let v = ap (λ (k : Keyed). k.limit) c.self.view_is in
+    let l = length-callee c.self.inside.arena c.self.inside.roots.items c.self.inside.ranks.items c.self.inside.calls.items c.self.inside.order.order c.self.inside.size c.args.self.now.rules c.self.invariant see c.args.call C in
+    c.inline_at.ensures.limit ∙ c.prepare.ensures.stays (raw c.self.inside.arena c.self.inside.roots.items c.self.inside.ranks.items c.self.inside.calls.items c.self.inside.order.order c.self.inside.size c.args.self.now.rules c.self.invariant see c.args.call C C.called) t (omega (arith, l, h, m)) ∙ v

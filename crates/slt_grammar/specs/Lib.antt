@@ -27,3 +27,4 @@ pub mod Detaching
 pub mod Growing
 pub mod Listing
 pub mod Building
+pub mod Automata

@@ -5,7 +5,7 @@
 //! one. `bodies` scans a body, `counting` counts nodes and calls, `building` puts bodies into the arena. `laws` says what holds
 //! of what grammars mean; contracts see rules whose nodes carry their keys (`specs/Keyed.antt`), and `proofs/KeyedLemmas.antt`
 //! has their laws for the crates above. A `Digram` is two labels, one under the other; `specs/Digrams.antt` says where it occurs,
-//! and which grammars are settled.
+//! and which grammars are settled. `automata` has the traits of automata that run over what a grammar means, upward and downward.
 //!
 //! A grammar is changed by the calls of `editing` (one body), `wrap`, `share`, `add_rule` and `rule_edits`, and copied by that of
 //! `listing`. `order` keeps identities of rules, which nodes hold in place of the rules' places. What these calls do in the arena is in
@@ -14,6 +14,7 @@
 #![tactic(auto)]
 
 mod add_rule;
+mod automata;
 mod bodies;
 mod body_walk;
 mod building;
@@ -43,6 +44,7 @@ mod tour_walk;
 mod way;
 mod wrap;
 
+pub use automata::{Falling, Fell, Rising, RunState};
 pub use body_walk::BodyWalk;
 pub use checking::{GrammarError, check};
 pub use digram::Digram;

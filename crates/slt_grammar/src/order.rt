@@ -50,13 +50,16 @@ impl Order {
         })
     }
 
-    // Makes room for so many more rules.
+    // Makes room for so many more rules. The memory is taken first, so that a refusal costs nothing.
     pub(crate) fn reserve(&mut self, more: usize) -> Result<(), AllocError>
         ensures order { self.new.order ≡ self.old.order }
         ensures room { OnOk result (more ≤ self.new.spare) }
         ensures grown { self.old.spare ≤ self.new.spare }
         ensures succeeds { more ≤ self.old.spare → IsOk result }
     {
+        let missing = more.saturating_sub(self.ids.len() - self.used);
+        self.ids.reserve(missing)?;
+        self.places.reserve(missing)?;
         while self.ids.len() - self.used < more {
             add_free(&mut self.ids, &mut self.places)?;
         }

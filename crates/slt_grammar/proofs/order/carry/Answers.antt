@@ -1,4 +1,4 @@
-use Rattle.std.proofs.Common.{◌≡◌, ◌∙◌, ap, ℕ, List, Vec, Global, length, get_or, set, insert, remove, arith}
+use Rattle.std.proofs.Common.{◌≡◌, ◌∙◌, ap, ℕ, List, Vec, Global, get_or, set, insert, remove, arith}
 use Rattle.slt_grammar.proofs.Orders.{carried-up, carried-down, get-any}
 use Rattle.slt_grammar.proofs.order.carry.Goals as goal
 use Rattle.slt_grammar.proofs.order.carry.Goals.{then-from-to, else-from-to}

@@ -1,4 +1,4 @@
-use Rattle.std.proofs.Common.{◌≡◌, ◌∙◌, ◌≤◌, ℕ, sym, subst, arith}
+use Rattle.std.proofs.Common.{◌∙◌, ℕ, sym, subst, arith}
 use Rattle.slt_grammar.specs.Ordering.{AllBelow}
 use Rattle.slt_grammar.proofs.Orders.{inserted}
 use Rattle.slt_grammar.proofs.order.Order.insert.Goals as goal

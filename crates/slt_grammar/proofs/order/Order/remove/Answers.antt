@@ -1,4 +1,4 @@
-use Rattle.std.proofs.Common.{◌≡◌, ◌∙◌, ◌≤◌, ℕ, sym, subst, arith}
+use Rattle.std.proofs.Common.{◌∙◌, ℕ, sym, subst, arith}
 use Rattle.slt_grammar.specs.Ordering.{AllBelow}
 use Rattle.slt_grammar.proofs.Orders.{removed}
 use Rattle.slt_grammar.proofs.order.Order.remove.Goals as goal

@@ -44,6 +44,14 @@ label-injective ns Param (Symbol g) ka kb e = absurd (let z : ParamLabel ≡ Sym
 label-injective ns Param (Call m) ka kb e = absurd (let z : ParamLabel ≡ CallLabel (place_of ns m) = e in cc)
 label-injective ns Param Param ka kb e = refl
 
+-- patterns are equal where all their fields are
+pub fields : (x y : Pattern) → x.upper ≡ y.upper → x.place ≡ y.place → x.lower ≡ y.lower → x.rank ≡ y.rank → x ≡ y
+fields x y u p l r =
+    ap (λ (m : Mark). record { upper = m; place = x.place; lower = x.lower; rank = x.rank }) u
+    ∙ ap (λ (c : ℕ). record { upper = y.upper; place = c; lower = x.lower; rank = x.rank }) p
+    ∙ ap (λ (m : Mark). record { upper = y.upper; place = y.place; lower = m; rank = x.rank }) l
+    ∙ ap (λ (c : ℕ). record { upper = y.upper; place = y.place; lower = y.lower; rank = c }) r
+
 -- each cell is an occurrence
 abbrev pub AreCells : Keyed → Numbering → Entered → Type 0
 AreCells g n e = (key : Key) (o : Cell) → get_or (map (cell_of n.numbers) e.spots) key.number None ≡ Some o → OccursAt g.rules key o
@@ -64,7 +72,7 @@ module _ (g : Keyed) (K : IsKeyed g) (n : Numbering) (e : Entered) (N : AreKnown
     pub upper : IsKnown n.numbers p.upper
     pub lower : IsKnown n.numbers p.lower
 
-  member : (p : Pattern) (k : ℕ) → IsSpotOf e.spots p k → Member p k
+  pub member : (p : Pattern) (k : ℕ) → IsSpotOf e.spots p k → Member p k
   member p k s =
       let o : Cell = record { digram = digram_of n.numbers p; rank = p.rank; upper = s.0 } in
       let c : get_or (map (cell_of n.numbers) e.spots) k None ≡ Some o = cell-at n.numbers e.spots k ∙ ap (cell_of n.numbers) s.1 in
@@ -209,13 +217,6 @@ module _ (g : Keyed) (K : IsKeyed g) (n : Numbering) (e : Entered) (N : AreKnown
       let p : B.spot.pattern.place ≡ A.spot.pattern.place = ap (λ (v : Digram). v.place) z in
       let r : B.spot.pattern.rank ≡ A.spot.pattern.rank = B.rank ∙ sym A.rank in
       fields B.spot.pattern A.spot.pattern u p l r
-    where
-      fields : (x y : Pattern) → x.upper ≡ y.upper → x.place ≡ y.place → x.lower ≡ y.lower → x.rank ≡ y.rank → x ≡ y
-      fields x y u p l r =
-          ap (λ (m : Mark). record { upper = m; place = x.place; lower = x.lower; rank = x.rank }) u
-          ∙ ap (λ (c : ℕ). record { upper = y.upper; place = c; lower = x.lower; rank = x.rank }) p
-          ∙ ap (λ (m : Mark). record { upper = y.upper; place = y.place; lower = m; rank = x.rank }) l
-          ∙ ap (λ (c : ℕ). record { upper = y.upper; place = y.place; lower = y.lower; rank = c }) r
 
   spot-of : (d : Digram) (a b : NodePair) (A : Found d a) (B : Found d b) → IsSpotOf e.spots A.spot.pattern b.low
   spot-of d a b A B = (B.spot.upper, B.at ∙ ap (λ (p : Pattern). Some (record { pattern = p; upper = B.spot.upper })) (pattern-same d a b A B))
@@ -232,7 +233,7 @@ module _ (g : Keyed) (K : IsKeyed g) (n : Numbering) (e : Entered) (N : AreKnown
       }
 
   -- a digram with three occurrences that share no node has a pattern that is often
-  pub apart-often : AreAllCells g n e → (d : Digram) (bound : ℕ) → IsWithin g.rules bound d → HasThreeApart g.rules d → (p : Pattern) × ((p.rank ≤ bound) × IsOften p e.spots)
+  pub apart-often : AreAllCells g n e → (d : Digram) (bound : ℕ) → IsWithin g.rules bound d → HasThreeApart g.rules d → (p : Pattern) × ((p.rank ≤ bound) × (IsOften p e.spots × (digram_of n.numbers p ≡ d)))
   apart-often all d bound w H =
       let A = found all d H.first H.a in
       let B = found all d H.second H.b in
@@ -245,7 +246,7 @@ module _ (g : Keyed) (K : IsKeyed g) (n : Numbering) (e : Entered) (N : AreKnown
         p,
         (
           let r = A.rank in omega arith,
-          (
+          ((
             λ _. (ks, (record { different = different; members = λ k i. members k a b c i }, omega arith)),
             λ _. inr (
               H.first.low,
@@ -264,7 +265,7 @@ module _ (g : Keyed) (K : IsKeyed g) (n : Numbering) (e : Entered) (N : AreKnown
                 ),
               ),
             ),
-          ),
+          ), A.digram),
         ),
       )
     where
@@ -305,13 +306,6 @@ module _ (g : Keyed) (K : IsKeyed g) (n : Numbering) (e : Entered) (N : AreKnown
           let l = label-injective n.numbers s.pattern.lower p.lower M.lower kl (ap (λ (a : Digram). a.lower) m) in
           let pl : s.pattern.place ≡ p.place = ap (λ (a : Digram). a.place) m in
           none k s y (fields s.pattern p u pl l rk)
-        where
-          fields : (x y : Pattern) → x.upper ≡ y.upper → x.place ≡ y.place → x.lower ≡ y.lower → x.rank ≡ y.rank → x ≡ y
-          fields x y u p l r =
-              ap (λ (m : Mark). record { upper = m; place = x.place; lower = x.lower; rank = x.rank }) u
-              ∙ ap (λ (c : ℕ). record { upper = y.upper; place = c; lower = x.lower; rank = x.rank }) p
-              ∙ ap (λ (m : Mark). record { upper = y.upper; place = y.place; lower = m; rank = x.rank }) l
-              ∙ ap (λ (c : ℕ). record { upper = y.upper; place = y.place; lower = y.lower; rank = c }) r
 
 pub are-cells : (g : Keyed) (L : Linked) (n : Numbering) (e : Entered) → AreOccurrences g.rules L → map (cell_of n.numbers) e.spots ≡ L.cells → AreCells g n e
 are-cells g L n e I q = λ key o c. I key o (sym (ap (λ (cs : List (Option Cell)). get_or cs key.number None) q) ∙ c)

@@ -48,6 +48,7 @@ impl Index {
     ghost use Rattle.digram_index.specs.Digrams.{Cell, OccursAt, joint_rank};
     ghost use Rattle.slt_grammar.specs.Digrams.{digram_rank, HasThreeDisjoint};
     ghost use Rattle.slt_grammar.specs.declared.digram.Digram.{Digram};
+    ghost use Rattle.digram_index.specs.Frequency.{IsMostFrequent};
     ghost use Rattle.digram_index.specs.Keeping.{AreOccurrences};
     ghost use Rattle.digram_index.specs.Linked.{IsIndexOf, cell, cell_count, shifted_cell, unshifted_cell, Lacks};
 
@@ -158,14 +159,15 @@ impl Index {
         }
     }
 
-    /// A digram whose rank is within the bound and of which three occurrences share no node, and none exactly where there is none.
-    /// It is one of the greatest level: the number of its occurrences where its labels differ, and half of it where they are equal.
+    /// A digram whose rank is within the bound and of which three occurrences share no node, and none exactly where there is none. No
+    /// other is more frequent by more than a sixteenth.
     pub fn top(&self, grammar: &Grammar, bound: usize) -> Option<Digram>
         requires index { IsIndexOf grammar.now self.now }
         requires bound { bound ≤ 8 }
         ensures within { IfSome result (λ d. digram_rank (rules_of grammar.now.rules) d ≤ bound) }
         ensures three { IfSome result (λ d. HasThreeDisjoint (rules_of grammar.now.rules) d) }
         ensures none { IfNone result ((d : Digram) → digram_rank (rules_of grammar.now.rules) d ≤ bound → HasThreeDisjoint (rules_of grammar.now.rules) d → ⊥) }
+        ensures most { IfSome result (λ d. IsMostFrequent (rules_of grammar.now.rules) self.now bound d) }
     {
         let _limit = grammar.limit();
         match self.entries.best(bound) {

@@ -1,0 +1,127 @@
+-- How great a key is.
+use Rattle.std.proofs.Common.{◌≡◌, ◌∙◌, ◌<◌, ◌≤◌, ◌+◌, ◌*◌, ◌/◌, ◌^◌, ◌⊎◌, inl, inr, ℕ, suc, min, refl, ap, sym, subst, arith}
+use Rattle.std.proofs.Math.Nat.{pow-suc}
+use Rattle.std.proofs.Math.Pow.{pow_mono}
+use Rattle.std.proofs.lemmas.Bool.{cases_lt}
+use Rattle.std.proofs.lemmas.Nat.{mul-le, pow_pos}
+use Rattle.digram_index.specs.Ranking.{IsLevel}
+
+-- a key that was halved some times in some turns, as long as 32 or more was left
+pub record IsHalved (key rest doublings turns : ℕ) : Type 0 where
+  pub few : doublings ≤ turns
+  pub full : 32 ≤ rest → doublings ≡ turns
+  pub great : 0 < doublings → 16 ≤ rest
+  pub low : rest * 2 ^ doublings ≤ key
+  pub high : key < (rest + 1) * 2 ^ doublings
+
+pub halved-none : (key : ℕ) → IsHalved key key 0 0
+halved-none key = record { few = omega arith; full = λ h. refl; great = λ h. absurd (omega arith); low = omega arith; high = omega arith }
+
+pub halved-stays : (key rest doublings turns : ℕ) → IsHalved key rest doublings turns → rest < 32 → IsHalved key rest doublings (turns + 1)
+halved-stays key rest d t H h = record { few = let f = H.few in omega arith; full = λ x. absurd (omega arith); great = H.great; low = H.low; high = H.high }
+
+pub halved-next : (key rest doublings turns : ℕ) → IsHalved key rest doublings turns → 32 ≤ rest → IsHalved key (rest / 2) (doublings + 1) (turns + 1)
+halved-next key rest d t H h =
+    let q : ℕ = rest / 2 in
+    let a : 2 * q ≤ rest = omega arith in
+    let b : rest ≤ 2 * q + 1 = omega arith in
+    let e = doubled d in
+    let x : 2 * q * 2 ^ d ≤ rest * 2 ^ d = mul-le (2 * q) (2 ^ d) rest (2 ^ d) a (omega arith) in
+    let y : (rest + 1) * 2 ^ d ≤ (2 * q + 2) * 2 ^ d = mul-le (rest + 1) (2 ^ d) (2 * q + 2) (2 ^ d) (omega arith) (omega arith) in
+    record {
+      few = let f = H.few in omega arith;
+      full = λ k. let f = H.full h in omega arith;
+      great = λ k. omega arith;
+      low = let l = H.low in subst (λ w. q * w ≤ key) (sym e) (to_low q (2 ^ d) (rest * 2 ^ d) x l);
+      high = let l = H.high in subst (λ w. key < (q + 1) * w) (sym e) (to_high q (2 ^ d) ((rest + 1) * 2 ^ d) y l);
+    }
+  where
+    doubled : (d : ℕ) → 2 ^ (d + 1) ≡ 2 ^ d * 2
+    doubled d = ap (λ n. 2 ^ n) (add_one d) ∙ pow-suc 2 d
+      where
+        add_one : (d : ℕ) → d + 1 ≡ suc d
+        add_one d = omega arith
+
+    to_low : {key : ℕ} (q w r : ℕ) → 2 * q * w ≤ r → r ≤ key → q * (w * 2) ≤ key
+    to_low q w r x l = omega arith
+
+    to_high : {key : ℕ} (q w r : ℕ) → r ≤ (2 * q + 2) * w → key < r → key < (q + 1) * (w * 2)
+    to_high q w r y l = omega arith
+
+-- what is left at last is below 32, where the key is below 2^32
+pub halved-level : (key rest doublings : ℕ) → IsHalved key rest doublings 27 → key < 2 ^ 32 → IsLevel key (16 * doublings + min rest 31)
+halved-level key rest d H k = at (cases_lt rest 32)
+  where
+    at : (rest < 32) ⊎ (32 ≤ rest) → IsLevel key (16 * d + min rest 31)
+    at (inl x) = record { doublings = d; rest = rest; here = omega arith; small = x; great = H.great; low = H.low; high = H.high }
+    at (inr x) =
+        let l = subst (λ n. rest * 2 ^ n ≤ key) (H.full x) H.low in
+        absurd (omega arith)
+
+pub halved-three : (key rest doublings : ℕ) → IsHalved key rest doublings 27 → (3 ≤ 16 * doublings + min rest 31 → 3 ≤ key) × (3 ≤ key → 3 ≤ 16 * doublings + min rest 31)
+halved-three key rest d H = at (cases_lt 0 d)
+  where
+    at : (0 < d) ⊎ (d ≤ 0) → (3 ≤ 16 * d + min rest 31 → 3 ≤ key) × (3 ≤ key → 3 ≤ 16 * d + min rest 31)
+    at (inl x) =
+        let g = H.great x in
+        let l = H.low in
+        let y : rest * 1 ≤ rest * 2 ^ d = mul-le rest 1 rest (2 ^ d) (omega arith) (pow_pos d) in
+        (λ a. omega arith, λ b. omega arith)
+    at (inr x) =
+        let z : d ≡ 0 = omega arith in
+        let l = subst (λ n. rest * 2 ^ n ≤ key) z H.low in
+        let h = subst (λ n. key < (rest + 1) * 2 ^ n) z H.high in
+        (λ a. omega arith, λ b. omega arith)
+
+-- keys of one level, or of a lower one, are greater by less than a sixteenth
+pub level-compares : (key level other lower : ℕ) → IsLevel key level → IsLevel other lower → lower ≤ level → 16 * other ≤ 17 * key
+level-compares k v k' v' L M h = at (cases_lt M.doublings L.doublings)
+  where
+    e : ℕ
+    e = L.doublings
+
+    e' : ℕ
+    e' = M.doublings
+
+    -- below an earlier doubling
+    earlier : e' < e → k' ≤ k
+    earlier x =
+        let a : (M.rest + 1) * 2 ^ e' ≤ 32 * 2 ^ e' = mul-le (M.rest + 1) (2 ^ e') 32 (2 ^ e') (let s = M.small in omega arith) (omega arith) in
+        let b : 2 ^ (suc e') ≤ 2 ^ e = pow_mono (let y : suc e' ≤ e = omega arith in y) in
+        let c : 2 ^ (suc e') ≡ 2 ^ e' * 2 = pow-suc 2 e' in
+        let d : 16 * 2 ^ e ≤ L.rest * 2 ^ e = mul-le 16 (2 ^ e) L.rest (2 ^ e) (L.great (omega arith)) (omega arith) in
+        let l = L.low in
+        let g = M.high in
+        omega arith
+
+    -- at the same one
+    same : e' ≡ e → M.rest ≤ L.rest → 16 * k' ≤ 17 * k
+    same x r = by (cases_lt L.rest 16)
+      where
+        g : k' < (M.rest + 1) * 2 ^ e
+        g = subst (λ n. k' < (M.rest + 1) * 2 ^ n) x M.high
+
+        by : (L.rest < 16) ⊎ (16 ≤ L.rest) → 16 * k' ≤ 17 * k
+        by (inl y) =
+            let z : e ≡ 0 = none (cases_lt 0 e) in
+            let a = subst (λ n. k' < (M.rest + 1) * 2 ^ n) z g in
+            let l = subst (λ n. L.rest * 2 ^ n ≤ k) z L.low in
+            omega arith
+          where
+            none : (0 < e) ⊎ (e ≤ 0) → e ≡ 0
+            none (inl w) = absurd (let q = L.great w in omega arith)
+            none (inr w) = omega arith
+        by (inr y) =
+            let a : (M.rest + 1) * 2 ^ e ≤ (L.rest + 1) * 2 ^ e = mul-le (M.rest + 1) (2 ^ e) (L.rest + 1) (2 ^ e) (omega arith) (omega arith) in
+            let b : 16 * 2 ^ e ≤ L.rest * 2 ^ e = mul-le 16 (2 ^ e) L.rest (2 ^ e) y (omega arith) in
+            let l = L.low in
+            let c = g in
+            omega arith
+
+    at : (e' < e) ⊎ (e ≤ e') → 16 * k' ≤ 17 * k
+    at (inl x) = let z = earlier x in omega arith
+    at (inr x) = within (cases_lt e e')
+      where
+        within : (e < e') ⊎ (e' ≤ e) → 16 * k' ≤ 17 * k
+        within (inl y) = absurd (let g = M.great (omega arith) in let a = L.here in let b = M.here in let s = L.small in omega arith)
+        within (inr y) = let z : e' ≡ e = omega arith in same z (let a = L.here in let b = M.here in omega arith)

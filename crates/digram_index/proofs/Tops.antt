@@ -246,26 +246,29 @@ module _ (g : Keyed) (K : IsKeyed g) (n : Numbering) (e : Entered) (N : AreKnown
         p,
         (
           let r = A.rank in omega arith,
-          ((
-            λ _. (ks, (record { different = different; members = λ k i. members k a b c i }, omega arith)),
-            λ _. inr (
-              H.first.low,
-              (
-                H.second.low,
+          (
+            (
+              λ _. (ks, (record { different = different; members = λ k i. members k a b c i }, omega arith)),
+              λ _. inr (
+                H.first.low,
                 (
-                  H.third.low,
-                  record {
-                    first = a;
-                    second = b;
-                    third = c;
-                    ab = unshare d H.first H.second A B H.ab;
-                    ac = unshare d H.first H.third A D H.ac;
-                    bc = unshare d H.second H.third B D H.bc;
-                  },
+                  H.second.low,
+                  (
+                    H.third.low,
+                    record {
+                      first = a;
+                      second = b;
+                      third = c;
+                      ab = unshare d H.first H.second A B H.ab;
+                      ac = unshare d H.first H.third A D H.ac;
+                      bc = unshare d H.second H.third B D H.bc;
+                    },
+                  ),
                 ),
               ),
             ),
-          ), A.digram),
+            A.digram,
+          ),
         ),
       )
     where

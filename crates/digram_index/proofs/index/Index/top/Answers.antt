@@ -50,5 +50,5 @@ returns-in-Some-clause-most c = λ e m n w h F G.
     best-digram c.args.grammar.now c.limit-limit.ensures.keyed c.self.inside.numbers c.self.inside.entries c.self.invariant.0 C A c.args.bound c.in-Some.pattern c.in-Some.ensures.some.1 c.in-Some.ensures.most
     e (three-apart c.args.grammar.now c.limit-limit.ensures.keyed e h) w m n
     (subst (λ cs. IsFrequency (digram_of c.self.inside.numbers.numbers c.in-Some.pattern) (cell_count (digram_of c.self.inside.numbers.numbers c.in-Some.pattern) cs) m) (sym q)
-        (subst (λ (x : Digram). IsFrequency x (cell_count x c.args.self.now.cells) m) (sym d) F))
+    (subst (λ (x : Digram). IsFrequency x (cell_count x c.args.self.now.cells) m) (sym d) F))
     (subst (λ cs. IsFrequency e (cell_count e cs) n) (sym q) G)

@@ -2,8 +2,12 @@
 #![tactic(auto)]
 
 #[cfg(test)]
+mod kept;
+#[cfg(test)]
 mod pruning;
 #[cfg(test)]
 mod rows;
 #[cfg(test)]
 mod settling;
+#[cfg(test)]
+mod values;

@@ -1,5 +1,6 @@
 pub mod CallKeys
 pub mod CallLists
+pub mod CopyPlaces
 pub mod Inlined
 pub mod InlineCalls
 pub mod SavingLemmas

@@ -3,6 +3,7 @@ pub mod CallLists
 pub mod CopyPlaces
 pub mod Inlined
 pub mod InlineCalls
+pub mod NearInlines
 pub mod SavingLemmas
 pub mod Taken
 pub mod Turns

@@ -1,5 +1,5 @@
 -- Nodes that came in the place of a call: copies of a rule's nodes, with the call's arguments in the places of its parameters.
-use Rattle.std.specs.Prelude.{◌≡◌, ◌≤◌, ◌+◌, ◌⊎◌, ℕ, List, [], ◌∷◌, ◌++◌, length, drop, get_or, Option, Some}
+use Rattle.std.specs.Prelude.{◌≡◌, ◌≤◌, ◌+◌, ◌⊎◌, ℕ, List, [], ◌∷◌, ◌++◌, length, drop, get_or, slice_get, Option, Some}
 use Rattle.rule_arena.specs.Preorder.{AreTerms, span}
 use Rattle.rule_arena.specs.Terms.{Node, kids_of}
 use Rattle.rule_arena.specs.declared.key.Key.{Key}
@@ -31,6 +31,13 @@ width Param given = length (get_or given 0 [])
 abbrev pub Meets : List Node → List (List Node) → ℕ → Type 0
 Meets [] given t = ⊥
 Meets (n ∷ ns) given t = (t ≡ 0) ⊎ ((u : ℕ) × ((t ≡ width n.label given + u) × Meets ns (drop (hole n.label) given) u))
+
+-- what comes first in the place of a call, by the label of the body's root: its copy, or the first argument
+abbrev pub first_came : Label → Key → List Key → Option Key
+first_came Bottom copy arguments = Some copy
+first_came (Symbol f) copy arguments = Some copy
+first_came (Call q) copy arguments = Some copy
+first_came Param copy arguments = slice_get arguments 0
 
 -- the index has each occurrence of the grammar, but for those of a copy of a rule's body from a node of that body on
 pub record IsCopyLinked (g : Keyed) (I : Linked) (q : ℕ) (model copy : Option Key) : Type 0 where

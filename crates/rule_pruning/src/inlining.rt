@@ -1,6 +1,6 @@
 // The calls of a rule are replaced by its body.
 ghost use Rattle.std.specs.Prelude.{◌≡◌, ◌≢◌, ◌+◌, ◌*◌, ◌<◌, ◌≤◌, ℕ, length, slice_get, Some};
-ghost use Rattle.rule_arena.specs.Terms.{kids_in};
+ghost use Rattle.rule_arena.specs.Terms.{Node};
 ghost use Rattle.rule_arena.specs.declared.key.Key.{Key};
 ghost use Rattle.slt_grammar.specs.Bodies.{calls_in, real_nodes};
 ghost use Rattle.slt_grammar.specs.Grammars.{body_at, calls_of, size, value_at};
@@ -8,6 +8,7 @@ ghost use Rattle.slt_grammar.specs.Keyed.{key_at, nodes_at, rules_of};
 ghost use Rattle.slt_grammar.specs.KeyedEdits.{IsInlined, StandsAsCall};
 ghost use Rattle.digram_index.specs.Linked.{IsIndexOf};
 ghost use Rattle.rule_pruning.specs.Calls.{AreCallsOf, StandsAsCallOf};
+ghost use Rattle.rule_pruning.specs.Copies.{first_came};
 
 use crate::links::{link_copy, unlink_call};
 use crate::reading::item;
@@ -71,7 +72,10 @@ fn inline_call(grammar: &mut Grammar, index: &mut Index, rule: usize, call: Key)
 }
 
 // The root of what came in the place of a call: the copy of the body's root, or the call's argument where the body is a parameter.
-fn first_of_copy(grammar: &Grammar, root: Key, copy: Key, arguments: &Kids) -> Option<Key> {
+fn first_of_copy(grammar: &Grammar, root: Key, copy: Key, arguments: &Kids) -> Option<Key>
+    requires { (r : ℕ) × (p : ℕ) × (key_at grammar.now.rules r p ≡ Some root) }
+    ensures { (r p : ℕ) (n : Node) → slice_get (nodes_at grammar.now.rules r) p ≡ Some n → n.key ≡ root → result ≡ first_came n.label copy arguments.now }
+{
     match item(grammar, root).label {
         Label::Param => arguments.get(0),
         _ => Some(copy),

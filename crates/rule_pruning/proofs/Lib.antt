@@ -1,3 +1,4 @@
+pub mod Behind
 pub mod CallKeys
 pub mod CallLists
 pub mod CopyPlaces

@@ -1,5 +1,5 @@
 // Nodes that are read on a counter of their own.
-ghost use Rattle.std.specs.Prelude.{◌≡◌, ◌+◌, ℕ, Some, length, slice_get};
+ghost use Rattle.std.specs.Prelude.{◌≡◌, ◌+◌, ◌<◌, ℕ, Some, length, slice_get};
 ghost use Rattle.rule_arena.specs.Terms.{kids_in, parent_in};
 ghost use Rattle.slt_grammar.specs.Keyed.{key_at, nodes_at};
 ghost use Rattle.rule_pruning.specs.Copies.{end_of};
@@ -60,14 +60,30 @@ pub(crate) fn behind(grammar: &Grammar, key: Key) -> Option<Key>
 {
     // The call tells that the bodies are terms.
     let _limit = grammar.limit();
-    let mut above = item(grammar, key).parent;
+    let mut above = parent_of(grammar, key);
     while let Some(link) = above {
         let (up, place) = link;
-        let node = item(grammar, up);
-        if let Some(next) = node.kids.get(place) {
-            return Some(next);
+        let next = child_of(grammar, up, place);
+        if next.is_some() {
+            return next;
         }
-        above = node.parent;
+        above = parent_of(grammar, up);
     }
     None
+}
+
+// The parent of a node, with the place under it from 1 on.
+fn parent_of(grammar: &Grammar, key: Key) -> Option<(Key, usize)>
+    requires { (r : ℕ) × (p : ℕ) × (key_at grammar.now.rules r p ≡ Some key) }
+    ensures { (r p : ℕ) → key_at grammar.now.rules r p ≡ Some key → parent_in (nodes_at grammar.now.rules r) p ≡ result }
+{
+    item(grammar, key).parent
+}
+
+// The child of a node at a place from 0 on.
+fn child_of(grammar: &Grammar, key: Key, place: usize) -> Option<Key>
+    requires { (r : ℕ) × (p : ℕ) × (key_at grammar.now.rules r p ≡ Some key) }
+    ensures { (r p : ℕ) → key_at grammar.now.rules r p ≡ Some key → slice_get (kids_in (nodes_at grammar.now.rules r) p) place ≡ result }
+{
+    item(grammar, key).kids.get(place)
 }

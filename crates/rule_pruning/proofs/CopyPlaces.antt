@@ -38,18 +38,18 @@ piece-width Param n k given = refl
 
 -- a node that is met, and what stands below it where it is an argument's root
 pub data Kind (n : Node) (given : List (List Node)) : Type 0 where
-  copy : hole n.label ≡ 0 → n.label ≢ Param → width n.label given ≡ 1 → ((k : Key) → piece n.label n k given ≡ record n { key = k } ∷ []) → Kind n given
-  argument : (g : List Node) (more : List (List Node)) → n.label ≡ Param → hole n.label ≡ 1 → given ≡ g ∷ more → Kind n given
+  as_copy : hole n.label ≡ 0 → n.label ≢ Param → width n.label given ≡ 1 → ((k : Key) → piece n.label n k given ≡ record n { key = k } ∷ []) → Kind n given
+  as_argument : (g : List Node) (more : List (List Node)) → n.label ≡ Param → hole n.label ≡ 1 → given ≡ g ∷ more → Kind n given
 
 pub kind-of : (n : Node) (ns : List Node) (given : List (List Node)) → length given ≡ holes_in (n ∷ ns) → Kind n given
 kind-of n ns given h = at n.label refl given h
   where
     at : (l : Label) → n.label ≡ l → (given : List (List Node)) → length given ≡ holes_in (n ∷ ns) → Kind n given
-    at Bottom e given h = copy (ap hole e) (λ z. let w : Bottom ≡ Param = sym e ∙ z in cc) (ap (λ (l : Label). width l given) e) (λ k. ap (λ (l : Label). piece l n k given) e)
-    at (Symbol f) e given h = copy (ap hole e) (λ z. let w : Symbol f ≡ Param = sym e ∙ z in cc) (ap (λ (l : Label). width l given) e) (λ k. ap (λ (l : Label). piece l n k given) e)
-    at (Call q) e given h = copy (ap hole e) (λ z. let w : Call q ≡ Param = sym e ∙ z in cc) (ap (λ (l : Label). width l given) e) (λ k. ap (λ (l : Label). piece l n k given) e)
+    at Bottom e given h = as_copy (ap hole e) (λ z. let w : Bottom ≡ Param = sym e ∙ z in cc) (ap (λ (l : Label). width l given) e) (λ k. ap (λ (l : Label). piece l n k given) e)
+    at (Symbol f) e given h = as_copy (ap hole e) (λ z. let w : Symbol f ≡ Param = sym e ∙ z in cc) (ap (λ (l : Label). width l given) e) (λ k. ap (λ (l : Label). piece l n k given) e)
+    at (Call q) e given h = as_copy (ap hole e) (λ z. let w : Call q ≡ Param = sym e ∙ z in cc) (ap (λ (l : Label). width l given) e) (λ k. ap (λ (l : Label). piece l n k given) e)
     at Param e [] h = absurd (omega (arith, h, ap hole e))
-    at Param e (g ∷ given) h = argument g given e (ap hole e) refl
+    at Param e (g ∷ given) h = as_argument g given e (ap hole e) refl
 
 -- what comes for the first node, and for the others
 abbrev pub first-of : Node → List (List Node) → List Key → List Node
@@ -87,8 +87,8 @@ some-wide n ns given h t = at (kind-of n ns given h)
     some (x ∷ g) t = omega arith
 
     at : Kind n given → 0 < width n.label given
-    at (copy a b w p) = omega (arith, w)
-    at (argument g more e a z) =
+    at (as_copy a b w p) = omega (arith, w)
+    at (as_argument g more e a z) =
         let w : width n.label given ≡ length g = ap (λ (l : Label). width l given) e ∙ ap (λ (xs : List (List Node)). length (get_or xs 0 [])) z in
         let u = subst AreEachTerms z t in
         omega (arith, w, some g u.0)
@@ -105,9 +105,9 @@ copied-terms ranks (suc k) (n ∷ ns) given keys a t g h =
     (at (kind-of n ns given h) (copied-terms ranks (n.kids + k) ns (drop (hole n.label) given) (drop 1 keys) a.1 t (each-drop (hole n.label) given g) (length-drop-holes n ns given h)))
   where
     at : Kind n given → AreTerms kids_of (n.kids + k) (rest-of n ns given keys) → AreTerms kids_of (suc k) (first-of n given keys ++ rest-of n ns given keys)
-    at (copy b c w p) ih =
+    at (as_copy b c w p) ih =
         subst (λ (xs : List Node). AreTerms kids_of (suc k) (xs ++ rest-of n ns given keys)) (sym (p (get_or keys 0 n.key))) ih
-    at (argument x more e b z) ih =
+    at (as_argument x more e b z) ih =
         let leaf : n.kids + k ≡ k = let q : n.kids ≡ 0 = a.0 ∙ ap (arity ranks) e in omega (arith, q) in
         let xs : first-of n given keys ≡ x = ap (λ (l : Label). piece l n (get_or keys 0 n.key) given) e ∙ ap (λ (ys : List (List Node)). get_or ys 0 []) z in
         let o : 1 + k ≡ suc k = omega arith in
@@ -175,7 +175,7 @@ split-first : (n : Node) (ns : List Node) (given : List (List Node)) (keys : Lis
 split-first n ns given keys os = split os (copied (n ∷ ns) given keys) (first-of n given keys) (rest-of n ns given keys) (copied-first n ns given keys)
 
 -- what comes for a parameter
-piece-argument : (n : Node) (k : Key) (given : List (List Node)) (g : List Node) (more : List (List Node)) → n.label ≡ Param → given ≡ g ∷ more → piece n.label n k given ≡ g
+pub piece-argument : (n : Node) (k : Key) (given : List (List Node)) (g : List Node) (more : List (List Node)) → n.label ≡ Param → given ≡ g ∷ more → piece n.label n k given ≡ g
 piece-argument n k given g more e z = ap (λ (l : Label). piece l n k given) e ∙ ap (λ (ys : List (List Node)). get_or ys 0 []) z
 
 -- one argument more before them
@@ -206,8 +206,8 @@ told (n ∷ ns) given keys os t g h l =
 
     in-piece : (t : ℕ) → t < length (first-of n given keys) → Kind n given → IsTold (n ∷ ns) given keys os t
     in-piece zero w k = inl (inl refl)
-    in-piece (suc s) w (copy a b c d) = absurd (omega (arith, w, ap length (d (get_or keys 0 n.key))))
-    in-piece (suc s) w (argument x more e a z) =
+    in-piece (suc s) w (as_copy a b c d) = absurd (omega (arith, w, ap length (d (get_or keys 0 n.key))))
+    in-piece (suc s) w (as_argument x more e a z) =
         let q : first-of n given keys ≡ x = piece-argument n (get_or keys 0 n.key) given x more e z in
         let u = subst AreEachTerms z g in
         inr (record {
@@ -272,9 +272,9 @@ placed (n ∷ ns) given keys os item parent g h B =
         no (inr (u, (z, m))) = let e : u ≡ P.at = omega (arith, z, wide) in P.unmet (subst (Meets ns (drop (hole n.label) given)) e m)
 
     at : Kind n given → ((later : Opens) → IsBelowRoot (drop (hole n.label) given) item parent → IsPlaced ns (drop (hole n.label) given) (drop 1 keys) later item parent) → IsPlaced (n ∷ ns) given keys os item parent
-    at (copy a b c d) ih =
+    at (as_copy a b c d) ih =
         behind (ih (open_behind os (first-of n given keys)) (subst (λ (k : ℕ). IsBelowRoot (drop k given) item parent) (sym a) B))
-    at (argument x more e a z) ih = by B.i refl
+    at (as_argument x more e a z) ih = by B.i refl
       where
         q : first-of n given keys ≡ x
         q = piece-argument n (get_or keys 0 n.key) given x more e z

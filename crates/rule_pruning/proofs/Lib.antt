@@ -1,6 +1,7 @@
 pub mod Behind
 pub mod CallKeys
 pub mod CallLists
+pub mod CopyLinks
 pub mod CopyPlaces
 pub mod Inlined
 pub mod InlineCalls

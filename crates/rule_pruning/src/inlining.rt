@@ -11,7 +11,7 @@ ghost use Rattle.rule_pruning.specs.Calls.{AreCallsOf, StandsAsCallOf};
 ghost use Rattle.rule_pruning.specs.Copies.{first_came};
 
 use crate::links::{link_copy, unlink_call};
-use crate::reading::item;
+use crate::reading::{kids_of, label_of};
 use digram_index::Index;
 use slt_grammar::{Grammar, Key, Kids, Label};
 use std::marker::Brand;
@@ -62,7 +62,7 @@ fn inline_call(grammar: &mut Grammar, index: &mut Index, rule: usize, call: Key)
 {
     // The calls tell that a key stands once, before and after.
     let _before = grammar.limit();
-    let arguments = item(grammar, call).kids;
+    let arguments = kids_of(grammar, call);
     unlink_call(index, call, &arguments);
     let root = grammar.root(rule);
     let copy = grammar.inline(call, root).unwrap();
@@ -76,7 +76,7 @@ fn first_of_copy(grammar: &Grammar, root: Key, copy: Key, arguments: &Kids) -> O
     requires { (r : ℕ) × (p : ℕ) × (key_at grammar.now.rules r p ≡ Some root) }
     ensures { (r p : ℕ) (n : Node) → slice_get (nodes_at grammar.now.rules r) p ≡ Some n → n.key ≡ root → result ≡ first_came n.label copy arguments.now }
 {
-    match item(grammar, root).label {
+    match label_of(grammar, root) {
         Label::Param => arguments.get(0),
         _ => Some(copy),
     }

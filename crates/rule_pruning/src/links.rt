@@ -29,6 +29,21 @@ fn unlink_node(index: &mut Index, key: Key)
     }
 }
 
+// Takes away the occurrences of these nodes.
+fn unlink_kids(index: &mut Index, kids: &Kids)
+    ensures free { (i : ℕ) (k : Key) → slice_get kids.now i ≡ Some k → cell index.new k.number ≡ None }
+    ensures others { (n : ℕ) → Apart kids.now n → cell index.new n ≡ cell index.old n }
+    ensures stays { (n : ℕ) → cell index.old n ≡ None → cell index.new n ≡ None }
+    ensures rules { index.new.rules ≡ index.old.rules }
+    ensures room { length index.new.cells ≡ length index.old.cells }
+    ensures spares { (index.new.spare_links ≡ index.old.spare_links) × (index.new.spare_rules ≡ index.old.spare_rules) }
+{
+    for i in 0..kids.len() {
+        let key = kids.get(i).unwrap();
+        unlink_node(index, key);
+    }
+}
+
 // Takes away the occurrences of a call and of its arguments. It takes no memory.
 pub(crate) fn unlink_call(index: &mut Index, call: Key, arguments: &Kids)
     ensures free { (n : ℕ) → (n ≡ call.number) ⊎ IsAmong arguments.now n → cell index.new n ≡ None }
@@ -39,10 +54,7 @@ pub(crate) fn unlink_call(index: &mut Index, call: Key, arguments: &Kids)
     ensures spares { (index.new.spare_links ≡ index.old.spare_links) × (index.new.spare_rules ≡ index.old.spare_rules) }
 {
     unlink_node(index, call);
-    for i in 0..arguments.len() {
-        let key = arguments.get(i).unwrap();
-        unlink_node(index, key);
-    }
+    unlink_kids(index, arguments);
 }
 
 // Whether a node is the lower node of an occurrence.

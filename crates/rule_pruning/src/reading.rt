@@ -1,11 +1,11 @@
 // Nodes that are read on a counter of their own.
 ghost use Rattle.std.specs.Prelude.{◌≡◌, ◌+◌, ◌<◌, ℕ, Some, length, slice_get};
-ghost use Rattle.rule_arena.specs.Terms.{kids_in, parent_in};
+ghost use Rattle.rule_arena.specs.Terms.{Node, kids_in, parent_in};
 ghost use Rattle.slt_grammar.specs.Keyed.{key_at, nodes_at};
 ghost use Rattle.rule_pruning.specs.Copies.{end_of};
 
 use read_steps::Steps;
-use slt_grammar::{Grammar, Item, Key};
+use slt_grammar::{Grammar, Item, Key, Kids, Label};
 use std::marker::Brand;
 use std::sync::ledger::{Blank, Ledger};
 
@@ -70,6 +70,22 @@ pub(crate) fn behind(grammar: &Grammar, key: Key) -> Option<Key>
         above = parent_of(grammar, up);
     }
     None
+}
+
+// The label of a node.
+pub(crate) fn label_of(grammar: &Grammar, key: Key) -> Label
+    requires { (r : ℕ) × (p : ℕ) × (key_at grammar.now.rules r p ≡ Some key) }
+    ensures { (r p : ℕ) (n : Node) → slice_get (nodes_at grammar.now.rules r) p ≡ Some n → n.key ≡ key → n.label ≡ result }
+{
+    item(grammar, key).label
+}
+
+// The children of a node.
+pub(crate) fn kids_of(grammar: &Grammar, key: Key) -> Kids
+    requires { (r : ℕ) × (p : ℕ) × (key_at grammar.now.rules r p ≡ Some key) }
+    ensures { (r p : ℕ) → key_at grammar.now.rules r p ≡ Some key → kids_in (nodes_at grammar.now.rules r) p ≡ result }
+{
+    item(grammar, key).kids
 }
 
 // The parent of a node, with the place under it from 1 on.

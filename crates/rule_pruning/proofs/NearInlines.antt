@@ -143,6 +143,9 @@ module _ (g h : Keyed) (K : IsKeyed g) (K' : IsKeyed h) (call : Key) (C : Stands
   pub nodes-s : (s : ℕ) → (s ≡ r → ⊥) → nodes_at h.rules s ≡ nodes_at G s
   nodes-s s d = ap (λ (H : List KeyedRule). nodes_at H s) J.rules ∙ nodes-after g K call C J.keys s d
 
+  pub in-new : length h.rules ≡ length G
+  in-new = ap length J.rules ∙ length-after g K call C J.keys
+
   pub callee-same : nodes_at h.rules q ≡ callee
   callee-same = nodes-s q (λ e. omega (arith, e, earlier))
 
@@ -386,7 +389,7 @@ module _ (g h : Keyed) (K : IsKeyed g) (K' : IsKeyed h) (call : Key) (C : Stands
   pub near-inlined : IsNear g h near
   near-inlined = record {
     ranks = ap (λ (H : List KeyedRule). ranks_of (rules_of H)) J.rules ∙ inlined-ranks G r p q call J.keys L C.here.there C.label;
-    rules = ap length J.rules ∙ length-after g K call C J.keys;
+    rules = in-new;
     same = λ s t key e n. same s t key e n (reached s t key e);
     stay = λ s t key e n. stay s t key e n (left s t key e);
   }
@@ -518,3 +521,19 @@ module _ (g h : Keyed) (K : IsKeyed g) (K' : IsKeyed h) (call : Key) (C : Stands
               argument [] (a ∷ gs) A h = absurd A
               argument (k ∷ ks) [] A h = absurd A
               argument (k ∷ ks) (a ∷ gs) A h = root-key (a ++ copied cs gs (drop 1 keys)) k back (root-key a k (copied cs gs (drop 1 keys)) A.1)
+
+  pub root-stays : key_at g.rules q 0 ≡ Some follow → key_at h.rules q 0 ≡ Some follow
+  root-stays e = ap (λ (xs : List Node). key_in xs 0) callee-same ∙ e
+
+  -- the same by what the calls tell
+  pub copy-ready : (arguments : List Key) → kids ≡ arguments → (I mid : Linked) → IsIndexOf g I → ((n : ℕ) → (n ≡ call.number) ⊎ IsAmong arguments n → cell mid n ≡ None)
+      → ((n : ℕ) → n ≢ call.number → Apart arguments n → cell mid n ≡ cell I n) → ((n : ℕ) → cell I n ≡ None → cell mid n ≡ None) → mid.rules ≡ I.rules
+      → (first : Option Key) → key_at g.rules q 0 ≡ Some follow → ((s t : ℕ) (n : Node) → slice_get (nodes_at h.rules s) t ≡ Some n → n.key ≡ follow → first ≡ first_came n.label moved arguments)
+      → IsCopyLinked h mid q (Some follow) first
+  copy-ready arguments same I mid A free others keep rules first root came =
+      let free' = subst (λ (ks : List Key). (n : ℕ) → (n ≡ call.number) ⊎ IsAmong ks n → cell mid n ≡ None) (sym same) free in
+      let others' = subst (λ (ks : List Key). (n : ℕ) → n ≢ call.number → Apart ks n → cell mid n ≡ cell I n) (sym same) others in
+      let n = node_of callee 0 follow root in
+      let e : key_at h.rules r p ≡ first =
+      first-came n.0 n.1.0 n.1.1 ∙ ap (first_came n.0.label moved) same ∙ sym (came q 0 n.0 (ap (λ (xs : List Node). slice_get xs 0) callee-same ∙ n.1.0) n.1.1) in
+      copy-begins I mid A free' others' keep rules follow first (root-stays root) e

@@ -1,5 +1,5 @@
 -- The calls of a rule are inlined one after another.
-use Rattle.std.proofs.Common.{◌≡◌, ◌≢◌, ℕ, ◌+◌, ◌*◌, ◌≤◌, List, length, get_or, Some, slice_get, refl, sym, ap, ◌∙◌, subst, arith}
+use Rattle.std.proofs.Common.{◌≡◌, ◌≢◌, ℕ, suc, ◌+◌, ◌-◌, ◌*◌, ◌<◌, ◌≤◌, List, length, get_or, Some, slice_get, refl, sym, ap, ◌∙◌, subst, arith}
 use Rattle.rule_arena.specs.Terms.{Node}
 use Rattle.rule_arena.specs.declared.key.Key.{Key}
 use Rattle.rule_arena.specs.declared.label.Label.TheVariants.{Bottom, Call}
@@ -43,6 +43,25 @@ inlining-begins G q calls A = record {
   values = λ r. refl;
   size = omega arith;
 }
+
+-- room for all of the bodies is room for those that are left
+pub room-left : (n i s spare : ℕ) → i < n → n * s ≤ spare + i * s → s ≤ spare
+room-left n i s spare h k =
+    let e : n ≡ suc i + (n - suc i) = omega (arith, h) in
+    let m : n * s ≡ suc i * s + (n - suc i) * s = subst (λ (x : ℕ). x * s ≡ suc i * s + (n - suc i) * s) (sym e) (spread (suc i) (n - suc i) s) in
+    omega (arith, k, m, one i s)
+  where
+    spread : (a b s : ℕ) → (a + b) * s ≡ a * s + b * s
+    spread a b s = omega arith
+
+    one : (i s : ℕ) → suc i * s ≡ i * s + s
+    one i s = omega arith
+
+pub room-next : (total i s old new : ℕ) → total ≤ old + i * s → old ≤ new + s → total ≤ new + (i + 1) * s
+room-next total i s old new h k = omega (arith, h, k, one i s)
+  where
+    one : (i s : ℕ) → (i + 1) * s ≡ i * s + s
+    one i s = omega arith
 
 -- a rule's calls are different from those of another
 one-callee : (G : List KeyedRule) (g : Keyed) (K : IsKeyed g) (s t : ℕ) (key : Key) → StandsAsCallOf g.rules s key → StandsAsCallOf g.rules t key → s ≡ t

@@ -105,7 +105,7 @@ module _ (g : Keyed) (K : IsKeyed g) (call : Key) (C : StandsAsCall g.rules call
   nodes-after t d = nodes-others g.rules C.here.rule t ms there-in d
 
   -- each other node of the body stays
-  stays : (m : Node) → Has (nodes_at g.rules C.here.rule) m → m.key ≢ call → Has ms m
+  pub stays : (m : Node) → Has (nodes_at g.rules C.here.rule) m → m.key ≢ call → Has ms m
   stays m h d =
       let ns : List Node = nodes_at g.rules C.here.rule in
       let cut = cut-at ns C.here.place call (nodes-are-term g K C.here.rule there-in) C.here.there in

@@ -1,7 +1,11 @@
+pub mod Behind
 pub mod CallKeys
 pub mod CallLists
+pub mod CopyLinks
+pub mod CopyPlaces
 pub mod Inlined
 pub mod InlineCalls
+pub mod NearInlines
 pub mod SavingLemmas
 pub mod Taken
 pub mod Turns

@@ -1,12 +1,14 @@
 -- What rules save.
-use Rattle.std.proofs.Common.{◌≡◌, ℕ, zero, suc, ◌+◌, ◌-◌, ◌*◌, ◌<◌, ◌≤◌, ◌^◌, List, [], ◌∷◌, length, refl, sym, subst, arith}
+use Rattle.std.proofs.Common.{◌≡◌, ℕ, zero, suc, ◌+◌, ◌-◌, ◌*◌, ◌<◌, ◌≤◌, ◌^◌, List, [], ◌∷◌, length, refl, sym, ap, subst, arith}
+use Rattle.std.proofs.lemmas.List.{length-map}
+use Rattle.rule_arena.specs.Terms.{Node}
 use Rattle.rule_arena.specs.declared.label.Label.{Label}
 use Rattle.rule_arena.specs.declared.label.Label.TheVariants.{Bottom, Symbol, Call, Param}
 use Rattle.slt_grammar.specs.Bodies.{real_nodes}
-use Rattle.slt_grammar.specs.Grammars.{body_at}
-use Rattle.slt_grammar.specs.Keyed.{Keyed, IsKeyed, rules_of}
+use Rattle.slt_grammar.specs.Grammars.{body_at, rank_at}
+use Rattle.slt_grammar.specs.Keyed.{Keyed, IsKeyed, nodes_at, rules_of}
 use Rattle.slt_grammar.proofs.CallCounts.{nodes-room, real_nodes-are}
-use Rattle.slt_grammar.proofs.KeyedLemmas.{length-rules_of}
+use Rattle.slt_grammar.proofs.KeyedLemmas.{body_at-rules_of, length-rules_of}
 use Rattle.std.specs.Prelude.{ℤ, pos, ◌*ℤ◌, ◌-ℤ◌, ◌≤ℤ◌, FitsSigned, unsigned_abs, int_lt, ◌↔◌, Bool, true, false, MatchBool}
 use Rattle.std.proofs.lemmas.Int.{ints, fits_signed_mul}
 use Rattle.slt_grammar.specs.Digrams.{Saves}
@@ -26,6 +28,18 @@ pub body-few : (g : Keyed) → IsKeyed g → (r : ℕ) → r < length g.rules �
 body-few g K r h =
     let G = rules_of g.rules in
     omega (arith, K.few, nodes-room G r (omega (arith, h, length-rules_of g.rules)), real_nodes-are (body_at G r))
+
+-- with its parameters a body has as many nodes as stand in it
+pub body-length : (g : Keyed) → IsKeyed g → (r : ℕ) → r < length g.rules → real_nodes (body_at (rules_of g.rules) r) + rank_at (rules_of g.rules) r ≡ length (nodes_at g.rules r)
+body-length g K r h =
+    let G = rules_of g.rules in
+    omega (
+      arith,
+      real_nodes-are (body_at G r),
+      (K.grammar.each r (omega (arith, h, length-rules_of g.rules))).linear,
+      ap length (body_at-rules_of g.rules r),
+      length-map (nodes_at g.rules r) (λ (n : Node). n.label),
+    )
 
 one-less : (n : ℕ) → pos (suc n) -ℤ pos 1 ≡ pos n
 one-less n = omega (arith, ints)

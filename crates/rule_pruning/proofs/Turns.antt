@@ -6,8 +6,7 @@ use Rattle.rule_arena.specs.declared.key.Key.{Key}
 use Rattle.slt_grammar.specs.Digrams.{Saves}
 use Rattle.slt_grammar.specs.Grammars.{IsSwept, size, value}
 use Rattle.slt_grammar.specs.Keyed.{KeyedRule, rules_of}
-use Rattle.slt_grammar.specs.KeyedEdits.{DropsTo, unshifted_keyed}
-use Rattle.slt_grammar.specs.KeyedEdits.DropsTo.{NoDrop, Drop}
+use Rattle.slt_grammar.specs.KeyedEdits.{rule_dropped, unshifted_keyed}
 use Rattle.slt_grammar.proofs.KeyedLemmas.{length-rules_of}
 use Rattle.slt_grammar.proofs.Removals.{length-left}
 use Rattle.rule_pruning.specs.Calls.{AreCallsOf}
@@ -82,7 +81,5 @@ pub pruning-ends : (F : List KeyedRule) (lists : List (List Key)) (G : List Keye
 pruning-ends F lists G rule turn P h r k = P.save r (omega (arith, P.left, P.within, h, k, length-rules_of G))
 
 -- dropping makes rules fewer
-pub drops-fewer : (G H : List KeyedRule) → DropsTo G H → length H ≤ length G
-drops-fewer G H (NoDrop E) = omega arith
-drops-fewer G H (Drop E K rule d h u) =
-    omega (arith, drops-fewer E K d, length-map (remove K rule) (unshifted_keyed rule), length-left K rule (omega (arith, h)))
+pub one-fewer : (G : List KeyedRule) (rule : ℕ) → rule + 1 < length G → length (rule_dropped G rule) + 1 ≡ length G
+one-fewer G rule h = omega (arith, length-map (remove G rule) (unshifted_keyed rule), length-left G rule (omega (arith, h)))

@@ -1,37 +1,83 @@
 // The calls of a rule are replaced by its body.
-ghost use Rattle.std.specs.Prelude.{◌≡◌, ◌≢◌, ◌+◌, ◌*◌, ◌<◌, ◌≤◌, ℕ, length, OnOk};
+ghost use Rattle.std.specs.Prelude.{◌≡◌, ◌≢◌, ◌+◌, ◌*◌, ◌<◌, ◌≤◌, ℕ, length, slice_get, Some};
+ghost use Rattle.rule_arena.specs.Terms.{Node};
 ghost use Rattle.rule_arena.specs.declared.key.Key.{Key};
 ghost use Rattle.slt_grammar.specs.Bodies.{calls_in, real_nodes};
 ghost use Rattle.slt_grammar.specs.Grammars.{body_at, calls_of, size, value_at};
-ghost use Rattle.slt_grammar.specs.Keyed.{nodes_at, rules_of};
+ghost use Rattle.slt_grammar.specs.Keyed.{key_at, nodes_at, rules_of};
+ghost use Rattle.slt_grammar.specs.KeyedEdits.{IsInlined, StandsAsCall};
+ghost use Rattle.digram_index.specs.Linked.{IsIndexOf};
 ghost use Rattle.rule_pruning.specs.Calls.{AreCallsOf, StandsAsCallOf};
+ghost use Rattle.rule_pruning.specs.Copies.{first_came};
 
-use slt_grammar::{Grammar, Key};
-use std::alloc::AllocError;
+use crate::links::{link_copy, unlink_call};
+use crate::reading::{kids_of, label_of};
+use digram_index::Index;
+use slt_grammar::{Grammar, Key, Kids, Label};
+use std::marker::Brand;
+use std::sync::ledger::Blank;
 
-// Replaces all calls of a rule by its body, given the keys of these calls.
-pub(crate) fn inline_calls(
-    grammar: &mut Grammar,
-    rule: usize,
-    calls: &[Key],
-) -> Result<(), AllocError>
+// Replaces all calls of a rule by its body, given the keys of these calls. It takes no memory.
+pub(crate) fn inline_calls(grammar: &mut Grammar, index: &mut Index, rule: usize, calls: &[Key])
     requires there { rule < length grammar.old.rules }
     requires calls { AreCallsOf grammar.old.rules rule calls.now }
-    ensures rules { OnOk result (length grammar.new.rules ≡ length grammar.old.rules) }
-    ensures uncalled { OnOk result (calls_of (rules_of grammar.new.rules) rule ≡ 0) }
-    ensures before { OnOk result ((r : ℕ) → r ≤ rule → nodes_at grammar.new.rules r ≡ nodes_at grammar.old.rules r) }
-    ensures called { OnOk result ((q : ℕ) → q ≢ rule → calls_of (rules_of grammar.new.rules) q
-        ≡ calls_of (rules_of grammar.old.rules) q + length calls.now * calls_in q (body_at (rules_of grammar.old.rules) rule)) }
-    ensures kept { OnOk result ((q : ℕ) (key : Key) → q ≢ rule → StandsAsCallOf grammar.old.rules q key → StandsAsCallOf grammar.new.rules q key) }
-    ensures values { OnOk result ((r : ℕ) → value_at (rules_of grammar.new.rules) r ≡ value_at (rules_of grammar.old.rules) r) }
-    ensures size { OnOk result (size (rules_of grammar.new.rules) + length calls.now
-        ≡ size (rules_of grammar.old.rules) + length calls.now * real_nodes (body_at (rules_of grammar.old.rules) rule)) }
+    requires index { IsIndexOf grammar.old index.old }
+    requires nodes { length calls.now * length (nodes_at grammar.old.rules rule) ≤ grammar.old.spare_nodes }
+    requires links { length calls.now * length (nodes_at grammar.old.rules rule) ≤ index.old.spare_links }
+    requires cells { grammar.old.limit ≤ length index.old.cells }
+    ensures rules { length grammar.new.rules ≡ length grammar.old.rules }
+    ensures uncalled { calls_of (rules_of grammar.new.rules) rule ≡ 0 }
+    ensures before { (r : ℕ) → r ≤ rule → nodes_at grammar.new.rules r ≡ nodes_at grammar.old.rules r }
+    ensures called { (q : ℕ) → q ≢ rule → calls_of (rules_of grammar.new.rules) q
+        ≡ calls_of (rules_of grammar.old.rules) q + length calls.now * calls_in q (body_at (rules_of grammar.old.rules) rule) }
+    ensures kept { (q : ℕ) (key : Key) → q ≢ rule → StandsAsCallOf grammar.old.rules q key → StandsAsCallOf grammar.new.rules q key }
+    ensures values { (r : ℕ) → value_at (rules_of grammar.new.rules) r ≡ value_at (rules_of grammar.old.rules) r }
+    ensures size { size (rules_of grammar.new.rules) + length calls.now
+        ≡ size (rules_of grammar.old.rules) + length calls.now * real_nodes (body_at (rules_of grammar.old.rules) rule) }
+    ensures index { IsIndexOf grammar.new index.new }
 {
     for &call in calls {
         // The call tells that a key stands once.
         let _limit = grammar.limit();
-        let root = grammar.root(rule);
-        grammar.inline(call, root)?;
+        inline_call(grammar, index, rule, call);
     }
-    Ok(())
+}
+
+// Replaces one call of a rule by its body, and links anew what is near. It takes no memory.
+fn inline_call(grammar: &mut Grammar, index: &mut Index, rule: usize, call: Key)
+    requires there { rule < length grammar.old.rules }
+    requires call { StandsAsCallOf grammar.old.rules rule call }
+    requires index { IsIndexOf grammar.old index.old }
+    requires nodes { length (nodes_at grammar.old.rules rule) ≤ grammar.old.spare_nodes }
+    requires links { length (nodes_at grammar.old.rules rule) ≤ index.old.spare_links }
+    requires cells { grammar.old.limit ≤ length index.old.cells }
+    ensures inlined { (C : StandsAsCall grammar.old.rules call) → (follow : Key) × ((moved : Key)
+        × IsInlined grammar.old.rules grammar.new.rules C.here.rule C.here.place C.called follow moved) }
+    ensures values { (r : ℕ) → value_at (rules_of grammar.new.rules) r ≡ value_at (rules_of grammar.old.rules) r }
+    ensures size { size (rules_of grammar.new.rules) + 1 ≡ size (rules_of grammar.old.rules) + real_nodes (body_at (rules_of grammar.old.rules) rule) }
+    ensures index { IsIndexOf grammar.new index.new }
+    ensures nodes { grammar.old.spare_nodes ≤ grammar.new.spare_nodes + length (nodes_at grammar.old.rules rule) }
+    ensures links { index.old.spare_links ≤ index.new.spare_links + length (nodes_at grammar.old.rules rule) }
+    ensures cells { grammar.new.limit ≤ length index.new.cells }
+{
+    // The calls tell that a key stands once, before and after.
+    let _before = grammar.limit();
+    let arguments = kids_of(grammar, call);
+    unlink_call(index, call, &arguments);
+    let root = grammar.root(rule);
+    let copy = grammar.inline(call, root).unwrap();
+    let _after = grammar.limit();
+    let first = first_of_copy(grammar, root, copy, &arguments);
+    link_copy::<Brand>(index, grammar, rule, first, Blank::new(1));
+}
+
+// The root of what came in the place of a call: the copy of the body's root, or the call's argument where the body is a parameter.
+fn first_of_copy(grammar: &Grammar, root: Key, copy: Key, arguments: &Kids) -> Option<Key>
+    requires { (r : ℕ) × (p : ℕ) × (key_at grammar.now.rules r p ≡ Some root) }
+    ensures { (r p : ℕ) (n : Node) → slice_get (nodes_at grammar.now.rules r) p ≡ Some n → n.key ≡ root → result ≡ first_came n.label copy arguments.now }
+{
+    match label_of(grammar, root) {
+        Label::Param => arguments.get(0),
+        _ => Some(copy),
+    }
 }

@@ -1,25 +1,29 @@
 // The rules that save no nodes are taken away.
-ghost use Rattle.std.specs.Prelude.{◌≡◌, ◌+◌, ◌<◌, ◌≤◌, ℕ, List, length, OnOk, OnErr};
+ghost use Rattle.std.specs.Prelude.{◌≡◌, ◌+◌, ◌*◌, ◌<◌, ◌≤◌, ℕ, List, length, OnOk};
 ghost use Rattle.rule_arena.specs.declared.key.Key.{Key};
+ghost use Rattle.slt_grammar.specs.Bodies.{real_nodes};
 ghost use Rattle.slt_grammar.specs.Digrams.{Saves};
-ghost use Rattle.slt_grammar.specs.Grammars.{size, value, IsSwept};
-ghost use Rattle.slt_grammar.specs.Keyed.{rules_of};
+ghost use Rattle.slt_grammar.specs.Grammars.{body_at, calls_of, size, value, IsSwept};
+ghost use Rattle.slt_grammar.specs.Keyed.{nodes_at, rules_of};
+ghost use Rattle.slt_grammar.specs.KeyedEdits.{rule_dropped};
 ghost use Rattle.digram_index.specs.Linked.{IsIndexOf};
 ghost use Rattle.rule_pruning.specs.Calls.{AreCallsOf};
 ghost use Rattle.rule_pruning.specs.Saving.{AllSave};
 
 use crate::call_lists::{CallList, call_lists};
 use crate::inlining::inline_calls;
-use crate::savings::{all_save, saves};
-use digram_index::{Index, build};
+use crate::savings::{all_save, body_length, saves};
+use digram_index::{Index, unlink_nodes};
 use slt_grammar::Grammar;
 use std::alloc::{AllocError, Global};
+use std::marker::Brand;
+use std::sync::ledger::Blank;
 
-/// Takes away the rules that save no nodes, with the index of the grammar. The value stays. A rule that is not called is dropped, and
-/// the body of any other comes in the place of its calls; callees go first, since each makes the bodies of its callers larger.
+/// Takes away the rules that save no nodes, and keeps the index. The value stays. A rule that is not called is dropped, and the body of
+/// any other comes in the place of its calls; callees go first, since each makes the bodies of its callers larger. The nodes of rules
+/// that stay keep their keys, but for the calls that give way.
 ///
-/// Unless all rules save nodes, the grammar and the index are made anew, and all nodes have other keys. It fails where memory is
-/// refused, and then both stay as they were.
+/// It fails where memory is refused. Some rules may be gone then; the value is the same, and the index is the grammar's.
 pub fn prune(alloc: Global, grammar: &mut Grammar, index: &mut Index) -> Result<(), AllocError>
     requires { IsIndexOf grammar.old index.old }
     ensures swept { OnOk result (IsSwept (rules_of grammar.new.rules)) }
@@ -29,29 +33,68 @@ pub fn prune(alloc: Global, grammar: &mut Grammar, index: &mut Index) -> Result<
     ensures rules { length grammar.new.rules ≤ length grammar.old.rules }
     ensures index { IsIndexOf grammar.new index.new }
     ensures stays { IsSwept (rules_of grammar.old.rules) → IsSwept (rules_of grammar.new.rules) }
-    ensures refused { OnErr result ((grammar.new ≡ grammar.old) × (index.new ≡ index.old)) }
 {
     if all_save(grammar) {
         return Ok(());
     }
-    let mut pruned = grammar.copy()?;
-    pruned.sweep();
-    prune_swept(alloc, &mut pruned)?;
-    let linked = build(alloc, &pruned)?;
-    *grammar = pruned;
-    *index = linked;
-    Ok(())
+    sweep(grammar, index);
+    prune_swept(alloc, grammar, index)
 }
 
-// The same without an index, where all rules are called.
-fn prune_swept(alloc: Global, grammar: &mut Grammar) -> Result<(), AllocError>
-    requires { IsSwept (rules_of grammar.old.rules) }
-    ensures swept { OnOk result (IsSwept (rules_of grammar.new.rules)) }
-    ensures save { OnOk result (AllSave (rules_of grammar.new.rules)) }
-    ensures value { OnOk result (value (rules_of grammar.new.rules) ≡ value (rules_of grammar.old.rules)) }
-    ensures size { OnOk result (size (rules_of grammar.new.rules) ≤ size (rules_of grammar.old.rules)) }
-    ensures rules { OnOk result (length grammar.new.rules ≤ length grammar.old.rules) }
+// Drops the rules that are not called. It takes no memory.
+fn sweep(grammar: &mut Grammar, index: &mut Index)
+    requires { IsIndexOf grammar.old index.old }
+    ensures swept { IsSwept (rules_of grammar.new.rules) }
+    ensures value { value (rules_of grammar.new.rules) ≡ value (rules_of grammar.old.rules) }
+    ensures size { size (rules_of grammar.new.rules) ≤ size (rules_of grammar.old.rules) }
+    ensures rules { length grammar.new.rules ≤ length grammar.old.rules }
+    ensures index { IsIndexOf grammar.new index.new }
 {
+    // A rule calls earlier ones alone: once it is looked at, no later rule loses a call any more.
+    let last = grammar.rules() - 1;
+    for rule in (0..last).rev() {
+        let _rules = grammar.rules();
+        if grammar.calls(rule) == 0 {
+            drop_uncalled(grammar, index, rule);
+        }
+    }
+}
+
+// Drops a rule that is not called, with the occurrences in its body. It takes no memory.
+fn drop_uncalled(grammar: &mut Grammar, index: &mut Index, rule: usize)
+    requires there { rule + 1 < length grammar.old.rules }
+    requires uncalled { calls_of (rules_of grammar.old.rules) rule ≡ 0 }
+    requires index { IsIndexOf grammar.old index.old }
+    ensures rules { grammar.new.rules ≡ rule_dropped grammar.old.rules rule }
+    ensures size { size (rules_of grammar.new.rules) + real_nodes (body_at (rules_of grammar.old.rules) rule) ≡ size (rules_of grammar.old.rules) }
+    ensures value { value (rules_of grammar.new.rules) ≡ value (rules_of grammar.old.rules) }
+    ensures index { IsIndexOf grammar.new index.new }
+{
+    // The call tells that a key stands once.
+    let _limit = grammar.limit();
+    unlink_nodes::<Brand>(index, grammar, rule, Blank::new(1));
+    index.remove_rule(rule);
+    grammar.drop_rule(rule);
+}
+
+// Takes away the rules that save no nodes, where all rules are called.
+fn prune_swept(
+    alloc: Global,
+    grammar: &mut Grammar,
+    index: &mut Index,
+) -> Result<(), AllocError>
+    requires index { IsIndexOf grammar.old index.old }
+    requires swept { IsSwept (rules_of grammar.old.rules) }
+    ensures swept { IsSwept (rules_of grammar.new.rules) }
+    ensures save { OnOk result (AllSave (rules_of grammar.new.rules)) }
+    ensures value { value (rules_of grammar.new.rules) ≡ value (rules_of grammar.old.rules) }
+    ensures size { size (rules_of grammar.new.rules) ≤ size (rules_of grammar.old.rules) }
+    ensures rules { length grammar.new.rules ≤ length grammar.old.rules }
+    ensures index { IsIndexOf grammar.new index.new }
+{
+    if all_save(grammar) {
+        return Ok(());
+    }
     let lists = call_lists(alloc, grammar)?;
     // The rule whose turn it is, once those before it that saved nothing were taken away.
     let mut rule = 0;
@@ -60,29 +103,62 @@ fn prune_swept(alloc: Global, grammar: &mut Grammar) -> Result<(), AllocError>
         if saves(grammar, rule) {
             rule += 1;
         } else {
-            take_away(grammar, rule, &lists[turn])?;
+            take_away(grammar, index, rule, &lists[turn])?;
         }
     }
     Ok(())
 }
 
-// Takes away a rule that saves nothing, where these are its calls.
-fn take_away(grammar: &mut Grammar, rule: usize, calls: &CallList) -> Result<(), AllocError>
+// Takes away a rule that saves nothing, where these are its calls. Where memory is refused, the rules stay.
+fn take_away(
+    grammar: &mut Grammar,
+    index: &mut Index,
+    rule: usize,
+    calls: &CallList,
+) -> Result<(), AllocError>
     requires there { rule + 1 < length grammar.old.rules }
     requires calls { AreCallsOf grammar.old.rules rule calls.now }
     requires swept { IsSwept (rules_of grammar.old.rules) }
     requires useless { Saves (rules_of grammar.old.rules) rule → ⊥ }
+    requires index { IsIndexOf grammar.old index.old }
     ensures rules { OnOk result (length grammar.new.rules + 1 ≡ length grammar.old.rules) }
-    ensures swept { OnOk result (IsSwept (rules_of grammar.new.rules)) }
+    ensures swept { IsSwept (rules_of grammar.new.rules) }
     ensures save { OnOk result ((r : ℕ) → r < rule → Saves (rules_of grammar.old.rules) r → Saves (rules_of grammar.new.rules) r) }
     ensures later { OnOk result ((q : ℕ) (keys : List Key) → rule ≤ q → q < length grammar.new.rules → AreCallsOf grammar.old.rules (q + 1) keys → AreCallsOf grammar.new.rules q keys) }
-    ensures value { OnOk result (value (rules_of grammar.new.rules) ≡ value (rules_of grammar.old.rules)) }
-    ensures size { OnOk result (size (rules_of grammar.new.rules) ≤ size (rules_of grammar.old.rules)) }
+    ensures value { value (rules_of grammar.new.rules) ≡ value (rules_of grammar.old.rules) }
+    ensures size { size (rules_of grammar.new.rules) ≤ size (rules_of grammar.old.rules) }
+    ensures fewer { length grammar.new.rules ≤ length grammar.old.rules }
+    ensures index { IsIndexOf grammar.new index.new }
 {
+    let keys = calls.as_slice();
+    make_room(grammar, index, rule, keys.len())?;
+    inline_calls(grammar, index, rule, keys);
     // The call tells that a key stands once.
-    let _limit = grammar.limit();
-    inline_calls(grammar, rule, calls.as_slice())?;
     let _inlined = grammar.limit();
-    grammar.drop_rule(rule);
+    drop_uncalled(grammar, index, rule);
     Ok(())
+}
+
+// Makes room for so many copies of a rule's body and for their occurrences.
+fn make_room(
+    grammar: &mut Grammar,
+    index: &mut Index,
+    rule: usize,
+    copies: usize,
+) -> Result<(), AllocError>
+    requires there { rule < length grammar.old.rules }
+    requires index { IsIndexOf grammar.old index.old }
+    ensures rules { grammar.new.rules ≡ grammar.old.rules }
+    ensures index { IsIndexOf grammar.new index.new }
+    ensures nodes { OnOk result (copies * length (nodes_at grammar.old.rules rule) ≤ grammar.new.spare_nodes) }
+    ensures links { OnOk result (copies * length (nodes_at grammar.old.rules rule) ≤ index.new.spare_links) }
+    ensures cells { OnOk result (grammar.new.limit ≤ length index.new.cells) }
+{
+    match copies.checked_mul(body_length(grammar, rule)) {
+        Some(nodes) => {
+            grammar.reserve(nodes, 0)?;
+            index.reserve(grammar, nodes, 0)
+        }
+        None => Err(AllocError),
+    }
 }

@@ -3,7 +3,7 @@ ghost use Rattle.std.specs.Prelude.{◌≡◌, ◌+◌, ◌<◌, ◌^◌, ◌∷
 ghost use Rattle.slt_grammar.specs.Bodies.{real_nodes};
 ghost use Rattle.slt_grammar.specs.Digrams.{Saves};
 ghost use Rattle.slt_grammar.specs.Grammars.{body_at};
-ghost use Rattle.slt_grammar.specs.Keyed.{rules_of};
+ghost use Rattle.slt_grammar.specs.Keyed.{nodes_at, rules_of};
 ghost use Rattle.rule_pruning.specs.Saving.{saving_of, AllSave};
 
 use read_steps::Steps;
@@ -42,6 +42,17 @@ pub(crate) fn all_save(grammar: &Grammar) -> bool
         }
     }
     true
+}
+
+// How many nodes a body has, with its parameters.
+pub(crate) fn body_length(grammar: &Grammar, rule: usize) -> usize
+    requires { rule < length grammar.now.rules }
+    ensures { result ≡ length (nodes_at grammar.now.rules rule) }
+{
+    // The call tells that the nodes are few.
+    let _limit = grammar.limit();
+    let nodes = body_size::<Brand>(grammar, rule, Blank::new(1)) as usize;
+    nodes + grammar.rank(rule)
 }
 
 // How many nodes of a body are no parameters.

@@ -1,0 +1,34 @@
+use Rattle.std.proofs.Common.{◌≡◌, ◌+◌, ℕ, Option, Some, None, refl, sym, ap, ◌∙◌, arith}
+use Rattle.rule_arena.specs.declared.key.Key.{Key}
+use Rattle.slt_grammar.proofs.KeyedLemmas.{key_at-within}
+use Rattle.digram_index.proofs.LevelLemmas.{same_some}
+use Rattle.rule_pruning.proofs.CopyLinks.{copy-ends, is-copy, is-room, walking-begins, walking-next}
+use Rattle.rule_pruning.proofs.links.link_copy.Goals as goal
+
+pub loop-model-init : goal.loop-model-init
+loop-model-init g c =
+    walking-begins c.args.grammar.now c.limit-limit.ensures.keyed c.args.rule c.args.index.now c.root.result c.args.first c.new-steps.result c.root.ensures c.requires.copy
+
+pub unwrap-here-requires : goal.unwrap-here-requires
+unwrap-here-requires g c =
+    let W = rw c.in-Some.is at c.loop-model.invariant in
+    is-copy c.args.grammar.now c.limit-limit.ensures.keyed c.args.rule c.loop-model.index c.in-Some.node c.loop-model.copy W.left
+
+pub link_node-requires-clause-room : goal.link_node-requires-clause-room
+link_node-requires-clause-room g c =
+    let W = rw c.in-Some.is at c.loop-model.invariant in
+    is-room c.args.grammar.now c.limit-limit.ensures.keyed c.args.rule c.loop-model.index c.in-Some.node c.loop-model.copy W.left c.args.index.now.spare_links c.requires.room c.loop-model.index.spare_links W.spare
+
+pub loop-model-preserved : goal.loop-model-preserved
+loop-model-preserved g c =
+    let W = rw c.in-Some.is at c.loop-model.invariant in
+    let L = c.link_node.ensures in
+    walking-next c.args.grammar.now c.limit-limit.ensures.keyed c.args.rule c.loop-model.index c.in-Some.node c.loop-model.copy W.left c.label-label.result (c.label-label.ensures.node c.args.rule)
+    c.unwrap-here.result c.unwrap-here.ensures c.link_node.new.index L.part L.right L.others c.next_of_copy-copy.result c.next_in_preorder-model.result (c.next_in_preorder-model.ensures.next c.args.rule)
+    c.next_of_copy-copy.ensures.argument c.next_of_copy-copy.ensures.node c.args.index.now c.new-steps.result c.loop-model.steps c.next_in_preorder-model.new.steps W.cells W.spare W.counted L.cells L.spare
+    (c.next_in_preorder-model.ensures.step ∙ ap (λ (n : ℕ). n + 1) c.label-label.ensures.step)
+
+pub returns-clause-index : goal.returns-clause-index
+returns-clause-index g c =
+    let W = rw c.in_default.is at c.loop-model.invariant in
+    copy-ends c.args.grammar.now c.limit-limit.ensures.keyed c.args.rule c.loop-model.index c.loop-model.copy W.left

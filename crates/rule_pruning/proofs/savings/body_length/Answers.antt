@@ -1,0 +1,7 @@
+use Rattle.std.proofs.Common.{ap, arith}
+use Rattle.rule_pruning.proofs.SavingLemmas.{body-length}
+use Rattle.rule_pruning.proofs.NearInlines.{near-inlined}
+use Rattle.rule_pruning.proofs.savings.body_length.Goals as goal
+
+pub returns : goal.returns
+returns c = omega (arith, c.body_size-nodes.ensures.size, c.rank.ensures, body-length c.args.grammar.now c.limit-limit.ensures.keyed c.args.rule c.requires)

@@ -1,7 +1,7 @@
 // A chunk of a list of numbers.
 ghost use Rattle.std.specs.Prelude.{◌+◌, ◌↔◌, ◌≡◌, ◌≤◌, ◌<◌, ◌++◌, [], ◌∷◌, length, take, drop, replicate, slice_get, slice_set, IfOk, IsTrue};
 ghost use Rattle.std.specs.List.{insert_slice, remove_range};
-ghost use Rattle.text_list.specs.RoomyNumbers.{IsSpare};
+ghost use Rattle.text_list.specs.RoomyNumbers.{IsSpare, CanTake};
 
 use std::alloc::{AllocError, Global};
 use std::marker::Model;
@@ -42,7 +42,7 @@ impl Chunk {
 
     // Whether so many more can be put in.
     pub(crate) fn has_room(&self, more: usize) -> bool
-        ensures { IsTrue result ↔ ((length self.now.numbers + more ≤ MOST_NUMBERS) × (more ≤ self.now.room)) }
+        ensures { IsTrue result ↔ CanTake self.now more }
     {
         let len = self.numbers.as_slice().len();
         len <= MOST_NUMBERS

@@ -1,4 +1,9 @@
 // Room within a list of chunks, at one place.
+ghost use Rattle.std.specs.Prelude.{◌≡◌, ◌≤◌, ◌<◌, ◌+◌, ◌-◌, ◌*◌, ◌++◌, length, take, drop, replicate, vec_len, vec_capacity, IfSome};
+ghost use Rattle.std.specs.List.{All, HoldsAt, insert_slice};
+ghost use Rattle.text_list.specs.Chunks.{joined, starts_of, AreFit, StandsAt};
+ghost use Rattle.text_list.specs.RoomyNumbers.{IsSpare, CanTake};
+
 use crate::chunk::{Chunk, MOST_NUMBERS};
 use crate::places::chunk_at;
 
@@ -15,7 +20,12 @@ pub(crate) fn spot_with_room(
     starts: &[usize],
     at: usize,
     count: usize,
-) -> Option<Spot> {
+) -> Option<Spot>
+    requires started { starts.now ≡ starts_of 0 chunks.now }
+    requires place { at ≤ length (joined chunks.now) }
+    ensures stands { IfSome result (λ s. StandsAt chunks.now at s.chunk s.inside) }
+    ensures room { IfSome result (λ s. HoldsAt (λ c. CanTake c count) chunks.now s.chunk) }
+{
     if chunks.is_empty() {
         return None;
     }
@@ -41,7 +51,23 @@ pub(crate) fn boundary(
     spare: &mut Vec<Chunk>,
     at: usize,
     len: usize,
-) -> usize {
+) -> usize
+    requires started { starts.now ≡ starts_of 0 chunks.old.items }
+    requires counted { len ≡ length (joined chunks.old.items) }
+    requires place { at ≤ len }
+    requires fit { AreFit chunks.old.items }
+    requires empty { All IsSpare spare.old.items }
+    requires spare { 0 < vec_len spare.old }
+    requires room { vec_len chunks.old < vec_capacity chunks.old }
+    ensures within { result ≤ length chunks.new.items }
+    ensures front { joined (take result chunks.new.items) ≡ take at (joined chunks.old.items) }
+    ensures back { joined (drop result chunks.new.items) ≡ drop at (joined chunks.old.items) }
+    ensures fit { AreFit chunks.new.items }
+    ensures empty { All IsSpare spare.new.items }
+    ensures spare { vec_len spare.old ≤ vec_len spare.new + 1 }
+    ensures count { vec_len chunks.new ≤ vec_len chunks.old + 1 }
+    ensures capacity { vec_capacity chunks.old ≤ vec_capacity chunks.new }
+{
     if at == len {
         return chunks.len();
     }
@@ -62,7 +88,17 @@ pub(crate) fn add_zeros(
     spare: &mut Vec<Chunk>,
     before: usize,
     count: usize,
-) {
+)
+    requires place { before ≤ length chunks.old.items }
+    requires fit { AreFit chunks.old.items }
+    requires empty { All IsSpare spare.old.items }
+    requires spare { count ≤ vec_len spare.old * MOST_NUMBERS }
+    requires room { count ≤ (vec_capacity chunks.old - vec_len chunks.old) * MOST_NUMBERS }
+    ensures numbers { joined chunks.new.items ≡ (joined (take before chunks.old.items) ++ replicate count 0) ++ joined (drop before chunks.old.items) }
+    ensures fit { AreFit chunks.new.items }
+    ensures empty { All IsSpare spare.new.items }
+    ensures count { vec_len chunks.new * MOST_NUMBERS < vec_len chunks.old * MOST_NUMBERS + count + MOST_NUMBERS }
+{
     let len = chunks.len();
     push_zeros(chunks, spare, count);
     let added = chunks.len() - len;
@@ -70,7 +106,17 @@ pub(crate) fn add_zeros(
 }
 
 // Puts chunks of zeros behind the last.
-fn push_zeros(chunks: &mut Vec<Chunk>, spare: &mut Vec<Chunk>, count: usize) {
+fn push_zeros(chunks: &mut Vec<Chunk>, spare: &mut Vec<Chunk>, count: usize)
+    requires fit { AreFit chunks.old.items }
+    requires empty { All IsSpare spare.old.items }
+    requires spare { count ≤ vec_len spare.old * MOST_NUMBERS }
+    requires room { count ≤ (vec_capacity chunks.old - vec_len chunks.old) * MOST_NUMBERS }
+    ensures front { take (length chunks.old.items) chunks.new.items ≡ chunks.old.items }
+    ensures zeros { joined (drop (length chunks.old.items) chunks.new.items) ≡ replicate count 0 }
+    ensures fit { AreFit chunks.new.items }
+    ensures empty { All IsSpare spare.new.items }
+    ensures count { vec_len chunks.new * MOST_NUMBERS < vec_len chunks.old * MOST_NUMBERS + count + MOST_NUMBERS }
+{
     let mut left = count;
     while left > 0 {
         let zeros = left.min(MOST_NUMBERS);

@@ -1,7 +1,9 @@
 // Numbers in chunks, so that one that is put in moves those of its chunk alone.
-ghost use Rattle.std.specs.Prelude.{◌^◌, ◌≡◌, ◌≤◌, ◌<◌, ◌+◌, ◌++◌, [], ◌∷◌, length, replicate, slice_get, slice_set, slice_range, slice_index, OnOk, OnErr};
-ghost use Rattle.std.specs.List.{insert_slice, remove_range};
+ghost use Rattle.std.specs.Prelude.{◌^◌, ◌≡◌, ◌≤◌, ◌<◌, ◌+◌, ◌++◌, [], ◌∷◌, length, replicate, slice_get, slice_set, slice_range, slice_index, vec_len, vec_capacity, IfOk, OnOk, OnErr};
+ghost use Rattle.std.specs.List.{All, HoldsAt, insert_slice, remove_range};
+ghost use Rattle.text_list.specs.Chunks.{joined, starts_of, AreFit};
 ghost use Rattle.text_list.specs.Numbers.{counted};
+ghost use Rattle.text_list.specs.RoomyNumbers.{IsSpare, CanTake};
 
 use crate::chunk::{Chunk, MOST_NUMBERS};
 use crate::opening::{add_zeros, boundary, spot_with_room};
@@ -218,7 +220,14 @@ pub(crate) fn chunk_at(starts: &[usize], at: usize) -> usize
 }
 
 // Sets where each chunk's first number stands, and answers how many numbers there are.
-fn set_starts(chunks: &[Chunk], starts: &mut Vec<usize>) -> usize {
+fn set_starts(chunks: &[Chunk], starts: &mut Vec<usize>) -> usize
+    requires few { length (joined chunks.now) ≤ MOST_PLACES }
+    requires room { length chunks.now ≤ vec_capacity starts.old }
+    ensures len { result ≡ length (joined chunks.now) }
+    ensures started { starts.new.items ≡ starts_of 0 chunks.now }
+    ensures count { vec_len starts.new ≡ length chunks.now }
+    ensures capacity { vec_capacity starts.new ≡ vec_capacity starts.old }
+{
     starts.clear();
     let mut len = 0;
     for chunk in chunks {
@@ -233,7 +242,16 @@ fn last_with_room(
     chunks: &mut Vec<Chunk>,
     starts: &mut Vec<usize>,
     len: usize,
-) -> Result<usize, AllocError> {
+) -> Result<usize, AllocError>
+    requires started { starts.old.items ≡ starts_of 0 chunks.old.items }
+    requires counted { len ≡ length (joined chunks.old.items) }
+    requires fit { AreFit chunks.old.items }
+    ensures numbers { joined chunks.new.items ≡ joined chunks.old.items }
+    ensures started { starts.new.items ≡ starts_of 0 chunks.new.items }
+    ensures fit { AreFit chunks.new.items }
+    ensures last { IfOk result (λ i. i + 1 ≡ length chunks.new.items) }
+    ensures room { IfOk result (λ i. HoldsAt (λ c. CanTake c 1) chunks.new.items i) }
+{
     if let Some(last) = chunks.last()
         && last.has_room(1)
     {
@@ -247,7 +265,12 @@ fn last_with_room(
 }
 
 // Makes new empty chunks until there are so many.
-fn fill_spare(spare: &mut Vec<Chunk>, count: usize) -> Result<(), AllocError> {
+fn fill_spare(spare: &mut Vec<Chunk>, count: usize) -> Result<(), AllocError>
+    requires { All IsSpare spare.old.items }
+    ensures empty { All IsSpare spare.new.items }
+    ensures grown { vec_len spare.old ≤ vec_len spare.new }
+    ensures count { OnOk result (count ≤ vec_len spare.new) }
+{
     let alloc = *spare.allocator();
     for _ in spare.len()..count {
         spare.push(Chunk::new(alloc)?)?;

@@ -1,2 +1,3 @@
 pub mod PieceLemmas
 pub mod ChunkLemmas
+pub mod MovedLemmas

@@ -1,6 +1,7 @@
 // Room within a list of chunks, at one place.
 ghost use Rattle.std.specs.Prelude.{◌≡◌, ◌≤◌, ◌<◌, ◌+◌, ◌-◌, ◌*◌, ◌++◌, length, take, drop, replicate, vec_len, vec_capacity, IfSome};
-ghost use Rattle.std.specs.List.{All, HoldsAt, insert_slice};
+ghost use Rattle.std.specs.Bool.{OnTrue};
+ghost use Rattle.std.specs.List.{All, HoldsAt, insert, insert_slice};
 ghost use Rattle.text_list.specs.Chunks.{joined, starts_of, AreFit, StandsAt};
 ghost use Rattle.text_list.specs.RoomyNumbers.{IsSpare, CanTake};
 
@@ -31,17 +32,23 @@ pub(crate) fn spot_with_room(
     }
     let chunk = chunk_at(starts, at);
     let inside = at - starts[chunk];
-    if chunks[chunk].has_room(count) {
+    if can_take(chunks, chunk, count) {
         return Some(Spot { chunk, inside });
     }
-    if inside == 0 && chunk > 0 && chunks[chunk - 1].has_room(count) {
-        let inside = chunks[chunk - 1].len();
+    if inside == 0 && chunk > 0 && can_take(chunks, chunk - 1, count) {
         return Some(Spot {
             chunk: chunk - 1,
-            inside,
+            inside: at - starts[chunk - 1],
         });
     }
     None
+}
+
+fn can_take(chunks: &[Chunk], chunk: usize, count: usize) -> bool
+    requires { chunk < length chunks.now }
+    ensures { OnTrue result (HoldsAt (λ c. CanTake c count) chunks.now chunk) }
+{
+    chunks[chunk].has_room(count)
 }
 
 // Lets a chunk begin at a place, or the chunks end there, and answers how many chunks stand before it.
@@ -78,8 +85,19 @@ pub(crate) fn boundary(
     }
     let mut tail = spare.take_last();
     chunks[chunk].split_into(inside, &mut tail);
-    chunks.insert(chunk + 1, tail).unwrap();
+    insert_chunk(chunks, chunk + 1, tail);
     chunk + 1
+}
+
+// Puts a chunk before another one, or behind the last. It takes no memory.
+fn insert_chunk(chunks: &mut Vec<Chunk>, at: usize, chunk: Chunk)
+    requires place { at ≤ length chunks.old.items }
+    requires room { vec_len chunks.old < vec_capacity chunks.old }
+    ensures items { chunks.new.items ≡ insert chunks.old.items at chunk }
+    ensures count { vec_len chunks.new ≡ vec_len chunks.old + 1 }
+    ensures capacity { vec_capacity chunks.old ≤ vec_capacity chunks.new }
+{
+    chunks.insert(at, chunk).unwrap();
 }
 
 // Puts chunks of zeros before a chunk, or behind the last.
@@ -102,7 +120,15 @@ pub(crate) fn add_zeros(
     let len = chunks.len();
     push_zeros(chunks, spare, count);
     let added = chunks.len() - len;
-    chunks.as_mut_slice()[before..].rotate_right(added);
+    bring_forward(chunks.as_mut_slice(), before, added);
+}
+
+// Moves so many chunks at the end before another one.
+fn bring_forward(chunks: &mut [Chunk], before: usize, count: usize)
+    requires { before + count ≤ length chunks.old }
+    ensures { chunks.new ≡ insert_slice (take (length chunks.old - count) chunks.old) before (drop (length chunks.old - count) chunks.old) }
+{
+    chunks[before..].rotate_right(count);
 }
 
 // Puts chunks of zeros behind the last.

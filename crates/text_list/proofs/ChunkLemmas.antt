@@ -1,13 +1,14 @@
 -- Lists of numbers in chunks.
 use Rattle.std.proofs.Common.{◌≡◌, ◌≢◌, ℕ, Bool, false, eqb, replicate, zero-add, zero, suc, ◌+◌, ◌-◌, ◌<◌, ◌≤◌, ◌⊎◌, inl, inr, List, [], ◌∷◌, ◌++◌, length, get_or, take, drop, slice_get, refl, ap, sym, ◌∙◌, subst, arith, add-one, length-append, append_assoc, length-take, length-drop}
 use Rattle.std.specs.Prelude.{slice_set}
-use Rattle.std.specs.List.{All, insert, insert_slice, remove_range}
+use Rattle.std.specs.List.{All, HoldsAt, insert, insert_slice, remove_range}
 use Rattle.std.proofs.lemmas.List.{take_all, drop_all, take_at, drop_at, take_more_set, drop-set-lt, length-set, length-take-le, take-set-le, drop-set, get_or-set_other, get_or_default, take-append-le, drop-append-le, replicate-append-replicate, get_or_push, append-nil, set-append_left}
 use Rattle.std.proofs.lemmas.List.Elements.{All-set, All-append, All-cons, All-push, All-take, All-drop}
 use Rattle.std.proofs.lemmas.Bool.{cases_lt}
 use Rattle.text_list.specs.RoomyNumbers.{RoomyNumbers, IsSpare}
 use Rattle.text_list.specs.Chunks.{joined, starts_of, place_in, StandsAt, AreFit, AreChunks}
 use Rattle.text_list.specs.declared.chunk.TheConstants.{MOST_NUMBERS}
+use Rattle.text_list.specs.declared.places.TheConstants.{MOST_PLACES}
 
 pub joined-append : (xs ys : List RoomyNumbers) → joined (xs ++ ys) ≡ joined xs ++ joined ys
 joined-append [] ys = refl
@@ -345,8 +346,8 @@ cut_one cs i from to x y h e o l f =
 
 -- A range that begins in one chunk and ends in a later one: y has the front of the first, z the back of the last.
 module _ (cs : List RoomyNumbers) (i j from to n : ℕ) (x y w z : RoomyNumbers) (order : i < j) (within : j < length cs)
-    (e : x ≡ get_or cs i x) (lx : from ≤ length x.numbers) (len : n ≡ length x.numbers) (fy : y.numbers ≡ remove_range x.numbers from n)
-    (g : w ≡ get_or (slice_set cs i y) j w) (lw : to ≤ length w.numbers) (fz : z.numbers ≡ remove_range w.numbers 0 to) where
+    (e : x ≡ get_or cs i x) (lx : HoldsAt (λ (c : RoomyNumbers). from ≤ length c.numbers) cs i) (len : n ≡ length x.numbers) (fy : y.numbers ≡ remove_range x.numbers from n)
+    (g : w ≡ get_or (slice_set cs i y) j w) (lw : HoldsAt (λ (c : RoomyNumbers). to ≤ length c.numbers) cs j) (fz : z.numbers ≡ remove_range w.numbers 0 to) where
   cut : List RoomyNumbers
   cut = remove_range (slice_set (slice_set cs i y) j z) (i + 1) j
 
@@ -375,13 +376,11 @@ module _ (cs : List RoomyNumbers) (i j from to n : ℕ) (x y w z : RoomyNumbers)
 
   pub cut_many : joined (remove_range (slice_set (slice_set cs i y) j z) (i + 1) j) ≡ remove_range (joined cs) (place_in cs i from) (place_in cs j to)
   cut_many =
-      let l : from ≤ length (get_or cs i x).numbers = omega (arith, lx, ap (λ (c : RoomyNumbers). length c.numbers) e) in
-      let r : to ≤ length (get_or cs j w).numbers = omega (arith, lw, ap (λ (c : RoomyNumbers). length c.numbers) later) in
       joined-append (take (i + 1) (slice_set (slice_set cs i y) j z)) (drop j (slice_set (slice_set cs i y) j z))
       ∙ ap (λ (ds : List RoomyNumbers). joined ds ++ joined (drop j (slice_set (slice_set cs i y) j z))) fronts
       ∙ ap (λ (ds : List RoomyNumbers). joined (take i cs ++ y ∷ []) ++ joined ds) backs
-      ∙ ap (λ (ns : List ℕ). ns ++ (z.numbers ++ joined (drop (suc j) cs))) (joined-append (take i cs) (y ∷ []) ∙ ap (λ (ns : List ℕ). joined (take i cs) ++ ns) (append-nil y.numbers ∙ front_numbers) ∙ sym (take_joined cs i from x first_in l))
-      ∙ ap (λ (ns : List ℕ). take (place_in cs i from) (joined cs) ++ ns) (ap (λ (ns : List ℕ). ns ++ joined (drop (suc j) cs)) back_numbers ∙ sym (drop_joined cs j to w within r))
+      ∙ ap (λ (ns : List ℕ). ns ++ (z.numbers ++ joined (drop (suc j) cs))) (joined-append (take i cs) (y ∷ []) ∙ ap (λ (ns : List ℕ). joined (take i cs) ++ ns) (append-nil y.numbers ∙ front_numbers) ∙ sym (take_joined cs i from x first_in (lx x)))
+      ∙ ap (λ (ns : List ℕ). take (place_in cs i from) (joined cs) ++ ns) (ap (λ (ns : List ℕ). ns ++ joined (drop (suc j) cs)) back_numbers ∙ sym (drop_joined cs j to w within (lw w)))
 
   pub fit_cut : AreFit cs → AreFit (remove_range (slice_set (slice_set cs i y) j z) (i + 1) j)
   fit_cut f =
@@ -445,3 +444,66 @@ set_chunks cs starts spare len i k v x y a h e l f =
       fit = fit_same cs i x y a.fit h e n;
       empty = a.empty;
     }
+
+pub held_at : (cs : List RoomyNumbers) (i j k : ℕ) (x : RoomyNumbers) → i ≡ j → x ≡ get_or cs i x → HoldsAt (λ (c : RoomyNumbers). k ≤ length c.numbers) cs j → k ≤ length x.numbers
+held_at cs i j k x e g h =
+    let n : length (get_or cs j x).numbers ≡ length x.numbers = ap (λ q. length (get_or cs q x).numbers) (sym e) ∙ ap (λ (c : RoomyNumbers). length c.numbers) (sym g) in
+    omega (arith, h x, n)
+
+-- Chunks of zeros that were put behind the others, brought forward: s is what the chunks were lent as, and b what is there then.
+module _ (old items s b : List RoomyNumbers) (l n before count : ℕ) (es : s ≡ items) (front : take (length old) items ≡ old) (zs : joined (drop (length old) items) ≡ replicate count 0)
+    (place : before ≤ length old) (eb : b ≡ insert_slice (take (length s - n) s) before (drop (length s - n) s)) (en : length s - n ≡ length old) (el : l ≡ length items) where
+  moved_is : b ≡ insert_slice (take (length old) items) before (drop (length old) items)
+  moved_is = eb ∙ ap (λ q. insert_slice (take q s) before (drop q s)) en ∙ ap (λ (ys : List RoomyNumbers). insert_slice (take (length old) ys) before (drop (length old) ys)) es
+
+  brought : b ≡ (take before old ++ drop (length old) items) ++ drop before old
+  brought = moved_is ∙ ap (λ (ys : List RoomyNumbers). insert_slice ys before (drop (length old) items)) front
+
+  same_count : length b ≡ length items
+  same_count = omega (
+    arith,
+    ap length brought,
+    length-append (take before old ++ drop (length old) items) (drop before old),
+    length-append (take before old) (drop (length old) items),
+    length-take before old,
+    length-drop before old,
+    length-drop (length old) items,
+    ap length front,
+    length-take (length old) items,
+  )
+
+  lent : take l (b ++ drop (length b) items) ≡ b
+  lent = ap (λ (ys : List RoomyNumbers). take l (b ++ ys)) (drop_all (length b) items (omega (arith, same_count))) ∙ ap (take l) (append-nil b) ∙ take_all l b (omega (arith, same_count, el))
+
+  pub zeros_added : joined (take l (b ++ drop (length b) items)) ≡ (joined (take before old) ++ replicate count 0) ++ joined (drop before old)
+  zeros_added =
+      ap joined (lent ∙ brought) ∙ joined-append (take before old ++ drop (length old) items) (drop before old)
+      ∙ ap (λ (ns : List ℕ). ns ++ joined (drop before old)) (joined-append (take before old) (drop (length old) items) ∙ ap (λ (ns : List ℕ). joined (take before old) ++ ns) zs)
+
+  pub fit_added : AreFit items → AreFit (take l (b ++ drop (length b) items))
+  fit_added f = subst AreFit (sym (lent ∙ moved_is)) (fit_moved items (length old) before f)
+
+-- An empty chunk behind the others.
+pub joined_more : (cs ds : List RoomyNumbers) (c : RoomyNumbers) → ds ≡ cs ++ c ∷ [] → c.numbers ≡ [] → joined ds ≡ joined cs
+joined_more cs ds c e n = ap joined e ∙ joined-append cs (c ∷ []) ∙ ap (λ (ns : List ℕ). joined cs ++ (ns ++ [])) n ∙ append-nil (joined cs)
+
+pub starts_of_more : (cs ds : List RoomyNumbers) (starts mid new : List ℕ) (c : RoomyNumbers) (len : ℕ) → starts ≡ starts_of 0 cs → mid ≡ starts → new ≡ mid ++ len ∷ [] → len ≡ length (joined cs) → ds ≡ cs ++ c ∷ [] → new ≡ starts_of 0 ds
+starts_of_more cs ds starts mid new c len s m e l d =
+    let n : len ≡ 0 + length (joined cs) = omega (arith, l) in
+    e ∙ ap (λ (ns : List ℕ). ns ++ len ∷ []) (m ∙ s) ∙ ap (λ k. starts_of 0 cs ++ k ∷ []) n ∙ sym (starts_push 0 cs c) ∙ ap (starts_of 0) (sym d)
+
+-- what is kept beside the chunks, when a number is put into the last
+pub push_chunks : (cs : List RoomyNumbers) (starts : List ℕ) (spare : List RoomyNumbers) (len i n : ℕ) (x y : RoomyNumbers) → starts ≡ starts_of 0 cs → len ≡ length (joined cs) → len < MOST_PLACES → AreFit cs → All IsSpare spare
+    → i + 1 ≡ length cs → x ≡ get_or cs i x → length x.numbers + 1 ≤ MOST_NUMBERS → y.numbers ≡ x.numbers ++ n ∷ [] → AreChunks (slice_set cs i y) starts spare (len + 1)
+push_chunks cs starts spare len i n x y s l m f p last e small g =
+    record {
+      started = s ∙ sym (starts_of-set_last 0 cs i y last);
+      counted = omega (arith, l, ap length (push_joined cs i n x y last e g), length-append (joined cs) (n ∷ []));
+      few = omega (arith, m);
+      fit = fit_set cs i y (omega (arith, small, ap length g, length-append x.numbers (n ∷ []))) f;
+      empty = p;
+    }
+
+-- a chunk's length, read once more
+pub read_again : (cs : List RoomyNumbers) (i n : ℕ) (a b : RoomyNumbers) → i < length cs → n ≡ length a.numbers → a ≡ get_or cs i a → b ≡ get_or cs i b → n ≡ length b.numbers
+read_again cs i n a b h e f g = e ∙ ap (λ (c : RoomyNumbers). length c.numbers) (f ∙ get_or_default cs i a b h ∙ sym g)

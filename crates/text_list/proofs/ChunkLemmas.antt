@@ -1,12 +1,12 @@
 -- Lists of numbers in chunks.
-use Rattle.std.proofs.Common.{◌≡◌, ◌≢◌, ℕ, Bool, false, eqb, replicate, zero-add, zero, suc, ◌+◌, ◌-◌, ◌<◌, ◌≤◌, ◌⊎◌, inl, inr, List, [], ◌∷◌, ◌++◌, length, get_or, take, drop, slice_get, refl, ap, sym, ◌∙◌, subst, arith, add-one, length-append, append_assoc, length-take, length-drop}
+use Rattle.std.proofs.Common.{◌≡◌, ◌≢◌, ◌*◌, ℕ, min, Bool, false, eqb, replicate, zero-add, zero, suc, ◌+◌, ◌-◌, ◌<◌, ◌≤◌, ◌⊎◌, inl, inr, List, [], ◌∷◌, ◌++◌, length, get_or, take, drop, slice_get, refl, ap, sym, ◌∙◌, subst, arith, add-one, length-append, append_assoc, length-take, length-drop}
 use Rattle.std.specs.Prelude.{slice_set}
 use Rattle.std.specs.List.{All, HoldsAt, insert, insert_slice, remove_range}
-use Rattle.std.proofs.lemmas.List.{take_all, drop_all, take_at, drop_at, take_more_set, drop-set-lt, length-set, length-take-le, take-set-le, drop-set, get_or-set_other, get_or_default, take-append-le, drop-append-le, replicate-append-replicate, get_or_push, append-nil, set-append_left}
+use Rattle.std.proofs.lemmas.List.{take_all, drop_all, take_at, drop_at, take_more_set, drop-set-lt, length-set, length-take-le, take-take, take-set-le, drop-set, get_or-set_other, get_or_default, take-append-le, drop-append-le, replicate-append-replicate, get_or_push, append-nil, set-append_left}
 use Rattle.std.proofs.lemmas.List.Elements.{All-set, All-append, All-cons, All-push, All-take, All-drop}
 use Rattle.std.proofs.lemmas.Bool.{cases_lt}
 use Rattle.text_list.specs.RoomyNumbers.{RoomyNumbers, IsSpare}
-use Rattle.text_list.specs.Chunks.{joined, starts_of, place_in, StandsAt, AreFit, AreChunks}
+use Rattle.text_list.specs.Chunks.{joined, starts_of, place_in, StandsAt, AreFit, AreChunks, room_of}
 use Rattle.text_list.specs.declared.chunk.TheConstants.{MOST_NUMBERS}
 use Rattle.text_list.specs.declared.places.TheConstants.{MOST_PLACES}
 
@@ -507,3 +507,39 @@ push_chunks cs starts spare len i n x y s l m f p last e small g =
 -- a chunk's length, read once more
 pub read_again : (cs : List RoomyNumbers) (i n : ℕ) (a b : RoomyNumbers) → i < length cs → n ≡ length a.numbers → a ≡ get_or cs i a → b ≡ get_or cs i b → n ≡ length b.numbers
 read_again cs i n a b h e f g = e ∙ ap (λ (c : RoomyNumbers). length c.numbers) (f ∙ get_or_default cs i a b h ∙ sym g)
+
+pub insert_read : (cs ss : List RoomyNumbers) (at i k : ℕ) (zs : List ℕ) (x y : RoomyNumbers) → ss ≡ cs → StandsAt ss at i k → x ≡ get_or cs i x → y.numbers ≡ insert_slice x.numbers k zs → joined (slice_set cs i y) ≡ insert_slice (joined cs) at zs
+insert_read cs ss at i k zs x y g s e f =
+    let t : StandsAt cs at i k = subst (λ (ds : List RoomyNumbers). StandsAt ds at i k) g s in
+    insert_joined cs i k zs x y t.within (t.behind x) (f ∙ ap (λ (c : RoomyNumbers). insert_slice c.numbers k zs) e) ∙ ap (λ n. insert_slice (joined cs) n zs) (sym t.place)
+
+-- two places in their order, and their chunks
+pub chunk_order : (cs : List RoomyNumbers) (i j k m p q : ℕ) (x : RoomyNumbers) → j < length cs → p ≡ place_in cs i k → q ≡ place_in cs j m → x ≡ get_or cs j x → m < length x.numbers → p ≤ q → i ≤ j
+chunk_order cs i j k m p q x h e f g l o =
+    elim (cases_lt j i) as (λ _. i ≤ j) [
+      | inl less ↦
+          let inside : suc j ≤ i = omega (arith, less) in
+          let front : length (joined (take (suc j) cs)) ≤ length (joined (take i cs)) = subst (λ (ds : List RoomyNumbers). length (joined ds) ≤ length (joined (take i cs))) (take-take (suc j) i cs inside) (length_front (take i cs) (suc j)) in
+          absurd (omega (arith, front, length_next cs j x h, ap (λ (c : RoomyNumbers). length c.numbers) g, e, f, l, o))
+      | inr more ↦ more
+    ]
+
+-- the place behind a number of a chunk is no further than its end
+pub next_behind : (cs : List RoomyNumbers) (j m n : ℕ) → ((x : RoomyNumbers) → x ≡ get_or cs j x → m < length x.numbers) → j < length cs → n ≡ m + 1 → HoldsAt (λ (c : RoomyNumbers). n ≤ length c.numbers) cs j
+next_behind cs j m n h l e d = omega (arith, h (get_or cs j d) (get_or_default cs j d (get_or cs j d) l), e)
+
+pub room_of-mono : (a b l m : ℕ) → a ≤ b → m ≤ l → room_of a l ≤ room_of b m
+room_of-mono a b l m h k = omega (arith, h, k)
+
+pub removed_length : (xs ys : List ℕ) (i j : ℕ) → ys ≡ remove_range xs i j → i ≤ j → length ys ≤ length xs
+removed_length xs ys i j e o = omega (arith, ap length e, length-append (take i xs) (drop j xs), length-take i xs, length-drop j xs, o)
+
+pub removed_between : (xs ys : List ℕ) (i j m n : ℕ) → ys ≡ remove_range xs i j → i ≡ m → j ≡ n → ys ≡ remove_range xs m n
+removed_between xs ys i j m n e p q = e ∙ ap (λ k. remove_range xs k j) p ∙ ap (λ k. remove_range xs m k) q
+
+pub mins : (a b c d e : ℕ) → b ≤ d → c ≤ e → min a (min b c) ≤ min a (min d e)
+mins a b c d e h k = omega (arith, h, k)
+
+-- the starts have room for the chunks that come
+pub starts_room : (free len count old new cap starts : ℕ) → count ≤ room_of free len → 0 < count → new * MOST_NUMBERS < old * MOST_NUMBERS + count + 2 * MOST_NUMBERS → old ≡ starts → free ≤ cap - starts → new ≤ cap
+starts_room free len count old new cap starts h some more e f = omega (arith, h, some, more, e, f)

@@ -1,3 +1,4 @@
 pub mod PieceLemmas
 pub mod ChunkLemmas
 pub mod MovedLemmas
+pub mod GapLemmas

@@ -8,20 +8,44 @@ ghost use Rattle.text_list.specs.RoomyNumbers.{IsSpare, CanTake};
 use crate::chunk::{Chunk, MOST_NUMBERS};
 use crate::places::chunk_at;
 
+// Puts zeros before the number at a place of the whole list, or at its end. It takes no memory.
+pub(crate) fn open_chunks(
+    chunks: &mut Vec<Chunk>,
+    starts: &[usize],
+    spare: &mut Vec<Chunk>,
+    at: usize,
+    len: usize,
+    count: usize,
+)
+    requires started { starts.now ≡ starts_of 0 chunks.old.items }
+    requires counted { len ≡ length (joined chunks.old.items) }
+    requires place { at ≤ len }
+    requires fit { AreFit chunks.old.items }
+    requires empty { All IsSpare spare.old.items }
+    requires spare { count + MOST_NUMBERS ≤ vec_len spare.old * MOST_NUMBERS }
+    requires room { count + MOST_NUMBERS ≤ (vec_capacity chunks.old - vec_len chunks.old) * MOST_NUMBERS }
+    ensures numbers { joined chunks.new.items ≡ insert_slice (joined chunks.old.items) at (replicate count 0) }
+    ensures fit { AreFit chunks.new.items }
+    ensures empty { All IsSpare spare.new.items }
+    ensures count { vec_len chunks.new * MOST_NUMBERS < vec_len chunks.old * MOST_NUMBERS + count + 2 * MOST_NUMBERS }
+{
+    if let Some(spot) = spot_with_room(chunks.as_slice(), starts, at, count) {
+        chunks[spot.chunk].open(spot.inside, count);
+        return;
+    }
+    let chunk = boundary(chunks, starts, spare, at, len);
+    add_zeros(chunks, spare, chunk, count);
+}
+
 // A place of the whole list, by its chunk and its place in that.
 #[derive(Clone, Copy)]
-pub(crate) struct Spot {
-    pub(crate) chunk: usize,
-    pub(crate) inside: usize,
+struct Spot {
+    chunk: usize,
+    inside: usize,
 }
 
 // Where so many numbers can be put in within one chunk: in the chunk of the place, or at the end of the one before it.
-pub(crate) fn spot_with_room(
-    chunks: &[Chunk],
-    starts: &[usize],
-    at: usize,
-    count: usize,
-) -> Option<Spot>
+fn spot_with_room(chunks: &[Chunk], starts: &[usize], at: usize, count: usize) -> Option<Spot>
     requires started { starts.now ≡ starts_of 0 chunks.now }
     requires place { at ≤ length (joined chunks.now) }
     ensures stands { IfSome result (λ s. StandsAt chunks.now at s.chunk s.inside) }
@@ -52,7 +76,7 @@ fn can_take(chunks: &[Chunk], chunk: usize, count: usize) -> bool
 }
 
 // Lets a chunk begin at a place, or the chunks end there, and answers how many chunks stand before it.
-pub(crate) fn boundary(
+fn boundary(
     chunks: &mut Vec<Chunk>,
     starts: &[usize],
     spare: &mut Vec<Chunk>,
@@ -101,12 +125,7 @@ fn insert_chunk(chunks: &mut Vec<Chunk>, at: usize, chunk: Chunk)
 }
 
 // Puts chunks of zeros before a chunk, or behind the last.
-pub(crate) fn add_zeros(
-    chunks: &mut Vec<Chunk>,
-    spare: &mut Vec<Chunk>,
-    before: usize,
-    count: usize,
-)
+fn add_zeros(chunks: &mut Vec<Chunk>, spare: &mut Vec<Chunk>, before: usize, count: usize)
     requires place { before ≤ length chunks.old.items }
     requires fit { AreFit chunks.old.items }
     requires empty { All IsSpare spare.old.items }

@@ -6,7 +6,7 @@ ghost use Rattle.text_list.specs.Numbers.{counted};
 ghost use Rattle.text_list.specs.RoomyNumbers.{IsSpare, CanTake};
 
 use crate::chunk::{Chunk, MOST_NUMBERS};
-use crate::opening::{add_zeros, boundary, spot_with_room};
+use crate::opening::open_chunks;
 use crate::removing::take_out;
 use std::alloc::{AllocError, Global};
 use std::marker::Model;
@@ -164,19 +164,14 @@ impl Places {
         if count == 0 {
             return;
         }
-        let spot = spot_with_room(self.chunks.as_slice(), self.starts.as_slice(), at, count);
-        if let Some(spot) = spot {
-            self.chunks[spot.chunk].open(spot.inside, count);
-        } else {
-            let chunk = boundary(
-                &mut self.chunks,
-                self.starts.as_slice(),
-                &mut self.spare,
-                at,
-                self.len,
-            );
-            add_zeros(&mut self.chunks, &mut self.spare, chunk, count);
-        }
+        open_chunks(
+            &mut self.chunks,
+            self.starts.as_slice(),
+            &mut self.spare,
+            at,
+            self.len,
+            count,
+        );
         self.len = set_starts(self.chunks.as_slice(), &mut self.starts);
     }
 

@@ -159,8 +159,10 @@ impl Places {
     fn open(&mut self, at: usize, count: usize)
         requires place { at ≤ length self.old.numbers }
         requires room { count ≤ self.old.room }
-        ensures { self.new.numbers ≡ insert_slice self.old.numbers at (replicate count 0) }
+        ensures numbers { self.new.numbers ≡ insert_slice self.old.numbers at (replicate count 0) }
+        ensures few { length self.old.numbers + count ≤ MOST_PLACES }
     {
+        let len = self.len;
         if count == 0 {
             return;
         }
@@ -169,7 +171,7 @@ impl Places {
             self.starts.as_slice(),
             &mut self.spare,
             at,
-            self.len,
+            len,
             count,
         );
         self.len = set_starts(self.chunks.as_slice(), &mut self.starts);

@@ -1,12 +1,13 @@
 -- Lists of texts by their numbers.
-use Rattle.std.proofs.Common.{◌≡◌, ℕ, suc, ◌+◌, ◌-◌, ◌<◌, ◌≤◌, ◌⊎◌, inl, inr, List, [], ◌∷◌, ◌++◌, length, get_or, take, drop, map, Some, slice_get, Result, Ok, Err, refl, ap, sym, ◌∙◌, subst, arith, append_assoc, length-append}
+use Rattle.std.proofs.Common.{◌≡◌, ℕ, zero, suc, ◌+◌, ◌-◌, ◌<◌, ◌≤◌, ◌⊎◌, inl, inr, List, [], ◌∷◌, ◌++◌, length, get_or, take, drop, map, Some, None, slice_get, Result, Ok, Err, refl, ap, sym, ◌∙◌, subst, arith, append_assoc, length-append}
 use Rattle.std.specs.Prelude.{OnOk, OnErr, slice_set, slice_range}
 use Rattle.std.specs.List.{All, insert_slice, remove_range}
-use Rattle.std.proofs.lemmas.List.{get_or_append_left, get_or_push, get_or_at, map-append, map-set, map_push, take-map, drop-map}
-use Rattle.std.proofs.lemmas.List.Elements.{All-tail, All-push, All-weaker}
+use Rattle.std.proofs.lemmas.List.{get_or_append_left, get_or_push, get_or_at, take_more, map-append, map-set, map_push, take-map, drop-map}
+use Rattle.std.proofs.lemmas.List.Elements.{All-tail, All-push, All-append, All-take, All-drop, All-weaker}
 use Rattle.std.proofs.lemmas.Option.{get_or_from_slice_get, slice_get_within}
 use Rattle.std.proofs.lemmas.Result.{on_ok_weaker, on_err_weaker}
 use Rattle.text_list.specs.Numbers.{texts_at, AreWithin, counted}
+use Rattle.text_list.proofs.GapLemmas.{length-counted, get_or-counted}
 
 -- the texts of numbers stay when texts are added
 pub texts_more : (xs ys : List (List ℕ)) (ns : List ℕ) → AreWithin xs ns → texts_at (xs ++ ys) ns ≡ texts_at xs ns
@@ -72,3 +73,50 @@ counted_texts xs (y ∷ ys) first e =
     let next : suc first ≡ length (xs ++ y ∷ []) = omega (arith, e, length-append xs (y ∷ [])) in
     ap (λ (x : List ℕ). x ∷ texts_at (xs ++ (y ∷ ys)) (counted (suc first) (length ys))) (get_or_at xs y ys [] first (sym e))
     ∙ ap (λ (ts : List (List ℕ)). y ∷ texts_at ts (counted (suc first) (length ys))) whole ∙ ap (λ (ts : List (List ℕ)). y ∷ ts) (counted_texts (xs ++ y ∷ []) ys (suc first) next)
+
+pub within_inserted : (texts : List (List ℕ)) (ns zs ms : List ℕ) (i : ℕ) → ms ≡ insert_slice ns i zs → AreWithin texts ns → AreWithin texts zs → AreWithin texts ms
+within_inserted texts ns zs ms i e w v =
+    let P : ℕ → Type 0 = λ m. m < length texts in
+    subst (AreWithin texts) (sym e) (All-append P (take i ns ++ zs) (drop i ns) (All-append P (take i ns) zs (All-take P i ns w) v) (All-drop P i ns w))
+
+pub within_range : (texts : List (List ℕ)) (ns : List ℕ) (i j : ℕ) → AreWithin texts ns → AreWithin texts (slice_range ns i j)
+within_range texts ns i j w = let P : ℕ → Type 0 = λ m. m < length texts in All-take P (j - i) (drop i ns) (All-drop P i ns w)
+
+pub duplicate_texts : (texts old : List (List ℕ)) (ns ms : List ℕ) (i j : ℕ) → ms ≡ insert_slice ns i (slice_range ns i j) → texts_at texts ns ≡ old → texts_at texts ms ≡ insert_slice old i (slice_range old i j)
+duplicate_texts texts old ns ms i j e f =
+    insert_texts texts ns (slice_range ns i j) ms i e ∙ ap (insert_slice (texts_at texts ns) i) (range_texts texts ns i j) ∙ ap (λ (ts : List (List ℕ)). insert_slice ts i (slice_range ts i j)) f
+
+-- Texts that come in behind the others, with a place for each.
+module _ (kept loose more added old : List (List ℕ)) (ns ms : List ℕ) (i first count : ℕ) (e : more ≡ loose ++ added) (f : ms ≡ insert_slice ns i (counted first count)) (n : first ≡ length kept + length loose) (c : count ≡ length added)
+    (w : AreWithin (kept ++ loose) ns) where
+  whole : kept ++ more ≡ (kept ++ loose) ++ added
+  whole = ap (λ (ts : List (List ℕ)). kept ++ ts) e ∙ sym (append_assoc kept loose added)
+
+  next : first ≡ length (kept ++ loose)
+  next = omega (arith, n, length-append kept loose)
+
+  pub inserted_texts : texts_at (kept ++ loose) ns ≡ old → texts_at (kept ++ more) ms ≡ insert_slice old i added
+  inserted_texts g =
+      insert_texts (kept ++ more) ns (counted first count) ms i f
+      ∙ ap (λ (ts : List (List ℕ)). insert_slice (texts_at ts ns) i (texts_at ts (counted first count))) whole
+      ∙ ap (λ (ts : List (List ℕ)). insert_slice ts i (texts_at ((kept ++ loose) ++ added) (counted first count))) (texts_more (kept ++ loose) added ns w ∙ g)
+      ∙ ap (λ k. insert_slice old i (texts_at ((kept ++ loose) ++ added) (counted first k))) c ∙ ap (insert_slice old i) (counted_texts (kept ++ loose) added first next)
+
+  pub inserted_within : AreWithin (kept ++ more) ms
+  inserted_within =
+      let all : length (kept ++ more) ≡ first + count = omega (arith, ap length whole, length-append (kept ++ loose) added, next, c) in
+      let new : AreWithin (kept ++ more) (counted first count) = λ k d h.
+      let less : k < count = omega (arith, h, length-counted first count) in
+      omega (arith, get_or-counted first count k d less, less, all)
+      in
+      within_inserted (kept ++ more) ns (counted first count) ms i f (subst (λ ts. AreWithin ts ns) (sym whole) (within_more (kept ++ loose) added ns w)) new
+
+-- one text more of a list
+pub text_more : (texts old new : List (List ℕ)) (at : ℕ) (x : List ℕ) → old ≡ take at texts → new ≡ old ++ x ∷ [] → Some x ≡ slice_get texts at → new ≡ take (at + 1) texts
+text_more texts old new at x e f g =
+    f ∙ ap (λ (ts : List (List ℕ)). ts ++ x ∷ []) e ∙ ap (λ (y : List ℕ). take at texts ++ y ∷ []) (sym (get_or_from_slice_get texts at x [] (sym g))) ∙ sym (take_more texts at [] (slice_get_within texts at x (sym g)))
+
+pub no_text : {X : Type 0} (texts : List X) (at : ℕ) → None ≡ slice_get texts at → at < length texts → ⊥
+no_text [] at e h = omega (arith, h)
+no_text (x ∷ xs) zero e h = cc
+no_text (x ∷ xs) (suc at) e h = no_text xs at e (omega (arith, h))

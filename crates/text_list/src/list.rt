@@ -1,5 +1,5 @@
 // The list of the texts of a document.
-ghost use Rattle.std.specs.Prelude.{◌^◌, ◌≡◌, ◌+◌, ◌<◌, ◌≤◌, ◌++◌, length, slice_get, slice_range, slice_set, IfOk, IsOk, OnOk, OnErr};
+ghost use Rattle.std.specs.Prelude.{◌^◌, ◌≡◌, ◌+◌, ◌<◌, ◌≤◌, ◌++◌, length, slice_get, slice_range, slice_set, vec_len, vec_capacity, IfOk, IsOk, OnOk, OnErr};
 ghost use Rattle.std.specs.List.{insert_slice, remove_range};
 ghost use Rattle.std.specs.Option.{option_copied};
 
@@ -104,14 +104,15 @@ impl TextList {
         ensures err { OnErr result (self.new.texts ≡ self.old.texts) }
         ensures succeeds { length texts ≤ self.old.room → IsOk result }
     {
-        let mut added = texts.into_vec();
+        let added = texts.into_vec();
         let count = added.as_slice().len();
         self.reserve(count as u64)?;
-        let first = self.kept.len() + self.loose.as_slice().len();
-        self.loose.append(&mut added).unwrap();
-        if count > 0 {
-            self.places.insert(at as usize, first as u32, count);
+        if count == 0 {
+            return Ok(());
         }
+        let first = self.kept.len() + self.loose.as_slice().len();
+        put_behind(&mut self.loose, added);
+        self.places.insert(at as usize, first as u32, count);
         Ok(())
     }
 
@@ -216,4 +217,12 @@ fn text_of<'a>(kept: &'a Blob, loose: &'a [Bytes], number: usize) -> Option<&'a 
         Some(text) => Some(text.as_slice()),
         None => None,
     }
+}
+
+// Puts texts behind the others. It takes no memory.
+fn put_behind(loose: &mut Vec<Bytes>, mut added: Vec<Bytes>)
+    requires { vec_len loose.old + vec_len added ≤ vec_capacity loose.old }
+    ensures { loose.new.items ≡ loose.old.items ++ added.items }
+{
+    loose.append(&mut added).unwrap();
 }

@@ -1,1 +1,5 @@
 pub mod RoomyTexts
+pub mod RoomyNumbers
+pub mod Numbers
+pub mod Pieces
+pub mod Chunks

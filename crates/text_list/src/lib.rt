@@ -1,9 +1,17 @@
 //! The texts of a document: the values, in document order, of all nodes that have one.
 //!
-//! `TextList` holds them. Callers see a list of lists of bytes and the room that is left in it, so that the inside, as yet a
-//! plain list, may change. Each edit moves what is behind it at most once.
+//! `TextTable` takes them while a document is read, and keeps each different text once. `TextList` is the list of an open
+//! document, which edits change. Callers see lists of lists of bytes. Inside, a list is numbers of texts, in chunks, so that an
+//! edit moves the numbers of one chunk and no text.
 #![tactic(auto)]
 
+mod blob;
+mod chunk;
 mod list;
+mod opening;
+mod places;
+mod removing;
+mod table;
 
 pub use list::TextList;
+pub use table::TextTable;

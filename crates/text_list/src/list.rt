@@ -1,35 +1,53 @@
 // The list of the texts of a document.
-ghost use Rattle.std.specs.Prelude.{◌^◌, ◌≡◌, ◌+◌, ◌<◌, ◌≤◌, length, slice_get, slice_range, slice_set, IfOk, IsOk, OnOk, OnErr};
+ghost use Rattle.std.specs.Prelude.{◌^◌, ◌≡◌, ◌+◌, ◌<◌, ◌≤◌, ◌++◌, length, slice_get, slice_range, slice_set, vec_len, vec_capacity, IfOk, IsOk, OnOk, OnErr};
 ghost use Rattle.std.specs.List.{insert_slice, remove_range};
 ghost use Rattle.std.specs.Option.{option_copied};
 
+use crate::blob::Blob;
+use crate::chunk::MOST_NUMBERS;
+use crate::places::Places;
+use crate::table::TextTable;
 use plain_tree::{Bytes, Texts};
-use std::alloc::{AllocError, Global};
+use std::alloc::AllocError;
 use std::marker::Model;
-use std::mem::size_of_val;
 
-/// A list of texts, seen as their list with its `room`: how many more can be put in without memory.
+/// A list of texts, seen as their list with its `room`: how many more can be put in at one place without memory.
+///
+/// A text that has gone from the list may stay in memory until `reserve` makes the list anew.
 #[derive(Drop)]
 pub struct TextList {
-    texts: Vec<Bytes>,
+    kept: Blob,
+    // Texts that edits brought since the list was made. Their numbers come behind those of the kept ones.
+    loose: Vec<Bytes>,
+    places: Places,
 }
 
+// How many numbers there are for texts.
+const MOST_TEXTS: usize = 1 << 32;
+
 impl Model for TextList {
-    ghost use Rattle.std.specs.Prelude.{◌-◌, vec_len, vec_capacity};
-    ghost use Rattle.text_list.specs.RoomyTexts.{RoomyTexts};
+    ghost use Rattle.std.specs.Prelude.{◌-◌, ◌+◌, ◌++◌, length, min, vec_len, vec_capacity};
+    ghost use Rattle.text_list.specs.RoomyTexts.{RoomyTexts, room_among};
+    ghost use Rattle.text_list.specs.Numbers.{texts_at, AreWithin};
 
     ghost Value = { RoomyTexts };
 
-    ghost view = { λ t. record { texts = t.texts.items; room = vec_capacity t.texts - vec_len t.texts } };
+    ghost view = { λ t. record { texts = texts_at (t.kept ++ t.loose.items) t.places.numbers; room = room_among (length t.kept + vec_len t.loose) (vec_capacity t.loose - vec_len t.loose) t.places.room } };
+
+    ghost invariant = { λ t. AreWithin (t.kept ++ t.loose.items) t.places.numbers };
 }
 
 impl TextList {
     /// The list of these texts. It takes no memory.
-    pub fn new(texts: Texts) -> TextList
+    pub fn new(texts: TextTable) -> TextList
         ensures { result.texts ≡ texts }
     {
+        let (mut kept, places) = texts.into_parts();
+        kept.shrink();
         TextList {
-            texts: texts.into_vec(),
+            loose: Vec::new(kept.allocator()),
+            kept,
+            places,
         }
     }
 
@@ -38,68 +56,77 @@ impl TextList {
         ensures value { result ≡ length self.now.texts }
         ensures few { result < 2 ^ 60 }
     {
-        // The bytes that they take, more than 16 each, are counted in 64 bits.
-        let _size = size_of_val(self.texts.as_slice());
-        self.texts.len() as u64
+        self.places.len() as u64
     }
 
-    /// How many more texts can be put in without memory.
+    /// How many more texts can be put in at one place without memory.
     pub fn room(&self) -> u64
         ensures { result ≡ self.now.room }
     {
-        (self.texts.capacity() - self.texts.len()) as u64
+        let numbers = MOST_TEXTS.saturating_sub(self.kept.len().saturating_add(self.loose.len()));
+        let loose = self.loose.capacity() - self.loose.len();
+        numbers.min(loose).min(self.places.room()) as u64
     }
 
     /// The text at a place, and None exactly where the place isn't below the length.
     pub fn get(&self, at: u64) -> Option<&[u8]>
         ensures { option_copied result ≡ slice_get self.now.texts at }
     {
-        match self.texts.get(at as usize) {
-            Some(text) => Some(text.as_slice()),
+        match self.places.get(at as usize) {
+            Some(number) => text_of(&self.kept, self.loose.as_slice(), number as usize),
             None => None,
         }
     }
 
-    /// Makes room for this many more texts. It is refused only for want of memory, and then nothing has changed.
+    /// Makes room for this many more texts at one place. It is refused only for want of memory or of numbers for texts. Where
+    /// there is no room yet and edits have left much behind, it makes the list anew.
     pub fn reserve(&mut self, more: u64) -> Result<(), AllocError>
         ensures texts { self.new.texts ≡ self.old.texts }
         ensures room { OnOk result (more ≤ self.new.room) }
         ensures grown { self.old.room ≤ self.new.room }
         ensures succeeds { more ≤ self.old.room → IsOk result }
-        ensures err { OnErr result (self.new ≡ self.old) }
     {
-        self.texts.reserve(more as usize)
+        if more <= self.room() {
+            return Ok(());
+        }
+        if self.is_worn() {
+            self.make_anew(more)
+        } else {
+            self.grow(more)
+        }
     }
 
-    /// Puts texts before the one at a place, or at the end. It takes no memory where there is room for them. It is refused only
-    /// for want of memory, and then nothing has changed.
+    /// Puts texts before the one at a place, or at the end. It takes no memory where there is room for them, and it may use up
+    /// the room as a whole, so that a later call reserves anew. It is refused only as `reserve` is.
     pub fn insert(&mut self, at: u64, texts: Texts) -> Result<(), AllocError>
         requires { at ≤ length self.old.texts }
         ensures texts { OnOk result (self.new.texts ≡ insert_slice self.old.texts at texts) }
-        ensures room { self.old.room ≤ self.new.room + length texts }
+        ensures err { OnErr result (self.new.texts ≡ self.old.texts) }
         ensures succeeds { length texts ≤ self.old.room → IsOk result }
-        ensures err { OnErr result (self.new ≡ self.old) }
     {
-        let mut added = texts.into_vec();
-        let more = added.len();
-        self.texts.reserve(more)?;
-        self.texts.append(&mut added)?;
-        self.texts.as_mut_slice()[at as usize..].rotate_right(more);
+        let added = texts.into_vec();
+        let count = added.as_slice().len();
+        self.reserve(count as u64)?;
+        if count == 0 {
+            return Ok(());
+        }
+        let first = self.kept.len() + self.loose.as_slice().len();
+        put_behind(&mut self.loose, added);
+        self.places.insert(at as usize, first as u32, count);
         Ok(())
     }
 
-    /// Puts a copy of the texts of a range, `count` from the one at `at` on, before them. It is refused only for want of memory,
-    /// and then nothing has changed.
+    /// Puts a copy of the texts of a range, `count` from the one at `at` on, before them. It takes no memory where there is room
+    /// for them, and it may use up the room as a whole, so that a later call reserves anew. It is refused only as `reserve` is.
     pub fn duplicate(&mut self, at: u64, count: u64) -> Result<(), AllocError>
         requires { at + count ≤ length self.old.texts }
         ensures texts { OnOk result (self.new.texts ≡ insert_slice self.old.texts at (slice_range self.old.texts at (at + count))) }
-        ensures room { self.old.room ≤ self.new.room + count }
-        ensures err { OnErr result (self.new ≡ self.old) }
+        ensures err { OnErr result (self.new.texts ≡ self.old.texts) }
+        ensures succeeds { count ≤ self.old.room → IsOk result }
     {
-        let alloc = *self.texts.allocator();
-        let range = &self.texts[at as usize..(at + count) as usize];
-        let copy = copy_of(alloc, range)?;
-        self.insert(at, copy)
+        self.reserve(count)?;
+        self.places.duplicate(at as usize, count as usize);
+        Ok(())
     }
 
     /// Takes out `count` texts from the one at `at` on. It takes no memory.
@@ -108,26 +135,94 @@ impl TextList {
         ensures texts { self.new.texts ≡ remove_range self.old.texts at (at + count) }
         ensures room { self.old.room ≤ self.new.room }
     {
-        self.texts.drain(at as usize..(at + count) as usize);
+        self.places.remove_range(at as usize, count as usize);
     }
 
-    /// Puts a text in the place of another. It takes no memory.
+    /// Puts a text in the place of another, where there is room for one. It takes no memory.
     pub fn set(&mut self, at: u64, value: Bytes)
-        requires { at < length self.old.texts }
+        requires place { at < length self.old.texts }
+        requires room { 0 < self.old.room }
         ensures texts { self.new.texts ≡ slice_set self.old.texts at value }
-        ensures room { self.new.room ≡ self.old.room }
+        ensures room { self.old.room ≤ self.new.room + 1 }
     {
-        self.texts[at as usize] = value;
+        let number = self.kept.len() + self.loose.as_slice().len();
+        self.loose.push_reserved(value);
+        self.places.set(at as usize, number as u32);
+    }
+
+    // Whether edits have left so much behind that the list is better made anew. Only many edits bring that about.
+    fn is_worn(&self) -> bool {
+        let len = self.places.len();
+        let many_loose = self.loose.len() > LEAST_LOOSE.max(len / 2);
+        let many_chunks = self.places.chunks() > LEAST_CHUNKS + len / MOST_NUMBERS * 2;
+        many_loose || many_chunks
+    }
+
+    // Makes room within this list.
+    fn grow(&mut self, more: u64) -> Result<(), AllocError>
+        ensures texts { self.new.texts ≡ self.old.texts }
+        ensures room { OnOk result (more ≤ self.new.room) }
+        ensures grown { self.old.room ≤ self.new.room }
+    {
+        self.loose.reserve(more as usize)?;
+        self.places.reserve(more as usize)?;
+        if self.room() < more {
+            return Err(AllocError);
+        }
+        Ok(())
+    }
+
+    // Makes a new list of the same texts, with this room and no less than there was.
+    fn make_anew(&mut self, more: u64) -> Result<(), AllocError>
+        ensures texts { self.new.texts ≡ self.old.texts }
+        ensures room { OnOk result (more ≤ self.new.room) }
+        ensures grown { self.old.room ≤ self.new.room }
+    {
+        let room = more.max(self.room());
+        let mut fresh = TextList::new(self.table()?);
+        fresh.grow(room)?;
+        *self = fresh;
+        Ok(())
+    }
+
+    // The texts of the list, each different one kept once.
+    fn table(&self) -> Result<TextTable, AllocError>
+        ensures { IfOk result (λ t. t ≡ self.now.texts) }
+    {
+        let mut table = TextTable::new(*self.loose.allocator());
+        for at in 0..self.len() {
+            if let Some(text) = self.get(at) {
+                table.push(text)?;
+            }
+        }
+        Ok(table)
     }
 }
 
-// A copy of texts.
-fn copy_of(alloc: Global, texts: &[Bytes]) -> Result<Texts, AllocError>
-    ensures { IfOk result (λ copy. copy ≡ texts.now) }
+// A list with no more loose texts than this isn't made anew for them.
+const LEAST_LOOSE: usize = 4096;
+
+// A list with no more chunks than this isn't made anew for them.
+const LEAST_CHUNKS: usize = 1024;
+
+// The text of a number: a kept one, or behind them a loose one.
+fn text_of<'a>(kept: &'a Blob, loose: &'a [Bytes], number: usize) -> Option<&'a [u8]>
+    ensures { option_copied result ≡ slice_get (kept.now ++ loose.now) number }
 {
-    let mut copy = Texts::new(alloc);
-    for text in texts {
-        copy.push(Bytes::from_slice(alloc, text.as_slice())?)?;
+    let count = kept.len();
+    if number < count {
+        return kept.get(number);
     }
-    Ok(copy)
+    match loose.get(number - count) {
+        Some(text) => Some(text.as_slice()),
+        None => None,
+    }
+}
+
+// Puts texts behind the others. It takes no memory.
+fn put_behind(loose: &mut Vec<Bytes>, mut added: Vec<Bytes>)
+    requires { vec_len loose.old + vec_len added ≤ vec_capacity loose.old }
+    ensures { loose.new.items ≡ loose.old.items ++ added.items }
+{
+    loose.append(&mut added).unwrap();
 }

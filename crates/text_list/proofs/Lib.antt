@@ -1,0 +1,5 @@
+pub mod PieceLemmas
+pub mod ChunkLemmas
+pub mod MovedLemmas
+pub mod GapLemmas
+pub mod NumberLemmas

@@ -1,0 +1,205 @@
+// The texts of a document while it is read.
+ghost use Rattle.std.specs.Prelude.{◌≡◌, ◌++◌, [], ◌∷◌, ◌⊎◌, Some, length, slice_get, OnOk, OnErr, IfOk, IfSome};
+ghost use Rattle.std.specs.Option.{option_copied};
+ghost use Rattle.text_list.specs.Numbers.{texts_at, AreWithin};
+
+use crate::blob::Blob;
+use crate::places::Places;
+use std::alloc::{AllocError, Global};
+use std::hash::{FoldHasher, Hasher};
+use std::marker::Model;
+
+/// A list of texts that grows at its end while a document is read, each different one kept once.
+#[derive(Drop)]
+pub struct TextTable {
+    texts: Interned,
+    places: Places,
+}
+
+impl Model for TextTable {
+    ghost use Rattle.std.specs.Prelude.{List, ℕ};
+    ghost use Rattle.text_list.specs.Numbers.{texts_at, AreWithin};
+
+    ghost Value = { List (List ℕ) };
+
+    ghost view = { λ t. texts_at t.texts t.places.numbers };
+
+    ghost invariant = { λ t. AreWithin t.texts t.places.numbers };
+}
+
+impl TextTable {
+    /// No texts. It takes no memory.
+    pub fn new(alloc: Global) -> TextTable
+        ensures { result ≡ [] }
+    {
+        TextTable {
+            texts: Interned::new(alloc),
+            places: Places::new(alloc),
+        }
+    }
+
+    /// Adds a text at the end. It is refused for want of memory, and where there are 2^31 different texts.
+    pub fn push(&mut self, text: &[u8]) -> Result<(), AllocError>
+        ensures ok { OnOk result (self.new ≡ self.old ++ text.now ∷ []) }
+        ensures err { OnErr result (self.new ≡ self.old) }
+    {
+        let number = self.texts.number_of(text)?;
+        self.places.push(number)
+    }
+
+    pub fn len(&self) -> usize
+        ensures { result ≡ length self.now }
+    {
+        self.places.len()
+    }
+
+    /// The text at a place, and None exactly where the place isn't below the length.
+    pub fn get(&self, at: usize) -> Option<&[u8]>
+        ensures { option_copied result ≡ slice_get self.now at }
+    {
+        match self.places.get(at) {
+            Some(number) => self.texts.get(number as usize),
+            None => None,
+        }
+    }
+
+    // The different texts and the numbers of the list. The table by which texts are found is dropped.
+    pub(crate) fn into_parts(self) -> (Blob, Places)
+        ensures texts { texts_at result.0 result.1.numbers ≡ self }
+        ensures within { AreWithin result.0 result.1.numbers }
+    {
+        (self.texts.into_blob(), self.places)
+    }
+}
+
+// How many different texts there are at most, so that the texts of edits find numbers of 32 bits.
+const MOST_TEXTS: usize = 1 << 31;
+
+// How many slots a text is looked for in.
+const MOST_LOOKS: usize = 8;
+
+// A slot that names no text.
+const FREE: u32 = u32::MAX;
+
+// The different texts, by their numbers.
+//
+// A slot is a hint: the text that it names is compared, so that two texts of one hash cost room and nothing else. A text that
+// finds no slot among a few drives out another one, which is then kept twice.
+#[derive(Drop)]
+struct Interned {
+    texts: Blob,
+    slots: Vec<u32>,
+}
+
+impl Model for Interned {
+    ghost use Rattle.std.specs.Prelude.{List, ℕ};
+
+    ghost Value = { List (List ℕ) };
+
+    ghost view = { λ s. s.texts };
+}
+
+impl Interned {
+    fn new(alloc: Global) -> Interned
+        ensures { result ≡ [] }
+    {
+        Interned {
+            texts: Blob::new(alloc),
+            slots: Vec::new(alloc),
+        }
+    }
+
+    fn get(&self, number: usize) -> Option<&[u8]>
+        ensures { option_copied result ≡ slice_get self.now number }
+    {
+        self.texts.get(number)
+    }
+
+    fn into_blob(self) -> Blob
+        ensures { result ≡ self }
+    {
+        self.texts
+    }
+
+    // The number of a text, which is added where it isn't found.
+    fn number_of(&mut self, text: &[u8]) -> Result<u32, AllocError>
+        ensures number { IfOk result (λ n. slice_get self.new n ≡ Some text.now) }
+        ensures grown { (self.new ≡ self.old) ⊎ (self.new ≡ self.old ++ text.now ∷ []) }
+    {
+        if self.texts.len() >= self.slots.len() / 2 {
+            self.widen()?;
+        }
+        let slot = slot_of(&self.texts, self.slots.as_slice(), text);
+        if let Some(number) = self.found(slot, text) {
+            return Ok(number);
+        }
+        let len = self.texts.len();
+        if len >= MOST_TEXTS {
+            return Err(AllocError);
+        }
+        let number = len as u32;
+        self.texts.push(text)?;
+        if slot < self.slots.len() {
+            self.slots[slot] = number;
+        }
+        Ok(number)
+    }
+
+    // The number in a slot, where it names this very text.
+    fn found(&self, slot: usize, text: &[u8]) -> Option<u32>
+        ensures { IfSome result (λ n. slice_get self.now n ≡ Some text.now) }
+    {
+        let number = *self.slots.get(slot)?;
+        let found = self.texts.get(number as usize)?;
+        if found == text { Some(number) } else { None }
+    }
+
+    // Doubles the slots, and finds each text a new one.
+    fn widen(&mut self) -> Result<(), AllocError>
+        ensures { self.new ≡ self.old }
+    {
+        let alloc = *self.slots.allocator();
+        let count = self.slots.len().saturating_mul(2).max(16);
+        let mut slots = vec![in alloc; FREE; count]?;
+        for number in 0..self.texts.len().min(MOST_TEXTS) {
+            let Some(text) = self.texts.get(number) else {
+                break;
+            };
+            let slot = slot_of(&self.texts, slots.as_slice(), text);
+            if slot < slots.len() {
+                slots[slot] = number as u32;
+            }
+        }
+        self.slots = slots;
+        Ok(())
+    }
+}
+
+// The slot for a text: the first, from its hash on, that names the text or none, and else the last of those that are looked at.
+fn slot_of(texts: &Blob, slots: &[u32], text: &[u8]) -> usize {
+    let hash = hash_of(text);
+    let mut slot = 0;
+    for look in 0..MOST_LOOKS {
+        slot = slot_at(hash, look, slots.len());
+        let number = slots.get(slot).copied().unwrap_or(FREE);
+        match texts.get(number as usize) {
+            Some(other) if other != text => (),
+            _ => return slot,
+        }
+    }
+    slot
+}
+
+// So many slots behind the one of a hash, round at the end.
+fn slot_at(hash: u64, look: usize, count: usize) -> usize {
+    if count == 0 {
+        return 0;
+    }
+    (hash as usize).wrapping_add(look) % count
+}
+
+fn hash_of(text: &[u8]) -> u64 {
+    let mut hasher = FoldHasher::default();
+    hasher.write(text);
+    hasher.finish()
+}

@@ -5,5 +5,7 @@
 #![tactic(auto)]
 
 mod list;
+mod table;
 
 pub use list::TextList;
+pub use table::TextTable;

@@ -3,6 +3,7 @@ ghost use Rattle.std.specs.Prelude.{◌^◌, ◌≡◌, ◌+◌, ◌<◌, ◌≤
 ghost use Rattle.std.specs.List.{insert_slice, remove_range};
 ghost use Rattle.std.specs.Option.{option_copied};
 
+use crate::table::TextTable;
 use plain_tree::{Bytes, Texts};
 use std::alloc::{AllocError, Global};
 use std::marker::Model;
@@ -25,7 +26,7 @@ impl Model for TextList {
 
 impl TextList {
     /// The list of these texts. It takes no memory.
-    pub fn new(texts: Texts) -> TextList
+    pub fn new(texts: TextTable) -> TextList
         ensures { result.texts ≡ texts }
     {
         TextList {

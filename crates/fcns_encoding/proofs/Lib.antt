@@ -5,3 +5,7 @@ pub mod VisitLemmas
 pub mod ListLemmas
 pub mod Stands
 pub mod OpenCodes
+pub mod CellLemmas
+pub mod EventLemmas
+pub mod NameLemmas
+pub mod BuildLemmas

@@ -46,9 +46,9 @@ KeepsTerms old new = (i : ℕ) (t : Term) → slice_get (terms_of old) i ≡ Som
 -- a number is that of a cell, which was in the table or came to its end
 pub record Extends (old : List Cell) (c : Cell) (number : ℕ) (new : List Cell) : Type 0 where
   pub place : ℕ
-  pub number : number ≡ place + 1
+  pub is : number ≡ place + 1
   pub stands : slice_get new place ≡ Some c
-  pub way : (new ≡ old) ⊎ (new ≡ old ++ c ∷ [])
+  pub way : (new ≡ old) ⊎ ((new ≡ old ++ c ∷ []) × (place ≡ length old))
 
 -- a cell uses the number
 abbrev pub IsUsed : List Cell → ℕ → Type 0

@@ -76,7 +76,8 @@ impl Subterms {
         })?;
         // The call tells that the number fits.
         let _len = self.cells.len();
-        short(index + 1)
+        let number = short(index + 1)?;
+        Ok(number)
     }
 }
 

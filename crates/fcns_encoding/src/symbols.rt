@@ -22,7 +22,8 @@ pub(crate) fn symbol(
 {
     begin(alloc, names)?;
     let place = names.intern(alloc, kind, name)?;
-    short(place)
+    let symbol = short(place)?;
+    Ok(symbol)
 }
 
 // Puts the document's pair in front of all others.

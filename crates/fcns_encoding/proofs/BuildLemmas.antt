@@ -177,9 +177,9 @@ module _ (names : List Pair) (terms : List Term) (texts : List (List ℕ)) (stac
         (Builds-leaf names' terms stack log symbol k name value (Builds-keeps names names' terms terms keeps (λ i t h. h) stack log w.built) place leaf zero);
   }
 
-  tells_close : (terms' : List Term) (parts stack' : List Part) (number symbol : ℕ) → Taken names terms' parts log number (Some symbol) → stack' ≡ parts ++ Whole symbol number ∷ []
+  pub tells_closed : (terms' : List Term) (parts stack' : List Part) (number symbol : ℕ) → Taken names terms' parts log number (Some symbol) → stack' ≡ parts ++ Whole symbol number ∷ []
       → Tells names terms' texts stack' (log ++ Closed ∷ [])
-  tells_close terms' parts stack' number symbol t e = record {
+  tells_closed terms' parts stack' number symbol t e = record {
     named = close_named log (t.whole ∙ ap (λ es. es ++ events_all t.kids []) t.stood.3) w.named;
     texts = w.texts ∙ sym (texts-append log (Closed ∷ []) ∙ append-nil (event_texts log));
     built = subst (λ ps. Builds names terms' ps (log ++ Closed ∷ [])) (sym e) (closed names terms' parts log number symbol t);
@@ -192,10 +192,3 @@ module _ (names : List Pair) (terms : List Term) (texts : List (List ℕ)) (stac
       close_named : (es : List Event) → es ≡ (t.stood.1 ++ Opened t.stood.0 ∷ []) ++ events_all t.kids [] → Interns [] (begun_pairs es) names → Interns [] (begun_pairs (es ++ Closed ∷ [])) names
       close_named [] a h = absurd (opens [] t.stood.1 t.stood.0 a refl)
       close_named (f ∷ es) a h = subst (λ ps. Interns [] ((kind.Document, []) ∷ ps) names) (sym (pairs-append (f ∷ es) (Closed ∷ []) ∙ append-nil (event_pairs (f ∷ es)))) h
-
-  pub tells_closed : (names' : List Pair) (texts' : List (List ℕ)) (terms' : List Term) (parts stack' : List Part) (number symbol : ℕ) (begun : Option ℕ) → names' ≡ names → texts' ≡ texts → begun ≡ Some symbol
-      → Taken names' terms' parts log number begun → stack' ≡ parts ++ Whole symbol number ∷ [] → Tells names' terms' texts' stack' (log ++ Closed ∷ [])
-  tells_closed names' texts' terms' parts stack' number symbol begun en ex eb t e =
-      let t2 : Taken names terms' parts log number (Some symbol) = subst (λ b. Taken names terms' parts log number b) eb (subst (λ ns. Taken ns terms' parts log number begun) en t) in
-      let all = tells_close terms' parts stack' number symbol t2 e in
-      subst (λ ns. Tells ns terms' texts' stack' (log ++ Closed ∷ [])) (sym en) (subst (λ xs. Tells names terms' xs stack' (log ++ Closed ∷ [])) (sym ex) all)

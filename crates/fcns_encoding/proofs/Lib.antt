@@ -9,3 +9,6 @@ pub mod CellLemmas
 pub mod EventLemmas
 pub mod NameLemmas
 pub mod BuildLemmas
+pub mod PartLemmas
+pub mod LogLemmas
+pub mod FolderLemmas

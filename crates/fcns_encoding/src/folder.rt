@@ -11,7 +11,7 @@ ghost use Rattle.slt_grammar.specs.Terms.{Term};
 ghost use Rattle.fcns_encoding.specs.Interning.{Interns, pairs_of_tree};
 ghost use Rattle.fcns_encoding.specs.Subterms.{AreSubterms};
 
-use crate::kids::{Kids, take_kids};
+use crate::kids::take_kids;
 use crate::part::Part;
 use crate::shared_rules::rules_of_table;
 use crate::subterms::Subterms;
@@ -94,10 +94,10 @@ impl Folder {
             mut stack,
             ..
         } = self;
-        let Kids { code, begun } = take_kids(&mut subterms, &mut stack)?;
-        let None = begun else { unreachable!() };
+        let kids = take_kids(&mut subterms, &mut stack)?;
+        let None = kids.begun else { unreachable!() };
         let document = symbol(alloc, &mut names, Kind::Document, b"")?;
-        subterms.node(document, code, 0)?;
+        subterms.node(document, kids.code, 0)?;
         let rules = rules_of_table(alloc, subterms)?;
         let grammar = grammar_of(alloc, rules)?;
         Ok(Folded {
@@ -134,11 +134,11 @@ impl Builder for Folder {
 
     fn close(&mut self) -> Result<(), AllocError> {
         self.sound = false;
-        let Kids { code, begun } = take_kids(&mut self.subterms, &mut self.stack)?;
-        let Some(symbol) = begun else {
+        let kids = take_kids(&mut self.subterms, &mut self.stack)?;
+        let Some(symbol) = kids.begun else {
             unreachable!()
         };
-        self.stack.push(Part::Whole(symbol, code))?;
+        self.stack.push(Part::Whole(symbol, kids.code))?;
         self.sound = true;
         Ok(())
     }

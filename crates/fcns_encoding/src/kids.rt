@@ -1,5 +1,5 @@
 // The kids of an element, taken from the stack.
-ghost use Rattle.std.specs.Prelude.{◌≡◌, ◌∷◌, ◌-◌, List, ℕ, IfOk, is_some, if◌then◌else◌};
+ghost use Rattle.std.specs.Prelude.{◌≡◌, ◌∷◌, ◌+◌, List, ℕ, IfOk, is_some, if◌then◌else◌};
 ghost use Rattle.xml_nodes.specs.Machine.{Event};
 ghost use Rattle.fcns_encoding.specs.Cells.{terms_of, AreUsed};
 ghost use Rattle.fcns_encoding.specs.Folding.{Builds, Taken, waiting, begun_in};
@@ -28,7 +28,7 @@ pub(crate) fn take_kids(
     ensures taken { (names : List Pair) (log : List Event) → Builds names (terms_of subterms.old) stack.old.items log
         → IfOk result (λ k. Taken names (terms_of subterms.new) stack.new.items log k.code k.begun) }
     ensures used { AreUsed subterms.old (waiting stack.old.items) → IfOk result (λ k. AreUsed subterms.new (k.code ∷ waiting stack.new.items)) }
-    ensures depth { IfOk result (λ k. begun_in stack.new.items ≡ begun_in stack.old.items - (if is_some k.begun then 1 else 0)) }
+    ensures depth { IfOk result (λ k. begun_in stack.old.items ≡ begun_in stack.new.items + (if is_some k.begun then 1 else 0)) }
 {
     let mut code = 0;
     while let Some(part) = stack.pop() {

@@ -12,3 +12,4 @@ pub mod BuildLemmas
 pub mod PartLemmas
 pub mod LogLemmas
 pub mod FolderLemmas
+pub mod SharingLemmas

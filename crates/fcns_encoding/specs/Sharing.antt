@@ -15,10 +15,15 @@ abbrev pub used_by : List Cell → List ℕ
 used_by [] = []
 used_by (c ∷ cs) = c.first ∷ c.second ∷ used_by cs
 
+-- one where the test holds
+abbrev pub one_if : Bool → ℕ
+one_if true = 1
+one_if false = 0
+
 -- how often a number stands in a list
 abbrev pub times : ℕ → List ℕ → ℕ
 times number [] = 0
-times number (k ∷ ks) = (if eqb k number then 1 else 0) + times number ks
+times number (k ∷ ks) = one_if (eqb k number) + times number ks
 
 abbrev pub uses_for : ℕ → Uses
 uses_for zero = Never
@@ -37,7 +42,7 @@ is_ruled cells (suc k) = eqb (suc k) (length cells) || nat_le 2 (times (suc k) (
 -- the place of a number's rule: how many numbers below it have one
 abbrev pub rule_place : List Cell → ℕ → ℕ
 rule_place cells zero = 0
-rule_place cells (suc k) = rule_place cells k + (if is_ruled cells k then 1 else 0)
+rule_place cells (suc k) = rule_place cells k + one_if (is_ruled cells k)
 
 -- what stands for a number where it is used: a call of its rule, if it has one, or a symbol and what stands for the numbers below
 abbrev pub part_of : List Cell → ℕ → Cell → List Label → List Label → List Label
@@ -68,10 +73,15 @@ pub record ArePlaces (cells : List Cell) (at : ℕ) (places : List (Option ℕ))
   pub others : (k : ℕ) → k ≤ at → is_ruled cells k ≡ false → slice_get places k ≡ Some None
   pub later : (k : ℕ) → at < k → k < length places → slice_get places k ≡ Some None
 
--- what stands for a number
+-- what stands for a number: a label, or a cell over numbers below it
 abbrev pub Stands : List Cell → ℕ → Written → Type 0
 Stands cells number (Whole label) = part_at cells number ≡ label ∷ []
-Stands cells number (Over c) = part_at cells number ≡ body_of cells c
+Stands cells number (Over c) = (part_at cells number ≡ body_of cells c) × (c.first ≤ number) × (c.second ≤ number)
+
+-- no number is above this one
+abbrev pub AreBelow : ℕ → List ℕ → Type 0
+AreBelow at [] = Unit {0}
+AreBelow at (k ∷ ks) = (k ≤ at) × AreBelow at ks
 
 -- what stands for the numbers on a stack, the top first
 abbrev pub pending : List Cell → List ℕ → List Label

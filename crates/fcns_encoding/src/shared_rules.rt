@@ -1,9 +1,9 @@
 // Rules made of the table of subterms.
-ghost use Rattle.std.specs.Prelude.{◌≡◌, ◌<◌, ◌≤◌, ◌+◌, ◌++◌, ◌∷◌, [], ◌^◌, ℕ, List, length, IfOk, OnOk, Some, None, slice_get};
+ghost use Rattle.std.specs.Prelude.{suc, ◌≡◌, ◌<◌, ◌≤◌, ◌+◌, ◌++◌, ◌∷◌, [], ◌^◌, ℕ, List, length, IfOk, OnOk, Some, None, slice_get};
 ghost use Rattle.rule_arena.specs.declared.label.Label.TheVariants.{Symbol};
 ghost use Rattle.fcns_encoding.specs.Cells.{AreEarlier, AreDistinctCells};
 ghost use Rattle.fcns_encoding.specs.declared.subterms.Cell.{Cell as TableCell};
-ghost use Rattle.fcns_encoding.specs.Sharing.{used_by, AreCounted, is_ruled, part_at, body_of, rules_of_cells, ArePlaces, Stands};
+ghost use Rattle.fcns_encoding.specs.Sharing.{used_by, uses_for, AreCounted, is_ruled, part_at, body_of, rules_of_cells, ArePlaces, Stands};
 
 use crate::subterms::{Cell, Subterms, short};
 use slt_grammar::{Body, Label, RuleList};
@@ -47,7 +47,9 @@ fn shared_rules(alloc: Global, cells: &[Cell]) -> Result<RuleList, AllocError>
 
 // Marks each number by how often the cells use it.
 fn count_uses(cells: &[Cell], uses: &mut [Uses])
-    requires { AreCounted [] uses.old }
+    requires earlier { AreEarlier cells.now }
+    requires len { length uses.old ≡ length cells.now + 1 }
+    requires counted { AreCounted [] uses.old }
     ensures { AreCounted (used_by cells.now) uses.new }
 {
     for cell in cells {
@@ -57,13 +59,20 @@ fn count_uses(cells: &[Cell], uses: &mut [Uses])
 }
 
 fn count_use(uses: &mut [Uses], number: u32)
+    requires { number < length uses.old }
     ensures { (numbers : List ℕ) → AreCounted numbers uses.old → AreCounted (numbers ++ number ∷ []) uses.new }
 {
-    if let Some(count) = uses.get_mut(number as usize) {
-        *count = match *count {
-            Uses::Never => Uses::Once,
-            Uses::Once | Uses::Often => Uses::Often,
-        };
+    let at = number as usize;
+    let so_far = uses[at];
+    uses[at] = one_more(so_far);
+}
+
+fn one_more(uses: Uses) -> Uses
+    ensures { (n : ℕ) → uses ≡ uses_for n → result ≡ uses_for (suc n) }
+{
+    match uses {
+        Uses::Never => Uses::Once,
+        Uses::Once | Uses::Often => Uses::Often,
     }
 }
 

@@ -13,3 +13,4 @@ pub mod PartLemmas
 pub mod LogLemmas
 pub mod FolderLemmas
 pub mod SharingLemmas
+pub mod RuleLemmas

@@ -14,3 +14,5 @@ pub mod LogLemmas
 pub mod FolderLemmas
 pub mod SharingLemmas
 pub mod RuleLemmas
+pub mod SweptLemmas
+pub mod SizeLemmas

@@ -16,3 +16,6 @@ pub mod SharingLemmas
 pub mod RuleLemmas
 pub mod SweptLemmas
 pub mod SizeLemmas
+pub mod SubtermLemmas
+pub mod StandLemmas
+pub mod FinishLemmas

@@ -45,7 +45,7 @@ part-within cells d number q (inr e) = omega (arith, calls-append q (part_at cel
 
 module _ (cells : List Cell) (low : AreEarlier cells) (m : ℕ) (n : length cells ≡ suc m) (used : AreUsed cells (length cells ∷ [])) where
   -- a number that a cell uses is earlier than the cell's
-  user-later : (i j : ℕ) (d : Cell) → slice_get cells j ≡ Some d → (d.first ≡ suc i) ⊎ (d.second ≡ suc i) → suc i ≤ j
+  pub user-later : (i j : ℕ) (d : Cell) → slice_get cells j ≡ Some d → (d.first ≡ suc i) ⊎ (d.second ≡ suc i) → suc i ≤ j
   user-later i j d e (inl f) = omega (arith, (low j d e).0, f)
   user-later i j d e (inr f) = omega (arith, (low j d e).1, f)
 

@@ -95,6 +95,7 @@ impl Folder {
             ..
         } = self;
         let kids = take_kids(&mut subterms, &mut stack)?;
+        drop(stack);
         let None = kids.begun else { unreachable!() };
         let document = symbol(alloc, &mut names, Kind::Document, b"")?;
         subterms.node(document, kids.code, 0)?;

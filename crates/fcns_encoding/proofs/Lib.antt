@@ -5,3 +5,17 @@ pub mod VisitLemmas
 pub mod ListLemmas
 pub mod Stands
 pub mod OpenCodes
+pub mod CellLemmas
+pub mod EventLemmas
+pub mod NameLemmas
+pub mod BuildLemmas
+pub mod PartLemmas
+pub mod LogLemmas
+pub mod FolderLemmas
+pub mod SharingLemmas
+pub mod RuleLemmas
+pub mod SweptLemmas
+pub mod SizeLemmas
+pub mod SubtermLemmas
+pub mod StandLemmas
+pub mod FinishLemmas

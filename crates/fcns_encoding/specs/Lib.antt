@@ -2,3 +2,8 @@ pub mod Labels
 pub mod Interning
 pub mod Visiting
 pub mod Laws
+pub mod Cells
+pub mod Calls
+pub mod Folding
+pub mod Sharing
+pub mod Subterms

@@ -8,9 +8,16 @@
 #![tactic(auto)]
 
 mod coding;
+mod folder;
+mod kids;
 mod laws;
+mod part;
+mod shared_rules;
+mod subterms;
+mod symbols;
 
 pub use coding::{Coded, encode, encode_list};
+pub use folder::{Folded, Folder};
 pub use laws::{
     code_goes_before, codes_are_kept, encoded_stands_for_its_document, list_names_are_lawful,
     names_are_lawful, names_stay_distinct, one_rule_means_its_term,

@@ -1,0 +1,13 @@
+use Rattle.std.proofs.Common.{◌≡◌, ◌++◌, Some, slice_get, length}
+use Rattle.fcns_encoding.specs.Sharing.{body_of, pending, AreBelow}
+use Rattle.fcns_encoding.specs.declared.subterms.Cell.{Cell}
+use Rattle.fcns_encoding.proofs.shared_rules.write.Given as goal
+
+abbrev pub invariant-loop-number : goal.invariant-loop-number
+invariant-loop-number l = record {
+  written : (c : Cell) → slice_get l.cells l.at ≡ Some c → l.body ++ pending l.cells l.stack.items ≡ body_of l.cells c;
+  below : AreBelow l.at l.stack.items;
+}
+
+abbrev pub decreases-loop-number : goal.decreases-loop-number
+decreases-loop-number l = length (pending l.cells l.stack.items)

@@ -1,0 +1,231 @@
+// A builder that folds what it gets.
+ghost use Rattle.std.specs.Prelude.{◌≡◌, ◌≤◌, ◌*◌, [], List, length, true, IfOk, OnOk};
+ghost use Rattle.plain_tree.specs.Tree.{Tree, none, more};
+ghost use Rattle.plain_tree.specs.Lawful.{IsDocument};
+ghost use Rattle.xml_nodes.specs.Machine.{events};
+ghost use Rattle.slt_grammar.specs.Coding.{Codes};
+ghost use Rattle.slt_grammar.specs.Grammars.{IsGrammar, IsSwept, size};
+ghost use Rattle.slt_grammar.specs.Keyed.{rules_of};
+ghost use Rattle.slt_grammar.specs.Standing.{StandsFor};
+ghost use Rattle.slt_grammar.specs.Terms.{Term};
+ghost use Rattle.fcns_encoding.specs.Interning.{Interns, pairs_of_tree};
+ghost use Rattle.fcns_encoding.specs.Subterms.{AreSubterms};
+
+use crate::kids::take_kids;
+use crate::part::Part;
+use crate::shared_rules::rules_of_table;
+use crate::subterms::Subterms;
+use crate::symbols::symbol;
+use plain_tree::{Kind, Names};
+use slt_grammar::{Grammar, GrammarError, RuleList, check};
+use std::alloc::{AllocError, Global};
+use std::marker::Model;
+use text_list::{TextList, TextTable};
+use xml_nodes::Builder;
+
+/// A document, folded while its calls come; contracts see the calls that it got, whether one was refused, and how many elements
+/// are open.
+///
+/// Each different subterm of the code of what is whole is kept once. The code of a node waits for the nodes behind it, so that
+/// whole nodes stand on a stack, between the elements that were begun, until the element around them is closed.
+#[derive(Drop)]
+pub struct Folder {
+    alloc: Global,
+    names: Names,
+    texts: TextTable,
+    subterms: Subterms,
+    stack: Vec<Part>,
+    sound: bool,
+}
+
+/// What the calls of a document were folded into: a grammar with a rule for each subterm that is used twice or more, the table of
+/// names, and the texts.
+#[derive(Drop)]
+pub struct Folded {
+    pub grammar: Grammar,
+    pub names: Names,
+    pub texts: TextList,
+}
+
+impl Model for Folder {
+    ghost use Rattle.xml_nodes.specs.Taking.{Built};
+    ghost use Rattle.fcns_encoding.specs.Folding.{folded_by, IsFolder};
+
+    ghost Value = { Built };
+
+    ghost view = { λ f. folded_by f.names f.subterms f.texts f.stack.items f.sound };
+
+    ghost invariant = { λ f. IsFolder f.names f.subterms f.texts f.stack.items f.sound };
+}
+
+impl Folder {
+    /// A folder that got no calls. It takes no memory.
+    pub fn new(alloc: Global) -> Folder
+        ensures log { result.log ≡ [] }
+        ensures sound { result.sound ≡ true }
+        ensures depth { result.depth ≡ 0 }
+    {
+        Folder {
+            alloc,
+            names: Names::new(alloc),
+            texts: TextTable::new(alloc),
+            subterms: Subterms::new(alloc),
+            stack: Vec::new(alloc),
+            sound: true,
+        }
+    }
+
+    /// The grammar of the document that has these calls, its names and its texts. It is refused only for want of memory.
+    pub fn finish(self) -> Result<Folded, AllocError>
+        requires sound { self.sound ≡ true }
+        requires depth { self.depth ≡ 0 }
+        ensures stand { IfOk result (λ f. (t : Tree) → IsDocument t → self.log ≡ events t [] → StandsFor (rules_of f.grammar.rules) f.names f.texts.texts t) }
+        ensures names { IfOk result (λ f. (t : Tree) → IsDocument t → self.log ≡ events t [] → Interns [] (pairs_of_tree t) f.names) }
+        ensures grammar { IfOk result (λ f. IsGrammar (rules_of f.grammar.rules)) }
+        ensures swept { IfOk result (λ f. IsSwept (rules_of f.grammar.rules)) }
+        ensures size { IfOk result (λ f. (t : Tree) (term : Term) (terms : List Term) → IsDocument t → self.log ≡ events t []
+            → Codes f.names (more t none) term → AreSubterms terms term → size (rules_of f.grammar.rules) ≤ 3 * length terms) }
+    {
+        let Folder {
+            alloc,
+            mut names,
+            texts,
+            mut subterms,
+            mut stack,
+            ..
+        } = self;
+        let kids = take_kids(&mut subterms, &mut stack)?;
+        drop(stack);
+        let None = kids.begun else { unreachable!() };
+        let document = symbol(alloc, &mut names, Kind::Document, b"")?;
+        subterms.node(document, kids.code, 0)?;
+        let rules = rules_of_table(alloc, subterms)?;
+        let grammar = grammar_of(alloc, rules)?;
+        Ok(Folded {
+            grammar,
+            names,
+            texts: TextList::new(texts),
+        })
+    }
+}
+
+impl Builder for Folder {
+    ghost log = { λ f. f.log };
+
+    ghost sound = { λ f. f.sound };
+
+    ghost depth = { λ f. f.depth };
+
+    fn open(&mut self, kind: Kind, name: &[u8]) -> Result<(), AllocError> {
+        self.sound = false;
+        let symbol = symbol(self.alloc, &mut self.names, kind, name)?;
+        self.stack.push(Part::Begun(symbol))?;
+        self.sound = true;
+        Ok(())
+    }
+
+    fn leaf(&mut self, kind: Kind, name: &[u8], value: &[u8]) -> Result<(), AllocError> {
+        self.sound = false;
+        let symbol = symbol(self.alloc, &mut self.names, kind, name)?;
+        self.texts.push(value)?;
+        self.stack.push(Part::Whole(symbol, 0))?;
+        self.sound = true;
+        Ok(())
+    }
+
+    fn close(&mut self) -> Result<(), AllocError> {
+        self.sound = false;
+        let kids = take_kids(&mut self.subterms, &mut self.stack)?;
+        let Some(symbol) = kids.begun else {
+            unreachable!()
+        };
+        self.stack.push(Part::Whole(symbol, kids.code))?;
+        self.sound = true;
+        Ok(())
+    }
+}
+
+// The grammar of rules that have no fault. It is refused only for want of memory.
+fn grammar_of(alloc: Global, rules: RuleList) -> Result<Grammar, AllocError>
+    requires grammar { IsGrammar rules }
+    requires swept { IsSwept rules }
+    ensures { IfOk result (λ g. rules_of g.rules ≡ rules) }
+{
+    match check(alloc, rules) {
+        Ok(grammar) => Ok(grammar),
+        Err(fault) => match fault {
+            GrammarError::Memory => Err(AllocError),
+            _ => unreachable!(),
+        },
+    }
+}
+
+#[cfg(test)]
+mod tests {
+    use super::*;
+    use std::test::Fail;
+
+    // An element with two empty kids.
+    fn add_row(folder: &mut Folder) -> Result<(), AllocError>
+        requires { folder.old.sound ≡ true }
+        ensures sound { OnOk result (folder.new.sound ≡ true) }
+        ensures depth { OnOk result (folder.new.depth ≡ folder.old.depth) }
+    {
+        folder.open(Kind::Element, b"e")?;
+        folder.open(Kind::Element, b"f")?;
+        folder.close()?;
+        folder.open(Kind::Element, b"g")?;
+        folder.close()?;
+        folder.close()
+    }
+
+    #[test]
+    fn equal_subterms_are_kept_once(rt: HostRuntime) -> Result<(), Fail> {
+        let mut folder = Folder::new(rt.alloc());
+        folder.open(Kind::Element, b"r")?;
+        for _ in 0..100 {
+            add_row(&mut folder)?;
+        }
+        folder.close()?;
+        let folded = folder.finish()?;
+        assert_eq!(rt; folded.names.len(), 5);
+        assert_eq!(rt; folded.grammar.rules(), 2);
+        assert_eq!(rt; folded.grammar.size(), 210);
+        Ok(())
+    }
+
+    #[test]
+    fn texts_stand_in_document_order(rt: HostRuntime) -> Result<(), Fail> {
+        let mut folder = Folder::new(rt.alloc());
+        folder.open(Kind::Element, b"r")?;
+        folder.leaf(Kind::Attribute, b"k", b"v")?;
+        folder.leaf(Kind::Text, b"", b"t")?;
+        folder.open(Kind::Element, b"r")?;
+        folder.leaf(Kind::Attribute, b"k", b"w")?;
+        folder.leaf(Kind::Text, b"", b"u")?;
+        folder.close()?;
+        folder.close()?;
+        let folded = folder.finish()?;
+        assert_eq!(rt; folded.names.len(), 4);
+        assert_eq!(rt; folded.texts.len(), 4);
+        let third = folded.texts.get(2).ok_or("no text")?;
+        assert_eq!(rt; third, b"w".as_slice());
+        Ok(())
+    }
+
+    #[test]
+    fn deep_documents_are_folded(rt: HostRuntime) -> Result<(), Fail> {
+        let mut folder = Folder::new(rt.alloc());
+        let levels = 100_000;
+        for _ in 0..levels {
+            folder.open(Kind::Element, b"e")?;
+        }
+        for _ in 0..levels {
+            folder.close()?;
+        }
+        let folded = folder.finish()?;
+        assert_eq!(rt; folded.grammar.rules(), 1);
+        assert_eq!(rt; folded.grammar.size(), 200_003);
+        Ok(())
+    }
+}

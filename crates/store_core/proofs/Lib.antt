@@ -1,5 +1,6 @@
 pub mod ReadSteps
 pub mod Feeds
+pub mod Folds
 pub mod FoundFiles
 pub mod Sinks
 pub mod LeafTexts

@@ -1,6 +1,7 @@
 pub mod Acts
 pub mod CommandOf
 pub mod Feeding
+pub mod Folding
 pub mod Machine
 pub mod Making
 pub mod Refusals

@@ -1,33 +1,29 @@
 // Reading a document from the shelf.
 ghost use Rattle.std.specs.Prelude.{◌≡◌, ◌≤◌, ◌<◌, ◌^◌, [], sum_by, IfOk, IfErr, Some};
 ghost use Rattle.tree_outside.specs.Outside.{Stays};
-ghost use Rattle.plain_tree.specs.NodeTree.{tree_of};
-ghost use Rattle.plain_tree.specs.Tree.{node_count};
-ghost use Rattle.plain_tree.specs.Lawful.{IsDocument};
+ghost use Rattle.plain_tree.specs.Tree.{Tree, node_count};
 ghost use Rattle.slt_grammar.specs.Grammars.{IsGrammar, IsSwept, value};
 ghost use Rattle.slt_grammar.specs.Keyed.{rules_of};
 ghost use Rattle.slt_grammar.specs.Segments.{listed};
-ghost use Rattle.slt_grammar.specs.Standing.{StandsFor};
-ghost use Rattle.fcns_encoding.specs.Interning.{Interns, pairs_of_tree};
 ghost use Rattle.segment_counts.specs.Counting.{AreCounts};
 ghost use Rattle.segment_counts.specs.Weights.{node_weight};
 ghost use Rattle.store_core.specs.Acts as act;
 ghost use Rattle.store_core.specs.Worlds.{State, AreLawfulParts, IsIdle, told_files, world};
+ghost use Rattle.store_core.specs.Folding.{IsFoldOf, FoldsFile};
 ghost use Rattle.store_core.specs.StoreOf.{IsCounted, parts_of};
 ghost use Rattle.store_core.specs.Refusals.{Cause};
-ghost use Rattle.store_core.specs.Machine.{Encodes, HoldsDocument, Loads};
+ghost use Rattle.store_core.specs.Machine.{Encodes, Loads};
 ghost use Rattle.store_core.specs.Texts.{answer_line};
 
 use crate::answer::{Answer, Refusal};
 use crate::reading::read_document;
 use crate::store::{RULE_RANK, Store};
-use fcns_encoding::encode;
+use fcns_encoding::Folded;
 use local_repair::settle;
-use plain_tree::{Names, Node};
+use plain_tree::Names;
 use segment_counts::{CountError, Counts};
-use slt_grammar::{Grammar, GrammarError, RuleList, check};
+use slt_grammar::Grammar;
 use std::alloc::{AllocError, Global};
-use text_list::TextList;
 use tree_outside::{Failed, Shelf};
 
 /// A document that was read, and the count of its nodes.
@@ -53,21 +49,18 @@ pub(crate) fn load_document<F: Shelf>(
     ensures refused { IfErr result (λ refusal. (state : State)
         → Cause refusal (act.Load name.now) (world state (F.told shelf.old) (F.faults shelf.old)) (world state (F.told shelf.new) (F.faults shelf.new))) }
 {
-    let document = read_file(alloc, name, shelf)?;
-    let store = store_of(alloc, document)?;
+    let folded = read_file(alloc, name, shelf)?;
+    let store = store_of(alloc, folded)?;
     let count = store.counts.total();
     Ok(ReadDocument { store, count })
 }
 
-// The document in the file with this name.
-fn read_file<F: Shelf>(alloc: Global, name: &str, shelf: &mut F) -> Result<Node, Refusal>
+// The document in the file with this name, folded.
+fn read_file<F: Shelf>(alloc: Global, name: &str, shelf: &mut F) -> Result<Folded, Refusal>
     ensures later { F.faults shelf.old ≤ F.faults shelf.new }
     ensures files { Stays (told_files (F.told shelf.old)) (told_files (F.told shelf.new)) }
     ensures idle { IsIdle (F.told shelf.old) → IsIdle (F.told shelf.new) }
-    ensures document { IfOk result (λ document. (state : State)
-        → HoldsDocument name.now (world state (F.told shelf.old) (F.faults shelf.old)) (tree_of document)) }
-    ensures lawful { IfOk result (λ document. IsDocument (tree_of document)) }
-    ensures small { IfOk result (λ document. node_count (tree_of document) < 2 ^ 30) }
+    ensures document { IfOk result (FoldsFile name.now (F.told shelf.old) (F.faults shelf.old)) }
     ensures refused { IfErr result (λ refusal. (state : State)
         → Cause refusal (act.Load name.now) (world state (F.told shelf.old) (F.faults shelf.old)) (world state (F.told shelf.new) (F.faults shelf.new))) }
 {
@@ -81,20 +74,21 @@ fn read_file<F: Shelf>(alloc: Global, name: &str, shelf: &mut F) -> Result<Node,
     read
 }
 
-// The document as a settled grammar, and its counts. It is refused only for want of memory.
-fn store_of(alloc: Global, document: Node) -> Result<Store, AllocError>
-    requires document { IsDocument (tree_of document) }
-    requires small { node_count (tree_of document) < 2 ^ 30 }
-    ensures encoded { IfOk result (λ s. Encodes (tree_of document) (parts_of s)) }
+// A folded document as a settled grammar, and its counts. It is refused only for want of memory.
+fn store_of(alloc: Global, folded: Folded) -> Result<Store, AllocError>
+    requires { (t : Tree) × (IsFoldOf t folded × (node_count t < 2 ^ 30)) }
+    ensures encoded { IfOk result (λ s. (t : Tree) → IsFoldOf t folded → Encodes t (parts_of s)) }
     ensures grammar { IfOk result (λ s. IsGrammar (rules_of s.grammar.rules)) }
     ensures counted { IfOk result IsCounted }
 {
-    let CodedDocument {
+    let Folded {
         mut grammar,
         names,
         texts,
-    } = code_document(alloc, document)?;
+    } = folded;
     settle(alloc, &mut grammar, RULE_RANK)?;
+    // The room that settling needed goes: a copy has no more than its rules take.
+    let grammar = grammar.copy()?;
     let counts = counts_of(alloc, &grammar, &names)?;
     Ok(Store {
         grammar,
@@ -102,48 +96,6 @@ fn store_of(alloc: Global, document: Node) -> Result<Store, AllocError>
         texts,
         counts,
     })
-}
-
-// A document as a grammar of one rule.
-#[derive(Drop)]
-struct CodedDocument {
-    grammar: Grammar,
-    names: Names,
-    texts: TextList,
-}
-
-// The document as a grammar of one rule. The tree is let go with it, since settling takes memory of its own.
-fn code_document(alloc: Global, document: Node) -> Result<CodedDocument, AllocError>
-    requires { IsDocument (tree_of document) }
-    ensures stand { IfOk result (λ c. StandsFor (rules_of c.grammar.rules) c.names c.texts.texts (tree_of document)) }
-    ensures names { IfOk result (λ c. Interns [] (pairs_of_tree (tree_of document)) c.names) }
-{
-    let mut names = Names::new(alloc);
-    let coded = encode(alloc, &document, &mut names)?;
-    let mut rules = RuleList::new(alloc);
-    rules.push(0, coded.body)?;
-    let grammar = grammar_of(alloc, rules)?;
-    let texts = TextList::new(coded.texts);
-    Ok(CodedDocument {
-        grammar,
-        names,
-        texts,
-    })
-}
-
-// The grammar of rules that have no fault. It is refused only for want of memory.
-fn grammar_of(alloc: Global, rules: RuleList) -> Result<Grammar, AllocError>
-    requires grammar { IsGrammar rules }
-    requires swept { IsSwept rules }
-    ensures { IfOk result (λ g. rules_of g.rules ≡ rules) }
-{
-    match check(alloc, rules) {
-        Ok(grammar) => Ok(grammar),
-        Err(fault) => match fault {
-            GrammarError::Memory => Err(AllocError),
-            _ => unreachable!(),
-        },
-    }
 }
 
 // The counts of a grammar whose value is small enough. They are refused only for want of memory.

@@ -1,16 +1,16 @@
 // Reading the document in the open file, piece by piece.
 ghost use Rattle.std.specs.Prelude.{◌≡◌, ◌≤◌, [], IfOk, IfErr, OnOk};
 ghost use Rattle.tree_outside.specs.Outside.{Stays};
-ghost use Rattle.plain_tree.specs.NodeTree.{tree_of};
 ghost use Rattle.store_core.specs.Worlds.{told_files};
-ghost use Rattle.store_core.specs.Feeding.{HasFed, FeedsFile, OnlyReads, ReadsDocument};
+ghost use Rattle.store_core.specs.Feeding.{HasFed, FeedsFile, OnlyReads};
+ghost use Rattle.store_core.specs.Folding.{FoldsOpen};
 ghost use Rattle.store_core.specs.Stopping.{StopsReading};
 
 use crate::answer::Refusal;
-use plain_tree::Node;
+use fcns_encoding::{Folded, Folder};
 use std::alloc::Global;
 use tree_outside::{Failed, Shelf};
-use xml_profile::{Reader, TreeBuilder, XmlError};
+use xml_profile::{Reader, XmlError};
 
 /// A file must have fewer bytes than this.
 const FILE_LIMIT: usize = 1 << 30;
@@ -18,19 +18,19 @@ const FILE_LIMIT: usize = 1 << 30;
 /// How many bytes of a file are read at once.
 const PIECE: usize = 1 << 16;
 
-/// The document that the open file spells.
-pub(crate) fn read_document<F: Shelf>(alloc: Global, shelf: &mut F) -> Result<Node, Refusal>
+/// The document that the open file spells, folded while it is read.
+pub(crate) fn read_document<F: Shelf>(alloc: Global, shelf: &mut F) -> Result<Folded, Refusal>
     ensures later { F.faults shelf.old ≤ F.faults shelf.new }
     ensures files { Stays (told_files (F.told shelf.old)) (told_files (F.told shelf.new)) }
     ensures only { OnlyReads (F.told shelf.old) (F.told shelf.new) }
-    ensures document { IfOk result (λ document. ReadsDocument (F.told shelf.old) (tree_of document)) }
+    ensures document { IfOk result (FoldsOpen (F.told shelf.old)) }
     ensures refused { IfErr result (λ refusal. StopsReading refusal (F.told shelf.old) (F.faults shelf.old) (F.faults shelf.new)) }
 {
     let mut reader = Reader::new(alloc)?;
-    let mut builder = TreeBuilder::new(alloc);
-    feed_file(alloc, shelf, &mut reader, &mut builder)?;
+    let mut folder = Folder::new(alloc);
+    feed_file(alloc, shelf, &mut reader, &mut folder)?;
     reader.finish()?;
-    Ok(builder.document()?)
+    Ok(folder.finish()?)
 }
 
 // Feeds the open file to the reader, to the file's end, to the limit or to a fault. Bytes that go wrong don't end it, since
@@ -39,13 +39,13 @@ fn feed_file<F: Shelf>(
     alloc: Global,
     shelf: &mut F,
     reader: &mut Reader,
-    builder: &mut TreeBuilder,
+    folder: &mut Folder,
 ) -> Result<(), Refusal>
-    requires { HasFed reader.old builder.old [] }
+    requires { HasFed reader.old folder.old [] }
     ensures later { F.faults shelf.old ≤ F.faults shelf.new }
     ensures files { Stays (told_files (F.told shelf.old)) (told_files (F.told shelf.new)) }
     ensures only { OnlyReads (F.told shelf.old) (F.told shelf.new) }
-    ensures feeds { OnOk result (FeedsFile (F.told shelf.old) reader.new builder.new) }
+    ensures feeds { OnOk result (FeedsFile (F.told shelf.old) reader.new folder.new) }
     ensures refused { IfErr result (λ refusal. StopsReading refusal (F.told shelf.old) (F.faults shelf.old) (F.faults shelf.new)) }
 {
     let mut piece = Vec::new(alloc);
@@ -57,7 +57,7 @@ fn feed_file<F: Shelf>(
             Ok(0) => return Ok(()),
             Ok(count) => count,
         };
-        if let Err(XmlError::Memory) = reader.feed(alloc, &piece[..count], builder) {
+        if let Err(XmlError::Memory) = reader.feed(alloc, &piece[..count], folder) {
             return Err(Refusal::Memory);
         }
         fed += count;

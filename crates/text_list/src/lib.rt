@@ -8,12 +8,9 @@
 mod blob;
 mod chunk;
 mod list;
-<<<<<<< HEAD
 mod opening;
 mod places;
 mod removing;
-=======
->>>>>>> 6b09f1f01f421f045dc66214fcad9e5c571fc5a9
 mod table;
 
 pub use list::TextList;

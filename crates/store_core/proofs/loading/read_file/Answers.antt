@@ -1,6 +1,5 @@
 use Rattle.std.proofs.Common.{refl, arith}
 use Rattle.std.proofs.lemmas.Result.{IfOk-weaker, IfErr-weaker}
-use Rattle.plain_tree.specs.NodeTree.{tree_of}
 use Rattle.store_core.proofs.FoundFiles.{no_file, holds_document, read_lawful, stops_loading}
 use Rattle.store_core.proofs.loading.read_file.Goals as goal
 
@@ -13,14 +12,13 @@ pub returns-clause-document : goal.returns-clause-document
 returns-clause-document g c =
     let finds = rw c.in-Ok-true.field-0-test at c.in-Ok-true.ensures.content.1 in
     IfOk-weaker c.read_document-read.result _ _
-    (λ document reads state. holds_document _ _ c.args.name.now state _ (tree_of document) finds c.in-Ok-true.ensures.content.0 reads)
+    (λ folded opened. record {
+      tree = opened.tree;
+      held = λ state. holds_document _ _ c.args.name.now state _ opened.tree finds c.in-Ok-true.ensures.content.0 opened.reads;
+      small = (read_lawful _ opened.tree opened.reads).1;
+      fold = opened.fold;
+    })
     c.read_document-read.ensures.document
-
-pub returns-clause-lawful : goal.returns-clause-lawful
-returns-clause-lawful g c = IfOk-weaker c.read_document-read.result _ _ (λ document reads. (read_lawful _ (tree_of document) reads).0) c.read_document-read.ensures.document
-
-pub returns-clause-small : goal.returns-clause-small
-returns-clause-small g c = IfOk-weaker c.read_document-read.result _ _ (λ document reads. (read_lawful _ (tree_of document) reads).1) c.read_document-read.ensures.document
 
 pub returns-clause-refused : goal.returns-clause-refused
 returns-clause-refused g c =

@@ -4,7 +4,7 @@ use Rattle.store_core.proofs.reading.feed_file.Given as goal
 
 abbrev pub invariant-loop-fed : goal.invariant-loop-fed
 invariant-loop-fed g l = record {
-  feeding : IsFeeding (g.F.Shelf.told l.fn.shelf) (g.F.Shelf.told l.shelf) l.reader l.builder l.fed;
+  feeding : IsFeeding (g.F.Shelf.told l.fn.shelf) (g.F.Shelf.told l.shelf) l.reader l.folder l.fed;
   later : g.F.Shelf.faults l.fn.shelf ≤ g.F.Shelf.faults l.shelf;
   room : vec_len l.piece ≡ 2 ^ 16;
 }

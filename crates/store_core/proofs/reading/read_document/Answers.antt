@@ -13,11 +13,6 @@ returns-in_err-finish-clause-refused g c =
 pub returns-in_err-reader-clause-only : goal.returns-in_err-reader-clause-only
 returns-in_err-reader-clause-only g c = OnlyReads-refl (g.F.Shelf.told c.args.shelf.now)
 
-pub finish-requires-2-clause-document : goal.finish-requires-2-clause-document
-finish-requires-2-clause-document g c =
-    let w = told_document _ _ _ c.in_ok-feed_file.ensures.feeds (unfailed _ _ c.in_ok-finish.field-0 c.in_ok-finish.ensures.again refl) c.in_ok-finish.ensures.document in
-    (w.tree, (w.document, w.logged))
-
 pub returns-clause-document : goal.returns-clause-document
 returns-clause-document g c =
     let w = told_document _ _ _ c.in_ok-feed_file.ensures.feeds (unfailed _ _ c.in_ok-finish.field-0 c.in_ok-finish.ensures.again refl) c.in_ok-finish.ensures.document in

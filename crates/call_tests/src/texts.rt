@@ -74,10 +74,14 @@ fn equal_texts_are_found_again(rt: HostRuntime) -> Result<(), Fail> {
 struct Chance(u64);
 
 impl Chance {
+    fn next(&mut self) -> u64 {
+        let mixed = self.0 ^ (self.0 >> 12);
+        self.0 = mixed.wrapping_mul(0x2545_f491_4f6c_dd1d).wrapping_add(1);
+        self.0 >> 20
+    }
+
     fn below(&mut self, bound: u64) -> u64 {
-        let next = self.0 ^ (self.0 >> 12);
-        self.0 = next.wrapping_mul(0x2545_f491_4f6c_dd1d).wrapping_add(1);
-        (self.0 >> 20).checked_rem(bound).unwrap_or(0)
+        self.next().checked_rem(bound).unwrap_or(0)
     }
 }
 
@@ -129,10 +133,10 @@ fn long_lists_go_through_many_edits(rt: HostRuntime) -> Result<(), Fail> {
     let mut chance = Chance(1);
     let mut letters = Vec::new(alloc);
     for _ in 0..9000 {
-        letters.push(chance.below(251) as u8)?;
+        letters.push((chance.next() % 251) as u8)?;
     }
     let mut list = list_of(alloc, letters.as_slice())?;
-    for round in 0..400_u64 {
+    for round in 0..300_u64 {
         let len = letters.len() as u64;
         let most = if round % 8 == 7 { 7000 } else { 9 };
         let at = chance.below(len.saturating_add(1));

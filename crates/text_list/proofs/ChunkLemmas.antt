@@ -543,3 +543,25 @@ mins a b c d e h k = omega (arith, h, k)
 -- the starts have room for the chunks that come
 pub starts_room : (free len count old new cap starts : ℕ) → count ≤ room_of free len → 0 < count → new * MOST_NUMBERS < old * MOST_NUMBERS + count + 2 * MOST_NUMBERS → old ≡ starts → free ≤ cap - starts → new ≤ cap
 starts_room free len count old new cap starts h some more e f = omega (arith, h, some, more, e, f)
+
+next_joined : (cs : List RoomyNumbers) (i : ℕ) (d : RoomyNumbers) → i < length cs → joined (take (suc i) cs) ≡ joined (take i cs) ++ (get_or cs i d).numbers
+next_joined [] i d h = absurd (omega (arith, h))
+next_joined (c ∷ cs) zero d h = append-nil c.numbers
+next_joined (c ∷ cs) (suc i) d h = ap (λ (ns : List ℕ). c.numbers ++ ns) (next_joined cs i d (omega (arith, h))) ∙ sym (append_assoc c.numbers (joined (take i cs)) (get_or cs i d).numbers)
+
+-- Numbers put behind those of the chunk before a boundary.
+pub insert_before : (cs : List RoomyNumbers) (old : List ℕ) (b at n : ℕ) (zs : List ℕ) (x y : RoomyNumbers) → 0 < b → b ≤ length cs → joined (take b cs) ≡ take at old → joined (drop b cs) ≡ drop at old
+    → x ≡ get_or cs (b - 1) x → n ≡ length x.numbers → y.numbers ≡ insert_slice x.numbers n zs → joined (slice_set cs (b - 1) y) ≡ insert_slice old at zs
+insert_before cs old zero at n zs x y p q f k e l g = absurd (omega (arith, p))
+insert_before cs old (suc i) at n zs x y p q f k e l g =
+    let one : suc i - 1 ≡ i = omega arith in
+    let within : i < length cs = omega (arith, q) in
+    let whole : take n x.numbers ≡ x.numbers = take_all n x.numbers (omega (arith, l)) in
+    let none : drop n x.numbers ≡ [] = drop_all n x.numbers (omega (arith, l)) in
+    let numbers : y.numbers ≡ x.numbers ++ zs = g ∙ ap (λ (ns : List ℕ). (ns ++ zs) ++ drop n x.numbers) whole ∙ ap (λ (ns : List ℕ). (x.numbers ++ zs) ++ ns) none ∙ append-nil (x.numbers ++ zs) in
+    let here : x ≡ get_or cs i x = e ∙ ap (λ j. get_or cs j x) one in
+    let front : joined (take i cs) ++ x.numbers ≡ take at old = ap (λ (c : RoomyNumbers). joined (take i cs) ++ c.numbers) here ∙ sym (next_joined cs i x within) ∙ f in
+    ap (λ j. joined (slice_set cs j y)) one ∙ joined-set cs i y within ∙ ap (λ (ns : List ℕ). joined (take i cs) ++ (ns ++ joined (drop (suc i) cs))) numbers
+    ∙ ap (λ (ns : List ℕ). joined (take i cs) ++ ((x.numbers ++ zs) ++ ns)) k
+    ∙ ap (λ (ns : List ℕ). joined (take i cs) ++ ns) (append_assoc x.numbers zs (drop at old)) ∙ sym (append_assoc (joined (take i cs)) x.numbers (zs ++ drop at old)) ∙ ap (λ (ns : List ℕ). ns ++ (zs ++ drop at old)) front
+    ∙ sym (append_assoc (take at old) zs (drop at old))

@@ -89,11 +89,10 @@ impl TextList {
         if more <= self.room() {
             return Ok(());
         }
-        if self.is_worn() {
-            self.make_anew(more)
-        } else {
-            self.grow(more)
+        if self.is_worn() && self.make_anew(more).is_ok() {
+            return Ok(());
         }
+        self.grow(more)
     }
 
     /// Puts texts before the one at a place, or at the end. It takes no memory where there is room for them, and it may use up
@@ -150,12 +149,16 @@ impl TextList {
         self.places.set(at as usize, number as u32);
     }
 
-    // Whether edits have left so much behind that the list is better made anew. Only many edits bring that about.
+    // Whether edits have left so much behind that the list is better made anew, which takes time for each text. Only many edits
+    // bring that about: of a list that was just made each text is in use, none is loose, and all chunks but one are full.
     fn is_worn(&self) -> bool {
         let len = self.places.len();
-        let many_loose = self.loose.len() > LEAST_LOOSE.max(len / 2);
-        let many_chunks = self.places.chunks() > LEAST_CHUNKS + len / MOST_NUMBERS * 2;
-        many_loose || many_chunks
+        let loose = self.loose.len();
+        let texts = self.kept.len().saturating_add(loose);
+        let chunks = self.places.chunks();
+        loose > LEAST_LOOSE.max(len / 2)
+            || texts > LEAST_LOOSE + len * 2
+            || chunks > LEAST_CHUNKS + len / MOST_NUMBERS * 3
     }
 
     // Makes room within this list.
@@ -199,11 +202,11 @@ impl TextList {
     }
 }
 
-// A list with no more loose texts than this isn't made anew for them.
+// For no more loose texts than this, or texts that no place has, a list isn't made anew.
 const LEAST_LOOSE: usize = 4096;
 
-// A list with no more chunks than this isn't made anew for them.
-const LEAST_CHUNKS: usize = 1024;
+// For no more chunks than this a list isn't made anew.
+const LEAST_CHUNKS: usize = 2048;
 
 // The text of a number: a kept one, or behind them a loose one.
 fn text_of<'a>(kept: &'a Blob, loose: &'a [Bytes], number: usize) -> Option<&'a [u8]>

@@ -22,7 +22,7 @@ pub struct TextList {
     places: Places,
 }
 
-// How many numbers there are for texts.
+// How many texts can have numbers of 32 bits.
 const MOST_TEXTS: usize = 1 << 32;
 
 impl Model for TextList {
@@ -38,7 +38,7 @@ impl Model for TextList {
 }
 
 impl TextList {
-    /// The list of these texts. It takes no memory.
+    /// The list of these texts. It takes no memory, and gives back what the table took in advance.
     pub fn new(texts: TextTable) -> TextList
         ensures { result.texts ≡ texts }
     {

@@ -32,7 +32,11 @@ impl Model for TextList {
 
     ghost Value = { RoomyTexts };
 
-    ghost view = { λ t. record { texts = texts_at (t.kept ++ t.loose.items) t.places.numbers; room = room_among (length t.kept + vec_len t.loose) (vec_capacity t.loose - vec_len t.loose) t.places.room } };
+    ghost view = { λ t. record {
+      texts = texts_at (t.kept ++ t.loose.items) t.places.numbers;
+      room = room_among (length t.kept + vec_len t.loose)
+          (vec_capacity t.loose - vec_len t.loose) t.places.room;
+    } };
 
     ghost invariant = { λ t. AreWithin (t.kept ++ t.loose.items) t.places.numbers };
 }

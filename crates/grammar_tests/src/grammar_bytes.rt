@@ -1,12 +1,12 @@
 // Grammar files byte by byte, and sinks that fail.
 use super::grammar::{Row, START, TWICE, rules_of};
 use grammar_file::{WriteError, write};
-use plain_tree::{Bytes, Kind, Names, Texts};
+use plain_tree::{Kind, Names};
 use slt_grammar::Label::{Bottom, Symbol};
 use slt_grammar::check;
 use std::alloc::{AllocError, Global};
 use std::test::Fail;
-use text_list::TextList;
+use text_list::{TextList, TextTable};
 use tree_outside::MemorySink;
 
 // A file of the document's pair and the elements `a` and `b`.
@@ -69,12 +69,12 @@ fn names_of_elements(alloc: Global) -> Result<Names, AllocError> {
 }
 
 fn text_of(alloc: Global, len: usize) -> Result<TextList, AllocError> {
-    let mut texts = Texts::new(alloc);
+    let mut table = TextTable::new(alloc);
     if len > 0 {
         let bytes = vec![in alloc; b'x'; len]?;
-        texts.push(Bytes::from_slice(alloc, bytes.as_slice())?)?;
+        table.push(bytes.as_slice())?;
     }
-    Ok(TextList::new(texts))
+    Ok(TextList::new(table))
 }
 
 // All bytes of a file.

@@ -1,11 +1,10 @@
 -- Lists of texts by their numbers.
-use Rattle.std.proofs.Common.{◌≡◌, ℕ, zero, suc, ◌+◌, ◌-◌, ◌<◌, ◌≤◌, ◌⊎◌, inl, inr, List, [], ◌∷◌, ◌++◌, length, get_or, take, drop, map, Some, None, slice_get, Result, Ok, Err, refl, ap, sym, ◌∙◌, subst, arith, append_assoc, length-append}
+use Rattle.std.proofs.Common.{◌≡◌, ℕ, zero, suc, ◌+◌, ◌-◌, ◌<◌, ◌⊎◌, inl, inr, List, [], ◌∷◌, ◌++◌, length, get_or, take, drop, map, Some, None, slice_get, Result, Ok, Err, refl, ap, sym, ◌∙◌, subst, arith, append_assoc, length-append}
 use Rattle.std.specs.Prelude.{OnOk, OnErr, slice_set, slice_range}
-use Rattle.std.specs.List.{All, insert_slice, remove_range}
+use Rattle.std.specs.List.{insert_slice, remove_range}
 use Rattle.std.proofs.lemmas.List.{get_or_append_left, get_or_push, get_or_at, take_more, map-append, map-set, map_push, take-map, drop-map}
 use Rattle.std.proofs.lemmas.List.Elements.{All-tail, All-push, All-append, All-take, All-drop, All-weaker}
 use Rattle.std.proofs.lemmas.Option.{get_or_from_slice_get, slice_get_within}
-use Rattle.std.proofs.lemmas.Result.{on_ok_weaker, on_err_weaker}
 use Rattle.text_list.specs.Numbers.{texts_at, AreWithin, counted}
 use Rattle.text_list.proofs.GapLemmas.{length-counted, get_or-counted}
 

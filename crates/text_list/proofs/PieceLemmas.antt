@@ -1,5 +1,5 @@
 -- Pieces of bytes that grow.
-use Rattle.std.proofs.Common.{◌≡◌, ℕ, zero, suc, ◌+◌, ◌-◌, ◌<◌, ◌≤◌, List, [], ◌∷◌, ◌++◌, length, get_or, take, drop, Some, None, slice_get, refl, ap, sym, ◌∙◌, subst, arith, length-append, append-nil, length-drop}
+use Rattle.std.proofs.Common.{◌≡◌, ℕ, zero, suc, ◌-◌, ◌<◌, ◌≤◌, List, [], ◌∷◌, ◌++◌, length, get_or, take, drop, Some, None, slice_get, refl, ap, sym, ◌∙◌, subst, arith, length-append, length-drop}
 use Rattle.std.proofs.lemmas.List.{take-append-le, drop-append-le}
 use Rattle.std.proofs.Math.Seq.{drop-append_seam, take-length}
 use Rattle.text_list.specs.Pieces.{pieces, AreCut}
@@ -47,10 +47,6 @@ nothing_at [] i h = refl
 nothing_at (x ∷ xs) zero h = absurd (omega (arith, h))
 nothing_at (x ∷ xs) (suc i) h = nothing_at xs i (omega (arith, h))
 
-pub shifted_get : (ends : List ℕ) (at : ℕ) → 0 < at → get_or (0 ∷ ends) at 0 ≡ get_or ends (at - 1) 0
-shifted_get ends zero h = absurd (omega (arith, h))
-shifted_get ends (suc i) h = let e : suc i - 1 ≡ i = omega arith in ap (λ k. get_or ends k 0) (sym e)
-
 pub grown : (bytes bytes' text ends mid ends' : List ℕ) (n : ℕ) → bytes' ≡ bytes ++ text → n ≡ length bytes' → mid ≡ ends → ends' ≡ mid ++ n ∷ [] → AreCut 0 bytes ends
     → (pieces 0 bytes' ends' ≡ pieces 0 bytes ends ++ text ∷ []) × AreCut 0 bytes' ends'
 grown bytes bytes' text ends mid ends' n eb en em ee c =
@@ -59,12 +55,3 @@ grown bytes bytes' text ends mid ends' n eb en em ee c =
       ap (λ bs. pieces 0 bs ends') eb ∙ ap (pieces 0 (bytes ++ text)) whole ∙ pieces-push 0 bytes ends text c,
       subst (λ bs. AreCut 0 bs ends') (sym eb) (subst (AreCut 0 (bytes ++ text)) (sym whole) (cut-push 0 bytes ends text c)),
     )
-
-pub last_text : (xs : List (List ℕ)) (x : List ℕ) (ys : List (List ℕ)) (n : ℕ) → n ≡ length xs → ys ≡ xs ++ x ∷ [] → slice_get ys n ≡ Some x
-last_text xs x ys n en ey = ap (λ zs. slice_get zs n) ey ∙ last xs x n en
-  where
-    last : (xs : List (List ℕ)) (x : List ℕ) (n : ℕ) → n ≡ length xs → slice_get (xs ++ x ∷ []) n ≡ Some x
-    last [] x zero e = refl
-    last [] x (suc n) e = absurd (omega (arith, e))
-    last (z ∷ zs) x zero e = absurd (omega (arith, e))
-    last (z ∷ zs) x (suc n) e = last zs x n (omega (arith, e))

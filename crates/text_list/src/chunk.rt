@@ -21,7 +21,10 @@ impl Model for Chunk {
 
     ghost Value = { RoomyNumbers };
 
-    ghost view = { λ c. record { numbers = c.numbers.items; room = vec_capacity c.numbers - vec_len c.numbers } };
+    ghost view = { λ c. record {
+      numbers = c.numbers.items;
+      room = vec_capacity c.numbers - vec_len c.numbers;
+    } };
 }
 
 impl Chunk {

@@ -22,7 +22,7 @@ pub struct TextList {
     places: Places,
 }
 
-// How many numbers there are for texts.
+// How many texts can have numbers of 32 bits.
 const MOST_TEXTS: usize = 1 << 32;
 
 impl Model for TextList {
@@ -32,13 +32,17 @@ impl Model for TextList {
 
     ghost Value = { RoomyTexts };
 
-    ghost view = { λ t. record { texts = texts_at (t.kept ++ t.loose.items) t.places.numbers; room = room_among (length t.kept + vec_len t.loose) (vec_capacity t.loose - vec_len t.loose) t.places.room } };
+    ghost view = { λ t. record {
+      texts = texts_at (t.kept ++ t.loose.items) t.places.numbers;
+      room = room_among (length t.kept + vec_len t.loose)
+          (vec_capacity t.loose - vec_len t.loose) t.places.room;
+    } };
 
     ghost invariant = { λ t. AreWithin (t.kept ++ t.loose.items) t.places.numbers };
 }
 
 impl TextList {
-    /// The list of these texts. It takes no memory.
+    /// The list of these texts. It takes no memory, and gives back what the table took in advance.
     pub fn new(texts: TextTable) -> TextList
         ensures { result.texts ≡ texts }
     {

@@ -34,7 +34,11 @@ impl Model for Places {
 
     ghost Value = { RoomyNumbers };
 
-    ghost view = { λ p. record { numbers = joined p.chunks.items; room = room_of (min (vec_len p.spare) (min (vec_capacity p.chunks - vec_len p.chunks) (vec_capacity p.starts - vec_len p.starts))) p.len } };
+    ghost view = { λ p. record {
+      numbers = joined p.chunks.items;
+      room = room_of (min (vec_len p.spare)
+          (min (vec_capacity p.chunks - vec_len p.chunks) (vec_capacity p.starts - vec_len p.starts))) p.len;
+    } };
 
     ghost invariant = { λ p. AreChunks p.chunks.items p.starts.items p.spare.items p.len };
 }

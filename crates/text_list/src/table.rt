@@ -73,7 +73,7 @@ impl TextTable {
 }
 
 // How many different texts there are at most, so that the texts of edits find numbers of 32 bits.
-const MOST_TEXTS: usize = 1 << 31;
+const MOST_KEPT: usize = 1 << 31;
 
 // How many slots a text is looked for in.
 const MOST_LOOKS: usize = 8;
@@ -134,7 +134,7 @@ impl Interned {
             return Ok(number);
         }
         let len = self.texts.len();
-        if len >= MOST_TEXTS {
+        if len >= MOST_KEPT {
             return Err(AllocError);
         }
         let number = len as u32;
@@ -161,7 +161,7 @@ impl Interned {
         let alloc = *self.slots.allocator();
         let count = self.slots.len().saturating_mul(2).max(16);
         let mut slots = vec![in alloc; FREE; count]?;
-        for number in 0..self.texts.len().min(MOST_TEXTS) {
+        for number in 0..self.texts.len().min(MOST_KEPT) {
             let Some(text) = self.texts.get(number) else {
                 break;
             };

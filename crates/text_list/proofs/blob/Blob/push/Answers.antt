@@ -1,5 +1,4 @@
-use Rattle.std.proofs.Common.{◌≡◌, ◌++◌, ◌∷◌, [], ap, sym, length, ◌∙◌}
-use Rattle.text_list.specs.Pieces.{pieces}
+use Rattle.std.proofs.Common.{◌++◌, ◌∷◌, [], ap, length, ◌∙◌}
 use Rattle.text_list.proofs.PieceLemmas.{grown}
 use Rattle.text_list.proofs.blob.Blob.push.Goals as goal
 

@@ -1,4 +1,4 @@
-use Rattle.std.proofs.Common.{◌≡◌, ◌+◌, ap, ◌∙◌}
+use Rattle.std.proofs.Common.{◌+◌, ap, ◌∙◌}
 use Rattle.text_list.specs.RoomyTexts.{RoomyTexts}
 use Rattle.text_list.proofs.NumberLemmas.{duplicate_texts, within_inserted, within_range}
 use Rattle.text_list.proofs.list.TextList.duplicate.Goals as goal

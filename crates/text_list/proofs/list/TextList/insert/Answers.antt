@@ -1,4 +1,4 @@
-use Rattle.std.proofs.Common.{◌≡◌, ◌+◌, length, ap, ◌∙◌, arith}
+use Rattle.std.proofs.Common.{length, ap, ◌∙◌, arith}
 use Rattle.std.specs.List.{insert_slice}
 use Rattle.text_list.specs.RoomyTexts.{RoomyTexts}
 use Rattle.text_list.proofs.NumberLemmas.{inserted_texts, inserted_within}

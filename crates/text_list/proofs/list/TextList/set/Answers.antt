@@ -1,4 +1,4 @@
-use Rattle.std.proofs.Common.{◌≡◌, length, ap, ◌∙◌, arith}
+use Rattle.std.proofs.Common.{length, ap, ◌∙◌, arith}
 use Rattle.std.specs.Prelude.{slice_set}
 use Rattle.text_list.specs.RoomyTexts.{RoomyTexts}
 use Rattle.text_list.proofs.NumberLemmas.{set_texts}

@@ -3,7 +3,7 @@ use super::rows::{Row, rules_of};
 use digram_index::build;
 use rule_pruning::{prune, saving};
 use slt_grammar::Label::{self, Bottom, Call, Param, Symbol};
-use slt_grammar::{Grammar, check};
+use slt_grammar::{Digram, Grammar, check};
 use std::alloc::Global;
 use std::process::Abort;
 use std::test::Fail;
@@ -35,6 +35,12 @@ static SIX: [Row; 2] = [
     ),
 ];
 
+// Three b in a list, two of them in a rule that is called once.
+static THREE: [Row; 2] = [
+    (1, &[B, Bottom, B, Bottom, Param]),
+    (0, &[DOCUMENT, B, Bottom, Call(0), Bottom, Bottom]),
+];
+
 // Rule 0 saves nothing. Where its body stands in rule 1, rule 1 saves a node, and did not before.
 static LARGER: [Row; 3] = [
     (1, &[A, Bottom, Param]),
@@ -57,6 +63,24 @@ static NESTED: [Row; 3] = [
             Call(0),
             Call(1),
             Bottom,
+            Bottom,
+        ],
+    ),
+];
+
+// Rule 0 is a parameter alone: its arguments come in the places of its calls, one of which stands in the argument of another.
+static BARE: [Row; 2] = [
+    (1, &[Param]),
+    (
+        0,
+        &[
+            DOCUMENT,
+            Call(0),
+            Call(0),
+            A,
+            Bottom,
+            Bottom,
+            Call(0),
             Bottom,
         ],
     ),
@@ -105,5 +129,26 @@ fn rules_that_save_nothing_go(rt: HostRuntime) -> Result<(), Fail> {
     assert_eq!(rt; pruned(alloc, &SIX)?, (12, [Some(5), None]));
     assert_eq!(rt; pruned(alloc, &LARGER)?, (8, [Some(1), None]));
     assert_eq!(rt; pruned(alloc, &NESTED)?, (12, [Some(3), None]));
+    assert_eq!(rt; pruned(alloc, &BARE)?, (5, [None, None]));
+    Ok(())
+}
+
+// How many occurrences of b above b are linked once the grammar is pruned.
+fn linked(alloc: Global, rows: &[Row]) -> Result<u64, Fail> {
+    let mut grammar = check(alloc, rules_of(alloc, rows)?)?;
+    let mut index = build(alloc, &grammar)?;
+    prune(alloc, &mut grammar, &mut index)?;
+    Ok(index.count(Digram {
+        upper: B,
+        place: 2,
+        lower: B,
+    }))
+}
+
+#[test]
+fn copies_are_linked(rt: HostRuntime) -> Result<(), Fail> {
+    let alloc = rt.alloc();
+    assert_eq!(rt; linked(alloc, &SIX)?, 1);
+    assert_eq!(rt; linked(alloc, &THREE)?, 2);
     Ok(())
 }

@@ -1,5 +1,5 @@
 -- The place behind a term, found by climbing.
-use Rattle.std.proofs.Common.{◌≡◌, ◌≢◌, ◌⊎◌, inl, inr, ℕ, zero, suc, ◌+◌, ◌<◌, ◌≤◌, List, [], ◌∷◌, ◌++◌, length, drop, Option, Some, None, IsSome, is_some, true, false, slice_get, refl, sym, ap, ◌∙◌, subst, arith, length-append, append_assoc}
+use Rattle.std.proofs.Common.{◌≡◌, ℕ, zero, suc, ◌+◌, ◌<◌, ◌≤◌, List, [], ◌∷◌, ◌++◌, length, drop, Option, Some, None, IsSome, is_some, true, false, slice_get, refl, sym, ap, ◌∙◌, subst, arith, length-append, append_assoc}
 use Rattle.rule_arena.specs.Preorder.{AreTerms, span}
 use Rattle.rule_arena.specs.Terms.{Node, key_in, kids_in, kids_of, parent_in}
 use Rattle.rule_arena.specs.Children.{Child, ChildAt}
@@ -10,9 +10,8 @@ use Rattle.rule_arena.proofs.NodeLemmas.{node_of}
 use Rattle.rule_arena.proofs.PreorderLemmas.{AreTerms-append, span-all, span-append}
 use Rattle.rule_arena.proofs.TakingLaws.{child_apart}
 use Rattle.slt_grammar.specs.Keyed.{Keyed, IsKeyed, key_at, nodes_at}
-use Rattle.slt_grammar.proofs.KeyedLemmas.{key_at-within, key_in-within, nodes-are-term}
+use Rattle.slt_grammar.proofs.KeyedLemmas.{key_at-within, nodes-are-term}
 use Rattle.slt_grammar.proofs.Parents.{child-there, parent-inner}
-use Rattle.digram_index.proofs.LevelLemmas.{same_some}
 use Rattle.pair_replace.proofs.Climbs.{all_before, climbs}
 use Rattle.pair_replace.proofs.Kids.{IsChildOf, child-of}
 use Rattle.rule_pruning.specs.Copies.{end_of}

@@ -1,7 +1,6 @@
 -- The nodes that came in the place of a call are linked one after another, beside the nodes of the body.
-use Rattle.std.proofs.Common.{◌≡◌, ◌≢◌, ◌⊎◌, inl, inr, ℕ, zero, suc, ◌+◌, ◌<◌, ◌≤◌, List, [], ◌∷◌, ◌++◌, length, drop, get_or, Option, Some, None, IsSome, slice_get, refl, sym, ap, ◌∙◌, subst, arith, length-append, append_assoc}
-use Rattle.std.proofs.lemmas.Bool.{cases_eq}
-use Rattle.rule_arena.specs.Preorder.{AreTerms, span}
+use Rattle.std.proofs.Common.{◌≡◌, ◌≢◌, ◌⊎◌, inl, inr, ℕ, zero, suc, ◌+◌, ◌<◌, ◌≤◌, List, [], ◌∷◌, ◌++◌, length, drop, get_or, Option, Some, None, IsSome, slice_get, refl, sym, ap, ◌∙◌, subst, arith, append_assoc}
+use Rattle.rule_arena.specs.Preorder.{span}
 use Rattle.rule_arena.specs.Terms.{Node, key_in, kids_of}
 use Rattle.rule_arena.specs.declared.key.Key.{Key}
 use Rattle.rule_arena.specs.declared.label.Label.{Label}
@@ -11,7 +10,6 @@ use Rattle.rule_arena.proofs.PreorderLemmas.{span-append}
 use Rattle.slt_grammar.specs.Copying.{copied, hole, holes_in}
 use Rattle.slt_grammar.specs.Keyed.{Keyed, IsKeyed, key_at, nodes_at}
 use Rattle.slt_grammar.specs.KeyedEdits.{Stands}
-use Rattle.slt_grammar.proofs.KeyedLemmas.{key_in-there, key_in-within}
 use Rattle.digram_index.specs.Digrams.{occurrence_at}
 use Rattle.digram_index.specs.Linked.{IsIndexOf, Linked, cell}
 use Rattle.digram_index.proofs.LevelLemmas.{same_some}
@@ -194,9 +192,11 @@ module _ (g : Keyed) (K : IsKeyed g) (q : ℕ) where
     model = node_of (nodes_at g.rules q) W.at node W.model_at
 
     model-told : (p : ℕ) → key_at g.rules q p ≡ Some node → (k : ℕ) × (slice_get (nodes_at g.rules q) p ≡ Some (record { key = node; label = model.0.label; kids = k }))
-    model-told p e =
-        (model.0.kids, ap (λ (j : ℕ). slice_get (nodes_at g.rules q) j) (K.once node q p q W.at e W.model_at).1 ∙ model.1.0
-        ∙ ap (λ (k : Key). let m : Node = record { key = k; label = model.0.label; kids = model.0.kids } in Some m) model.1.1)
+    model-told p e = (
+      model.0.kids,
+      ap (λ (j : ℕ). slice_get (nodes_at g.rules q) j) (K.once node q p q W.at e W.model_at).1 ∙ model.1.0
+          ∙ ap (λ (k : Key). let m : Node = record { key = k; label = model.0.label; kids = model.0.kids } in Some m) model.1.1,
+    )
 
     pub is-copy : IsSome copy
     is-copy = some-copy I node copy W model.0.label model-told

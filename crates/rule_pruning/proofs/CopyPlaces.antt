@@ -1,13 +1,11 @@
 -- The places of a copy over arguments: where copied nodes and the roots of arguments stand, and where the nodes below these roots do.
-use Rattle.std.proofs.Common.{◌≡◌, ◌≢◌, ◌⊎◌, inl, inr, ℕ, zero, suc, ◌+◌, ◌<◌, ◌≤◌, List, [], ◌∷◌, ◌++◌, length, get_or, drop, Option, Some, None, slice_get, refl, sym, ap, ◌∙◌, subst, arith, length-append}
+use Rattle.std.proofs.Common.{◌≡◌, ◌≢◌, ◌⊎◌, inl, inr, ℕ, zero, suc, ◌+◌, ◌<◌, List, [], ◌∷◌, ◌++◌, length, get_or, drop, Option, Some, None, slice_get, refl, sym, ap, ◌∙◌, subst, arith, length-append}
 use Rattle.rule_arena.specs.Preorder.{AreTerms, places}
 use Rattle.rule_arena.specs.Terms.{Node, key_in, kids_of, parent_in}
 use Rattle.rule_arena.specs.declared.key.Key.{Key}
 use Rattle.rule_arena.specs.declared.label.Label.{Label}
 use Rattle.rule_arena.specs.declared.label.Label.TheVariants.{Bottom, Symbol, Call, Param}
-use Rattle.rule_arena.proofs.NodeLemmas.{key_of_node}
 use Rattle.rule_arena.proofs.PreorderLemmas.{AreTerms-append, slice_get-left, slice_get-right}
-use Rattle.slt_grammar.specs.Algebras.{ranks_of}
 use Rattle.slt_grammar.specs.Bodies.{arity}
 use Rattle.slt_grammar.specs.Copying.{copied, copied_node, hole, holes_in}
 use Rattle.slt_grammar.specs.Detaching.{AreArgs}
@@ -145,7 +143,7 @@ below-one os [] s t = absurd t
 below-one os (x ∷ g) s t = by (below-roots (x.kids + 0) 0 (places x.key 1 x.kids) (drop 1 os) [] g (omega (arith, length-places x.key 1 x.kids)) t s)
   where
     by : (get_or (ups (places x.key 1 x.kids ++ drop 1 os) g) s None ≡ get_or (ups (places x.key 1 x.kids ++ []) g) s None)
-          ⊎ AreOpen (drop 1 os) [] 0 (get_or (ups (places x.key 1 x.kids ++ drop 1 os) g) s None) (get_or (ups (places x.key 1 x.kids ++ []) g) s None)
+        ⊎ AreOpen (drop 1 os) [] 0 (get_or (ups (places x.key 1 x.kids ++ drop 1 os) g) s None) (get_or (ups (places x.key 1 x.kids ++ []) g) s None)
         → get_or (ups (places x.key 1 x.kids ++ drop 1 os) g) s None ≡ get_or (ups (places x.key 1 x.kids ++ []) g) s None
     by (inl e) = e
     by (inr o) = absurd (let w = o.few in omega (arith, w))

@@ -1,7 +1,7 @@
 -- What an inlining leaves: all nodes but the call, its arguments and the copies tell the same.
 use Rattle.std.proofs.Common.{◌≡◌, ◌≢◌, ◌⊎◌, inl, inr, ℕ, zero, suc, ◌+◌, ◌<◌, List, [], ◌∷◌, ◌++◌, length, get_or, take, drop, Option, Some, None, slice_get, refl, sym, ap, ◌∙◌, subst, arith}
 use Rattle.std.proofs.lemmas.Bool.{cases_eq}
-use Rattle.rule_arena.specs.Preorder.{AreTerms, span}
+use Rattle.rule_arena.specs.Preorder.{AreTerms}
 use Rattle.rule_arena.specs.Terms.{Node, Apart, key_in, kids_in, kids_of, parent_in}
 use Rattle.rule_arena.specs.declared.key.Key.{Key}
 use Rattle.rule_arena.specs.declared.label.Label.{Label}
@@ -15,7 +15,7 @@ use Rattle.slt_grammar.specs.Copying.{args_at, back_at, copied, copied_node, hol
 use Rattle.slt_grammar.specs.Detaching.{AreArgs}
 use Rattle.slt_grammar.specs.Holding.{IsLawful}
 use Rattle.slt_grammar.specs.Keyed.{Keyed, KeyedRule, IsKeyed, key_at, labels_of, nodes_at, rules_of}
-use Rattle.slt_grammar.specs.KeyedEdits.{IsInlined, Stands, StandsAsCall, with_nodes}
+use Rattle.slt_grammar.specs.KeyedEdits.{IsInlined, Stands, StandsAsCall}
 use Rattle.slt_grammar.proofs.Agreeing.{Agree, label-is}
 use Rattle.slt_grammar.proofs.FoldedRules.{flat}
 use Rattle.slt_grammar.proofs.InlinedRules.{agree, behind, callee-agree, inlined-ranks, kids-holes, kids-label}
@@ -248,11 +248,13 @@ module _ (g h : Keyed) (K : IsKeyed g) (K' : IsKeyed h) (call : Key) (C : Stands
   kid-met i k e =
       let M = root-met (record { key = call; label = Call q; kids = kids_at ns p }) kids args i k cut.args e in
       let there : key_in (front ++ (cut.node ∷ (flat args ++ back))) (length front + suc M.0) ≡ Some k =
-      key_in-right front (cut.node ∷ (flat args ++ back)) (suc M.0) k (key_in-left (flat args) back M.0 k M.1.1) in
-      (p + suc M.0, (
-        (suc M.0, (refl, inr (M.0, (omega arith, M.1.0)))),
-        ap (λ (j : ℕ). key_in ns j) (omega (arith, cut.place)) ∙ ap (λ (xs : List Node). key_in xs (length front + suc M.0)) cut.whole ∙ there,
-      ))
+      key_in-right front (cut.node ∷ (flat args ++ back)) (suc M.0) k (key_in-left (flat args) back M.0 k M.1.1) in (
+        p + suc M.0,
+        (
+          (suc M.0, (refl, inr (M.0, (omega arith, M.1.0)))),
+          ap (λ (j : ℕ). key_in ns j) (omega (arith, cut.place)) ∙ ap (λ (xs : List Node). key_in xs (length front + suc M.0)) cut.whole ∙ there,
+        ),
+      )
 
   -- a node of the old grammar that is neither stays
   record IsLeft (s t : ℕ) (key : Key) : Type 0 where

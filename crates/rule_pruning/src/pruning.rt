@@ -78,11 +78,7 @@ fn drop_uncalled(grammar: &mut Grammar, index: &mut Index, rule: usize)
 }
 
 // Takes away the rules that save no nodes, where all rules are called.
-fn prune_swept(
-    alloc: Global,
-    grammar: &mut Grammar,
-    index: &mut Index,
-) -> Result<(), AllocError>
+fn prune_swept(alloc: Global, grammar: &mut Grammar, index: &mut Index) -> Result<(), AllocError>
     requires index { IsIndexOf grammar.old index.old }
     requires swept { IsSwept (rules_of grammar.old.rules) }
     ensures swept { IsSwept (rules_of grammar.new.rules) }

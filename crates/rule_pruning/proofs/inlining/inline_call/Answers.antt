@@ -1,9 +1,5 @@
-use Rattle.std.proofs.Common.{◌≡◌, ◌≤◌, ℕ, List, length, Ok, sym, ap, ◌∙◌, subst, arith}
+use Rattle.std.proofs.Common.{List, length, ap, arith}
 use Rattle.rule_arena.specs.Terms.{Node}
-use Rattle.slt_grammar.specs.Keyed.{nodes_at}
-use Rattle.slt_grammar.specs.KeyedEdits.{StandsAsCall}
-use Rattle.slt_grammar.proofs.TourWalking.{node-key}
-use Rattle.pair_replace.proofs.KidLinks.{given}
 use Rattle.rule_pruning.proofs.InlineCalls.{as-call}
 use Rattle.rule_pruning.proofs.NearInlines.{callee-same, copy-ready, in-new, root-stays}
 use Rattle.rule_pruning.proofs.inlining.inline_call.Goals as goal
@@ -35,13 +31,15 @@ pub link_copy-requires-clause-copy : goal.link_copy-requires-clause-copy
 link_copy-requires-clause-copy c =
     let C = as-call c.args.grammar.now.rules c.args.rule c.args.call c.requires.call in
     let J = rw c.unwrap-copy.ensures at c.inline.ensures.rules in
-    let U = c.unlink_call.ensures in
-    (c.root-root.result, (
-      root-stays c.args.grammar.now c.inline.new.self c.limit-before.ensures.keyed c.limit-after.ensures.keyed c.args.call C c.root-root.result c.unwrap-copy.result (J C) c.root-root.ensures,
-      copy-ready c.args.grammar.now c.inline.new.self c.limit-before.ensures.keyed c.limit-after.ensures.keyed c.args.call C c.root-root.result c.unwrap-copy.result (J C) c.kids_of-arguments.result
-          (c.kids_of-arguments.ensures C.here.rule C.here.place C.here.there) c.args.index.now c.unlink_call.new.index c.requires.index U.free U.others U.stays U.rules c.first_of_copy-first.result c.root-root.ensures
-          c.first_of_copy-first.ensures,
-    ))
+    let U = c.unlink_call.ensures in (
+      c.root-root.result,
+      (
+        root-stays c.args.grammar.now c.inline.new.self c.limit-before.ensures.keyed c.limit-after.ensures.keyed c.args.call C c.root-root.result c.unwrap-copy.result (J C) c.root-root.ensures,
+        copy-ready c.args.grammar.now c.inline.new.self c.limit-before.ensures.keyed c.limit-after.ensures.keyed c.args.call C c.root-root.result c.unwrap-copy.result (J C) c.kids_of-arguments.result
+            (c.kids_of-arguments.ensures C.here.rule C.here.place C.here.there) c.args.index.now c.unlink_call.new.index c.requires.index U.free U.others U.stays U.rules c.first_of_copy-first.result c.root-root.ensures
+            c.first_of_copy-first.ensures,
+      ),
+    )
 
 pub link_copy-requires-clause-room : goal.link_copy-requires-clause-room
 link_copy-requires-clause-room c =

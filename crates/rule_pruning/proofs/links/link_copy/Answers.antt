@@ -1,7 +1,4 @@
-use Rattle.std.proofs.Common.{◌≡◌, ◌+◌, ℕ, Option, Some, None, refl, sym, ap, ◌∙◌, arith}
-use Rattle.rule_arena.specs.declared.key.Key.{Key}
-use Rattle.slt_grammar.proofs.KeyedLemmas.{key_at-within}
-use Rattle.digram_index.proofs.LevelLemmas.{same_some}
+use Rattle.std.proofs.Common.{◌+◌, ℕ, ap, ◌∙◌}
 use Rattle.rule_pruning.proofs.CopyLinks.{copy-ends, is-copy, is-room, walking-begins, walking-next}
 use Rattle.rule_pruning.proofs.links.link_copy.Goals as goal
 

@@ -1,4 +1,4 @@
-use Rattle.std.proofs.Common.{◌+◌, arith}
+use Rattle.std.proofs.Common.{arith}
 use Rattle.digram_index.specs.Building.{IsNumberIn}
 use Rattle.digram_index.proofs.KeptRules.{drop-kept, drop-lacks, unlinked-but}
 use Rattle.rule_pruning.proofs.pruning.drop_uncalled.Goals as goal

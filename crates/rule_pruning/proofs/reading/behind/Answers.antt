@@ -1,6 +1,5 @@
-use Rattle.std.proofs.Common.{◌≡◌, ℕ, Option, Some, None, subst, sym, ◌∙◌}
-use Rattle.rule_arena.specs.declared.key.Key.{Key}
-use Rattle.rule_pruning.proofs.Behind.{IsClimbing, above-stands, climbing-begins, climbing-ends, climbing-falls, climbing-finds, climbing-next, height}
+use Rattle.std.proofs.Common.{sym, ◌∙◌}
+use Rattle.rule_pruning.proofs.Behind.{above-stands, climbing-begins, climbing-ends, climbing-falls, climbing-finds, climbing-next}
 use Rattle.rule_pruning.proofs.reading.behind.Goals as goal
 
 pub loop-above-init : goal.loop-above-init

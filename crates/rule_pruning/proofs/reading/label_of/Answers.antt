@@ -1,4 +1,4 @@
-use Rattle.std.proofs.Common.{◌≡◌, ℕ, Some, sym, ap, ◌∙◌}
+use Rattle.std.proofs.Common.{Some, sym, ap, ◌∙◌}
 use Rattle.rule_arena.specs.Terms.{Node}
 use Rattle.rule_arena.proofs.NodeLemmas.{key_of_node}
 use Rattle.slt_grammar.specs.Keyed.{nodes_at}

@@ -1,6 +1,5 @@
-use Rattle.std.proofs.Common.{ap, arith}
+use Rattle.std.proofs.Common.{arith}
 use Rattle.rule_pruning.proofs.SavingLemmas.{body-length}
-use Rattle.rule_pruning.proofs.NearInlines.{near-inlined}
 use Rattle.rule_pruning.proofs.savings.body_length.Goals as goal
 
 pub returns : goal.returns

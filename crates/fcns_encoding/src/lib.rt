@@ -9,6 +9,8 @@
 
 mod coding;
 mod folder;
+#[cfg(test)]
+mod folder_tests;
 mod kids;
 mod laws;
 mod part;

@@ -24,12 +24,6 @@ pub folding : (names : List Pair) (cells : List Cell) (values : List (List ℕ))
     → IsFolding names cells values stack
 folding names cells values stack log w used = record { tells = subst (Tells names (terms_of cells) values stack) (sym (tells-told names cells values stack log w)) w; used = used }
 
--- a folder that got no calls
-pub folding-none : (names : List Pair) (cells : List Cell) (values : List (List ℕ)) (stack : List Part) → names ≡ [] → cells ≡ [] → values ≡ [] → stack ≡ [] → IsFolding names cells values stack
-folding-none names cells values stack n c v s =
-    folding names cells values stack [] (record { named = n; texts = v; built = subst (λ ps. Builds names (terms_of cells) ps []) (sym s) refl })
-    (λ k h. absurd (omega (arith, h, ap length c)))
-
 -- The fields after a call tell one call more.
 pub record Goes (names : List Pair) (cells : List Cell) (values : List (List ℕ)) (stack : List Part) (calls : List Event) (count : ℕ) : Type 0 where
   pub folding : IsFolding names cells values stack

@@ -17,5 +17,6 @@ pub mod RuleLemmas
 pub mod SweptLemmas
 pub mod SizeLemmas
 pub mod SubtermLemmas
+pub mod ShapeLemmas
 pub mod StandLemmas
 pub mod FinishLemmas

@@ -57,9 +57,6 @@ module _ (cells : List Cell) (low : AreEarlier cells) where
 
   -- What labels mean before others.
   module _ (ranks : List ℕ) (flat : AreRankless ranks) (fs : List (List Term → Term)) where
-    means : List Label → List Term
-    means ls = meanings term_algebra ranks fs [] ls []
-
     call-means : (number k : ℕ) (ys : List Label) → AreCalled cells number fs → k < number → is_ruled cells k ≡ true
         → meanings term_algebra ranks fs [] (Call (rule_place cells k) ∷ ys) [] ≡ term_at cells k ∷ meanings term_algebra ranks fs [] ys []
     call-means number k ys called h r =

@@ -3,7 +3,7 @@ use Rattle.std.proofs.Common.{◌≡◌, ℕ, zero, suc, ◌+◌, ◌*◌, ◌<�
 use Rattle.std.specs.Prelude.{Option, None}
 use Rattle.plain_tree.specs.declared.kind.Kind.{Kind}
 use Rattle.plain_tree.specs.declared.kind.Kind.TheVariants as kind
-use Rattle.plain_tree.specs.Lawful.{IsDocument, IsLawfulTree, AreElementKids, AreDocumentKids, AreLawfulTrees, IsOfKind}
+use Rattle.plain_tree.specs.Lawful.{IsDocument}
 use Rattle.plain_tree.specs.Numbers.{nodes_all, texts, values_of}
 use Rattle.plain_tree.specs.Tree.{Tree, node, Trees, none, more}
 use Rattle.slt_grammar.proofs.Standing.{code-one}
@@ -23,24 +23,7 @@ use Rattle.fcns_encoding.specs.declared.part.Part.{Part}
 use Rattle.fcns_encoding.proofs.EventLemmas.{trees-texts, trees-pairs}
 use Rattle.fcns_encoding.proofs.InternLemmas.{KeepsPlaces, Codes-keeps, Interns-distinct}
 use Rattle.fcns_encoding.proofs.LawfulLemmas.{names-lawful}
-
-element_kids_shaped : (ts : Trees) (in_tag : Bool) → AreElementKids in_tag ts → AreLawfulTrees ts → AreShaped ts
-element_kids_shaped none in_tag are lawful = tt
-element_kids_shaped (more (node kind.Document n v ks) ts) in_tag are lawful = absurd are
-element_kids_shaped (more (node kind.Element n v ks) ts) in_tag are lawful = ((lawful.0.0.1, element_kids_shaped ks true lawful.0.1 lawful.0.2), element_kids_shaped ts false are lawful.1)
-element_kids_shaped (more (node kind.Attribute n v ks) ts) in_tag are lawful = (lawful.0.1, element_kids_shaped ts true are.2 lawful.1)
-element_kids_shaped (more (node kind.Text n v ks) ts) in_tag are lawful = (lawful.0.1, element_kids_shaped ts false are lawful.1)
-element_kids_shaped (more (node kind.Comment n v ks) ts) in_tag are lawful = (lawful.0.1, element_kids_shaped ts false are lawful.1)
-element_kids_shaped (more (node kind.Instruction n v ks) ts) in_tag are lawful = (lawful.0.1, element_kids_shaped ts false are lawful.1)
-
-document_kids_shaped : (ts : Trees) (rooted : Bool) → AreDocumentKids rooted ts → AreLawfulTrees ts → AreShaped ts
-document_kids_shaped none rooted are lawful = tt
-document_kids_shaped (more (node kind.Document n v ks) ts) rooted are lawful = absurd are
-document_kids_shaped (more (node kind.Element n v ks) ts) rooted are lawful = ((lawful.0.0.1, element_kids_shaped ks true lawful.0.1 lawful.0.2), document_kids_shaped ts true are.1 lawful.1)
-document_kids_shaped (more (node kind.Attribute n v ks) ts) rooted are lawful = absurd are
-document_kids_shaped (more (node kind.Text n v ks) ts) rooted are lawful = absurd are
-document_kids_shaped (more (node kind.Comment n v ks) ts) rooted are lawful = (lawful.0.1, document_kids_shaped ts rooted are lawful.1)
-document_kids_shaped (more (node kind.Instruction n v ks) ts) rooted are lawful = (lawful.0.1, document_kids_shaped ts rooted are lawful.1)
+use Rattle.fcns_encoding.proofs.ShapeLemmas.{document_kids_shaped}
 
 -- a lawful document is one over shaped kids
 record IsOver (t : Tree) : Type 0 where

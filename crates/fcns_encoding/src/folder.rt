@@ -1,5 +1,5 @@
 // A builder that folds what it gets.
-ghost use Rattle.std.specs.Prelude.{◌≡◌, ◌≤◌, ◌*◌, [], List, length, true, IfOk, OnOk};
+ghost use Rattle.std.specs.Prelude.{◌≡◌, ◌≤◌, ◌*◌, [], List, length, true, IfOk};
 ghost use Rattle.plain_tree.specs.Tree.{Tree, none, more};
 ghost use Rattle.plain_tree.specs.Lawful.{IsDocument};
 ghost use Rattle.xml_nodes.specs.Machine.{events};
@@ -157,75 +157,5 @@ fn grammar_of(alloc: Global, rules: RuleList) -> Result<Grammar, AllocError>
             GrammarError::Memory => Err(AllocError),
             _ => unreachable!(),
         },
-    }
-}
-
-#[cfg(test)]
-mod tests {
-    use super::*;
-    use std::test::Fail;
-
-    // An element with two empty kids.
-    fn add_row(folder: &mut Folder) -> Result<(), AllocError>
-        requires { folder.old.sound ≡ true }
-        ensures sound { OnOk result (folder.new.sound ≡ true) }
-        ensures depth { OnOk result (folder.new.depth ≡ folder.old.depth) }
-    {
-        folder.open(Kind::Element, b"e")?;
-        folder.open(Kind::Element, b"f")?;
-        folder.close()?;
-        folder.open(Kind::Element, b"g")?;
-        folder.close()?;
-        folder.close()
-    }
-
-    #[test]
-    fn equal_subterms_are_kept_once(rt: HostRuntime) -> Result<(), Fail> {
-        let mut folder = Folder::new(rt.alloc());
-        folder.open(Kind::Element, b"r")?;
-        for _ in 0..100 {
-            add_row(&mut folder)?;
-        }
-        folder.close()?;
-        let folded = folder.finish()?;
-        assert_eq!(rt; folded.names.len(), 5);
-        assert_eq!(rt; folded.grammar.rules(), 2);
-        assert_eq!(rt; folded.grammar.size(), 210);
-        Ok(())
-    }
-
-    #[test]
-    fn texts_stand_in_document_order(rt: HostRuntime) -> Result<(), Fail> {
-        let mut folder = Folder::new(rt.alloc());
-        folder.open(Kind::Element, b"r")?;
-        folder.leaf(Kind::Attribute, b"k", b"v")?;
-        folder.leaf(Kind::Text, b"", b"t")?;
-        folder.open(Kind::Element, b"r")?;
-        folder.leaf(Kind::Attribute, b"k", b"w")?;
-        folder.leaf(Kind::Text, b"", b"u")?;
-        folder.close()?;
-        folder.close()?;
-        let folded = folder.finish()?;
-        assert_eq!(rt; folded.names.len(), 4);
-        assert_eq!(rt; folded.texts.len(), 4);
-        let third = folded.texts.get(2).ok_or("no text")?;
-        assert_eq!(rt; third, b"w".as_slice());
-        Ok(())
-    }
-
-    #[test]
-    fn deep_documents_are_folded(rt: HostRuntime) -> Result<(), Fail> {
-        let mut folder = Folder::new(rt.alloc());
-        let levels = 100_000;
-        for _ in 0..levels {
-            folder.open(Kind::Element, b"e")?;
-        }
-        for _ in 0..levels {
-            folder.close()?;
-        }
-        let folded = folder.finish()?;
-        assert_eq!(rt; folded.grammar.rules(), 1);
-        assert_eq!(rt; folded.grammar.size(), 200_003);
-        Ok(())
     }
 }

@@ -5,10 +5,18 @@
 //! the table of names; what the nodes have as values are the texts, in document order. `encode` makes a `Coded` of a node,
 //! and `encode_list` one of a list of nodes, with a parameter where the code of others is to follow. `laws` says that a grammar
 //! whose one rule has the code as its body stands for the document.
+//!
+//! A `Folder` takes a document as the calls of a `Builder`, without its tree, and keeps each different subterm of the code once:
+//! `subterms` has the table, `part` and `kids` the stack of what waits until its element is closed, `symbols` the names in the
+//! order of their first nodes. `finish` makes a `Folded`: `shared_rules` writes a rule for each subterm that is used twice or more,
+//! and everything else where it is used. The grammar stands for the document, is swept, and is at most three times as large as the
+//! code has different subterms.
 #![tactic(auto)]
 
 mod coding;
 mod folder;
+#[cfg(test)]
+mod folder_tests;
 mod kids;
 mod laws;
 mod part;

@@ -15,6 +15,7 @@ use Rattle.fcns_encoding.specs.declared.part.Part.{Part}
 use Rattle.fcns_encoding.specs.declared.part.Part.TheVariants.{Begun, Whole}
 use Rattle.fcns_encoding.proofs.EventLemmas.{events-append, events_all-append, texts-append, pairs-append, begun-push, leaf-events, leaf-shaped}
 use Rattle.fcns_encoding.proofs.InternLemmas.{KeepsPlaces, Codes-keeps}
+
 -- each number of the one list of terms has its term in the other
 abbrev pub Keeps : List Term → List Term → Type 0
 Keeps old new = (i : ℕ) (t : Term) → slice_get old i ≡ Some t → slice_get new i ≡ Some t

@@ -1,16 +1,16 @@
 -- What the rules of a table mean, and that they are a grammar.
-use Rattle.std.proofs.Common.{◌≡◌, ℕ, zero, suc, ◌+◌, ◌-◌, ◌<◌, ◌≤◌, nat_le, eqb, Bool, true, false, ◌||◌, List, [], ◌∷◌, ◌++◌, length, take, drop, map, get_or, Some, slice_get, if◌then◌else◌, refl, ap, sym, ◌∙◌, subst, ◌⊎◌, inl, inr, arith, length-append, append_assoc, append-nil}
+use Rattle.std.proofs.Common.{◌≡◌, ℕ, zero, suc, ◌+◌, ◌-◌, ◌<◌, ◌≤◌, nat_le, Bool, true, false, ◌||◌, List, [], ◌∷◌, ◌++◌, length, take, drop, get_or, Some, slice_get, if◌then◌else◌, refl, ap, sym, ◌∙◌, subst, ◌⊎◌, inl, inr, arith, length-append, append_assoc, append-nil}
 use Rattle.std.proofs.lemmas.Bool.{eq-eqb}
 use Rattle.std.proofs.lemmas.Bool.Decides.{eqb_tells}
 use Rattle.rule_arena.specs.Preorder.{AreTerms}
 use Rattle.rule_arena.proofs.PreorderLemmas.{AreTerms-append}
 use Rattle.rule_arena.specs.declared.label.Label.{Label}
-use Rattle.rule_arena.specs.declared.label.Label.TheVariants.{Bottom, Symbol, Call}
+use Rattle.rule_arena.specs.declared.label.Label.TheVariants.{Symbol, Call}
 use Rattle.slt_grammar.proofs.Keeping.{CallsBelow-append}
 use Rattle.slt_grammar.proofs.Meanings.{params-append}
 use Rattle.slt_grammar.specs.Algebras.{apply, meaning, meanings, rule_meanings, ranks_of}
 use Rattle.slt_grammar.specs.Bodies.{arity, IsTerm, params, CallsBelow}
-use Rattle.slt_grammar.specs.Grammars.{IsLawfulAt, IsGrammar, body_at, rank_at, no_rule, value}
+use Rattle.slt_grammar.specs.Grammars.{IsGrammar, rank_at, no_rule, value}
 use Rattle.slt_grammar.specs.Terms.{Term, Leaf, Node, term_algebra, holes}
 use Rattle.slt_grammar.specs.declared.rules.Rule.{Rule}
 use Rattle.fcns_encoding.specs.Cells.{AreEarlier, term_at, terms_of}

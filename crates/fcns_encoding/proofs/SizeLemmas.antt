@@ -1,5 +1,5 @@
 -- How large the rules of a table are, where each number that is used twice has one: at most three labels a cell.
-use Rattle.std.proofs.Common.{◌≡◌, ℕ, zero, suc, ◌+◌, ◌*◌, ◌<◌, ◌≤◌, nat_le, eqb, Bool, true, false, ◌||◌, List, [], ◌∷◌, ◌++◌, length, get_or, Some, slice_get, refl, ap, sym, ◌∙◌, subst, ◌⊎◌, inl, inr, arith, length-append}
+use Rattle.std.proofs.Common.{◌≡◌, ℕ, zero, suc, ◌+◌, ◌*◌, ◌<◌, ◌≤◌, nat_le, eqb, Bool, true, false, ◌||◌, List, [], ◌∷◌, length, Some, slice_get, refl, ap, subst, inl, inr, arith, length-append}
 use Rattle.std.specs.Prelude.{sum_by, if◌then◌else◌}
 use Rattle.std.proofs.lemmas.List.Sums.{sum_by-cons}
 use Rattle.std.proofs.lemmas.Bool.{leb-false, eq-eqb}
@@ -9,7 +9,7 @@ use Rattle.slt_grammar.specs.Bodies.{real_nodes}
 use Rattle.slt_grammar.specs.Grammars.{size, whole}
 use Rattle.slt_grammar.specs.declared.rules.Rule.{Rule}
 use Rattle.fcns_encoding.specs.Cells.{AreEarlier}
-use Rattle.fcns_encoding.specs.Sharing.{used_by, one_if, times, is_ruled, rule_place, part_at, body_of, rule_of, rules_for, rules_of_cells, AreBelow}
+use Rattle.fcns_encoding.specs.Sharing.{used_by, one_if, times, is_ruled, part_at, body_of, rule_of, rules_for, rules_of_cells, AreBelow}
 use Rattle.fcns_encoding.specs.declared.subterms.Cell.{Cell}
 use Rattle.fcns_encoding.proofs.CellLemmas.{has_get, got_within}
 use Rattle.fcns_encoding.proofs.RuleLemmas.{no_cell, ruled_or, with_rule, without_rule}

@@ -2,4 +2,4 @@ use Rattle.std.proofs.Common.{◌≡◌, true}
 use Rattle.fcns_encoding.proofs.folder_tests.rows.Given as goal
 
 abbrev pub invariant-loop : goal.invariant-loop
-invariant-loop g l = record { sound : l.folder.sound ≡ true; depth : l.folder.depth ≡ 1 }
+invariant-loop l = record { sound : l.folder.sound ≡ true; depth : l.folder.depth ≡ 1 }

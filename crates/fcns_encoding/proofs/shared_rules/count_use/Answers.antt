@@ -1,4 +1,4 @@
-use Rattle.std.proofs.Common.{◌+◌, ◌<◌, ◌≤◌, length, slice_index_or, refl, arith}
+use Rattle.std.proofs.Common.{refl, arith}
 use Rattle.fcns_encoding.proofs.CellLemmas.{has_get}
 use Rattle.fcns_encoding.proofs.SharingLemmas.{counted-more, count-most}
 use Rattle.fcns_encoding.proofs.shared_rules.count_use.Goals as goal

@@ -1,4 +1,4 @@
-use Rattle.std.proofs.Common.{◌≡◌, ◌++◌, ◌∷◌, ◌+◌, ◌*◌, ◌<◌, [], sym, subst, take, length, length-append, slice_index_or, arith}
+use Rattle.std.proofs.Common.{◌++◌, ◌∷◌, [], sym, subst, take, length-append, slice_index_or, arith}
 use Rattle.fcns_encoding.proofs.CellLemmas.{has_get}
 use Rattle.fcns_encoding.proofs.SharingLemmas.{used_by-more, used_by-taken}
 use Rattle.fcns_encoding.specs.Sharing.{used_by, AreCounted}

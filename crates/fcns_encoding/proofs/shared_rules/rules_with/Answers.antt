@@ -1,4 +1,4 @@
-use Rattle.std.proofs.Common.{◌≡◌, ◌+◌, ◌<◌, true, false, ap, ◌∙◌, sym, subst, take, length, arith}
+use Rattle.std.proofs.Common.{◌≡◌, ◌+◌, ◌<◌, true, false, ap, ◌∙◌, sym, subst, length, arith}
 use Rattle.fcns_encoding.proofs.CellLemmas.{has_get}
 use Rattle.fcns_encoding.proofs.SharingLemmas.{rules-ruled, rules-other, next-place, places-ruled, places-other}
 use Rattle.fcns_encoding.specs.Sharing.{is_ruled, ArePlaces}

@@ -1,4 +1,4 @@
-use Rattle.std.proofs.Common.{◌≡◌, ◌++◌, ◌∷◌, ◌≤◌, [], refl, ap, sym, ◌∙◌, length, arith}
+use Rattle.std.proofs.Common.{ap, length, arith}
 use Rattle.fcns_encoding.proofs.SharingLemmas.{pending-whole, pending-over, writes-on, below-pop, below-over}
 use Rattle.fcns_encoding.proofs.shared_rules.write.Goals as goal
 

@@ -1,5 +1,4 @@
-use Rattle.std.proofs.Common.{◌≡◌, ◌<◌, ◌≤◌, ◌-◌, ◌+◌, ap, sym, ◌∙◌, length, slice_get, Some, arith}
-use Rattle.std.specs.Prelude.{None}
+use Rattle.std.proofs.Common.{◌≡◌, ◌<◌, ◌-◌, ◌+◌, ap, ◌∙◌, length, Some, arith}
 use Rattle.fcns_encoding.proofs.CellLemmas.{has_get}
 use Rattle.fcns_encoding.proofs.SharingLemmas.{part-zero, stands-call, stands-cell}
 use Rattle.fcns_encoding.specs.Sharing.{part_at}

@@ -1,20 +1,21 @@
 -- Stacks of parts that calls made.
 use Rattle.std.proofs.Common.{◌≡◌, ℕ, true, List, [], ◌∷◌, ◌++◌, Some, slice_get, refl, ap, sym, ◌∙◌, subst, append_assoc, append-nil, length, arith}
-use Rattle.std.specs.Prelude.{Option, None}
+use Rattle.std.specs.Prelude.{None}
 use Rattle.plain_tree.specs.declared.kind.Kind.{Kind}
 use Rattle.plain_tree.specs.declared.kind.Kind.TheVariants as kind
 use Rattle.plain_tree.specs.Numbers.{has_value}
 use Rattle.plain_tree.specs.Tree.{Tree, node, Trees, none, more}
 use Rattle.slt_grammar.specs.Terms.{Term, Leaf, Node}
 use Rattle.slt_grammar.specs.Coding.{Codes}
-use Rattle.xml_nodes.specs.Machine.{Event, Opened, Leaf as LeafEvent, Closed, events, events_all, IsShaped, AreShaped}
+use Rattle.xml_nodes.specs.Machine.{Event, Opened, Leaf as LeafEvent, Closed, events, events_all, IsShaped}
 use Rattle.fcns_encoding.specs.Calls.{event_texts, event_pairs, begun_pairs, started_pairs}
-use Rattle.fcns_encoding.specs.Folding.{Builds, Tells, Taking, Taken, Stood, kids_of}
+use Rattle.fcns_encoding.specs.Folding.{Builds, Tells, Taking, Taken, kids_of}
 use Rattle.fcns_encoding.specs.Interning.{Pair, Interns, tree_pair}
 use Rattle.fcns_encoding.specs.declared.part.Part.{Part}
 use Rattle.fcns_encoding.specs.declared.part.Part.TheVariants.{Begun, Whole}
 use Rattle.fcns_encoding.proofs.EventLemmas.{events-append, events_all-append, texts-append, pairs-append, begun-push, leaf-events, leaf-shaped}
 use Rattle.fcns_encoding.proofs.InternLemmas.{KeepsPlaces, Codes-keeps}
+
 -- each number of the one list of terms has its term in the other
 abbrev pub Keeps : List Term → List Term → Type 0
 Keeps old new = (i : ℕ) (t : Term) → slice_get old i ≡ Some t → slice_get new i ≡ Some t

@@ -203,10 +203,10 @@ added inside old new c place number same one keys s is =
     by_test false t e h =
         let none = absent c inside t in
         let distinct : AreDistinctCells (inside ++ c ∷ []) = λ i j x a b.
-            elim (end_get inside c i x a) [
-              | inl p ↦ elim (end_get inside c j x b) [ inl q ↦ one i j x p q | inr q ↦ absurd (there i j x (none i) p q.1) ]
-              | inr p ↦ elim (end_get inside c j x b) [ inl q ↦ absurd (there j i x (none j) q p.1) | inr q ↦ p.0 ∙ sym q.0 ]
-            ] in
+        elim (end_get inside c i x a) [
+          | inl p ↦ elim (end_get inside c j x b) [ inl q ↦ one i j x p q | inr q ↦ absurd (there i j x (none i) p q.1) ]
+          | inr p ↦ elim (end_get inside c j x b) [ inl q ↦ absurd (there j i x (none j) q p.1) | inr q ↦ p.0 ∙ sym q.0 ]
+        ] in
         let last : place ≡ length inside =
         distinct place (length inside) c (subst (λ cs. slice_get cs place ≡ Some c) e h) (last_get inside c (length inside) refl) in (
           record {
@@ -228,7 +228,7 @@ inserted inside old new c place same are f s keys stored =
     record {
       extends = λ number e. (added inside old new c place number same are.distinct keys stored e).0;
       cells = let a = added inside old new c place (place + 1) same are.distinct keys stored refl in
-      record { earlier = extends_earlier old new c (place + 1) a.0 f s (subst AreEarlier same are.earlier); distinct = a.1 };
+          record { earlier = extends_earlier old new c (place + 1) a.0 f s (subst AreEarlier same are.earlier); distinct = a.1 };
     }
 
 -- a number that has a term is within the table

@@ -1,5 +1,5 @@
 -- Calls one after the other, and the names and texts that they tell.
-use Rattle.std.proofs.Common.{◌≡◌, ℕ, true, List, [], ◌∷◌, ◌++◌, map, filter, refl, ap, sym, ◌∙◌, append_assoc, append-nil}
+use Rattle.std.proofs.Common.{◌≡◌, ℕ, true, List, [], ◌∷◌, ◌++◌, map, refl, ap, sym, ◌∙◌, append_assoc}
 use Rattle.std.proofs.lemmas.List.{map-append}
 use Rattle.plain_tree.specs.declared.kind.Kind.{Kind}
 use Rattle.plain_tree.specs.declared.kind.Kind.TheVariants as kind
@@ -9,7 +9,7 @@ use Rattle.slt_grammar.proofs.Standing.{values_of-append}
 use Rattle.xml_nodes.proofs.Trees.{events-next, all-next}
 use Rattle.xml_nodes.specs.Machine.{Event, Opened, Leaf, Closed, events, events_all, IsShaped, AreShaped}
 use Rattle.fcns_encoding.specs.Calls.{event_pairs, event_texts, begun_pairs, started_pairs}
-use Rattle.fcns_encoding.specs.Interning.{Pair, tree_pair}
+use Rattle.fcns_encoding.specs.Interning.{tree_pair}
 
 pub events-append : (t : Tree) (a b : List Event) → events t a ++ b ≡ events t (a ++ b)
 events-append t a b = ap (λ es. es ++ b) (events-next t a) ∙ append_assoc (events t []) a b ∙ sym (events-next t (a ++ b))

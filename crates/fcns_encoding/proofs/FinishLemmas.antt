@@ -1,5 +1,5 @@
 -- The rules of a folder that is finished.
-use Rattle.std.proofs.Common.{◌≡◌, ℕ, zero, suc, ◌+◌, ◌-◌, ◌*◌, ◌<◌, ◌≤◌, List, [], ◌∷◌, ◌++◌, length, Some, slice_get, refl, ap, sym, ◌∙◌, subst, ◌⊎◌, inl, inr, arith}
+use Rattle.std.proofs.Common.{◌≡◌, ℕ, zero, suc, ◌+◌, ◌-◌, ◌*◌, ◌<◌, ◌≤◌, List, [], ◌∷◌, ◌++◌, length, Some, slice_get, ap, sym, ◌∙◌, subst, inl, inr, arith}
 use Rattle.std.specs.Prelude.{Option, None}
 use Rattle.plain_tree.specs.declared.kind.Kind.TheVariants as kind
 use Rattle.slt_grammar.specs.Grammars.{IsGrammar, IsSwept, size, value}
@@ -40,19 +40,19 @@ root-last cells root low used some =
     only (suc i) e = cc
 
 -- what the rules are
-pub record Finished (G : List Rule) (names : List Pair) (values : List (List ℕ)) (log : List Event) : Type 0 where
+pub record Finished (least : ℕ) (G : List Rule) (names : List Pair) (values : List (List ℕ)) (log : List Event) : Type 0 where
   pub grammar : IsGrammar G
   pub swept : IsSwept G
   pub folds : Folds G names values log
-  pub small : (all : List Term) → AreSubterms all (value G) → size G ≤ 3 * length all
+  pub small : least ≤ 2 → (all : List Term) → AreSubterms all (value G) → size G ≤ 3 * length all
 
-pub finished : (names names' : List Pair) (cells before after : List Cell) (values : List (List ℕ)) (stack parts : List Part) (code document root : ℕ) (begun : Option ℕ) (G : List Rule)
+pub finished : (least : ℕ) (names names' : List Pair) (cells before after : List Cell) (values : List (List ℕ)) (stack parts : List Part) (code document root : ℕ) (begun : Option ℕ) (G : List Rule)
     → IsFolding names cells values stack → Taken names (terms_of before) parts (told names cells values stack) code begun → begun ≡ None → AreUsed before (code ∷ waiting parts)
     → KeepsPlaces names names' → Interns [] (started_pairs (told names cells values stack) ++ (kind.Document, []) ∷ []) names' → slice_get names' document ≡ Some (kind.Document, [])
     → Extends before (record { symbol = document; first = code; second = 0 }) root after
     → ((a b : Term) → slice_get (terms_of before) code ≡ Some a → slice_get (terms_of before) 0 ≡ Some b → slice_get (terms_of after) root ≡ Some (Node document a b))
-    → AreEarlier after → AreDistinctCells after → G ≡ rules_of_cells after → Finished G names' values (told names cells values stack)
-finished names names' cells before after values stack parts code document root begun G f taken none used keeps named place g term low one is =
+    → AreEarlier after → AreDistinctCells after → G ≡ rules_of_cells least after → Finished least G names' values (told names cells values stack)
+finished least names names' cells before after values stack parts code document root begun G f taken none used keeps named place g term low one is =
     let empty : parts ≡ [] = nothing begun none taken.stood in
     let others : AreUsed before (0 ∷ code ∷ []) = used-others before (code ∷ waiting parts) (0 ∷ code ∷ []) (λ k w. only k w.0 (subst (λ ps. slice_get (code ∷ waiting ps) w.0 ≡ Some k) empty w.1)) used in
     let top : AreUsed after (root ∷ []) = used-over before after (record { symbol = document; first = code; second = 0 }) root [] g others in
@@ -60,17 +60,17 @@ finished names names' cells before after values stack parts code document root b
     let last : root ≡ length after = root-last after root low top some in
     let all : AreUsed after (length after ∷ []) = subst (λ k. AreUsed after (k ∷ [])) last top in
     let n : length after ≡ suc (length after - 1) = omega (arith, some) in
-    let value_is : value (rules_of_cells after) ≡ term_at after (length after) = rules-value after low (length after - 1) n in
+    let value_is : value (rules_of_cells least after) ≡ term_at after (length after) = rules-value least after low (length after - 1) n in
     let here : term_at after (length after) ≡ Node document taken.term Leaf = ap (term_at after) (sym last) ∙ get_is (terms_of after) root _ Leaf (term taken.term Leaf taken.value (terms_zero before)) in
-    subst (λ H. Finished H names' values (told names cells values stack)) (sym is) (record {
-      grammar = rules-grammar after low (length after - 1) n;
-      swept = rules-swept after low (length after - 1) n all;
-      folds = folds (rules_of_cells after) names names' (terms_of before) values parts (told names cells values stack) code document begun none taken keeps (document_again (told names cells values stack) names' named) place f.tells.texts (value_is ∙ here);
-      small = λ terms are. omega (
-          arith,
-          rules-small after low,
-          few-cells after low (length after - 1) n all one terms (subst (AreSubterms terms) value_is are),
-        );
+    subst (λ H. Finished least H names' values (told names cells values stack)) (sym is) (record {
+      grammar = rules-grammar least after low (length after - 1) n;
+      swept = rules-swept least after low (length after - 1) n all;
+      folds = folds (rules_of_cells least after) names names' (terms_of before) values parts (told names cells values stack) code document begun none taken keeps (document_again (told names cells values stack) names' named) place f.tells.texts (value_is ∙ here);
+      small = λ few terms are. omega (
+        arith,
+        rules-small least after low few,
+        few-cells after low (length after - 1) n all one terms (subst (AreSubterms terms) value_is are),
+      );
     })
   where
     nothing : (b : Option ℕ) → b ≡ None → Stood names (terms_of before) parts taken.front b → parts ≡ []

@@ -1,14 +1,13 @@
 -- One call more of a folder.
-use Rattle.std.proofs.Common.{◌≡◌, ℕ, ◌+◌, ◌-◌, ◌<◌, true, false, List, [], ◌∷◌, ◌++◌, Some, slice_get, refl, ap, sym, ◌∙◌, subst, length, arith}
+use Rattle.std.proofs.Common.{◌≡◌, ℕ, ◌+◌, ◌-◌, true, List, [], ◌∷◌, ◌++◌, Some, slice_get, ap, sym, ◌∙◌, subst, arith}
 use Rattle.std.specs.Prelude.{Option, is_some, if◌then◌else◌}
 use Rattle.plain_tree.specs.declared.kind.Kind.{Kind}
 use Rattle.plain_tree.specs.declared.kind.Kind.TheVariants as kind
 use Rattle.plain_tree.specs.Numbers.{has_value}
-use Rattle.slt_grammar.specs.Terms.{Term}
 use Rattle.xml_nodes.specs.Machine.{Event, Opened, Leaf, Closed}
 use Rattle.fcns_encoding.specs.Calls.{started_pairs}
 use Rattle.fcns_encoding.specs.Cells.{terms_of, AreUsed}
-use Rattle.fcns_encoding.specs.Folding.{Builds, Tells, Taken, IsFolding, told, waiting, begun_in}
+use Rattle.fcns_encoding.specs.Folding.{Tells, Taken, IsFolding, told, waiting, begun_in}
 use Rattle.fcns_encoding.specs.Interning.{Pair, Interns}
 use Rattle.fcns_encoding.specs.declared.part.Part.{Part}
 use Rattle.fcns_encoding.specs.declared.part.Part.TheVariants.{Begun, Whole}

@@ -1,6 +1,5 @@
 -- What a folder keeps tells one list of calls.
-use Rattle.std.proofs.Common.{◌≡◌, ℕ, List, [], ◌∷◌, ◌++◌, Some, slice_get, get_or, refl, ap, sym, ◌∙◌}
-use Rattle.plain_tree.specs.declared.kind.Kind.{Kind}
+use Rattle.std.proofs.Common.{◌≡◌, ℕ, List, [], ◌∷◌, Some, slice_get, refl, ap, sym, ◌∙◌}
 use Rattle.plain_tree.specs.declared.kind.Kind.TheVariants as kind
 use Rattle.plain_tree.specs.Tree.{Tree, node, Trees, none, more}
 use Rattle.slt_grammar.specs.Terms.{Term, Leaf as Bottom, Node}

@@ -1,9 +1,9 @@
 -- The names of what was begun.
-use Rattle.std.proofs.Common.{◌≡◌, ℕ, List, [], ◌∷◌, ◌++◌, length, Some, slice_get, refl, ap, sym, ◌∙◌, subst, inl, inr, arith}
+use Rattle.std.proofs.Common.{◌≡◌, ℕ, List, [], ◌∷◌, ◌++◌, length, Some, slice_get, refl, ap, sym, subst, inl, inr, arith}
 use Rattle.plain_tree.specs.declared.kind.Kind.TheVariants as kind
 use Rattle.xml_nodes.specs.Machine.{Event}
 use Rattle.fcns_encoding.specs.Calls.{begun_pairs, started_pairs}
-use Rattle.fcns_encoding.specs.Interning.{Pair, IsIn, Interns}
+use Rattle.fcns_encoding.specs.Interning.{Pair, Interns}
 use Rattle.fcns_encoding.proofs.InternLemmas.{Interns-keeps}
 
 has : (p : Pair) (ps new : List Pair) → Interns [] (p ∷ ps) new → (i : ℕ) × (slice_get new i ≡ Some p)

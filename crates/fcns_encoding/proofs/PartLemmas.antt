@@ -1,11 +1,11 @@
 -- What stacks of parts count, and which numbers wait on them.
-use Rattle.std.proofs.Common.{◌≡◌, ℕ, zero, suc, ◌+◌, ◌<◌, ◌≤◌, List, [], ◌∷◌, ◌++◌, Some, slice_get, length, refl, ap, sym, ◌∙◌, subst, ◌⊎◌, inl, inr, arith, length-append, append-nil}
+use Rattle.std.proofs.Common.{◌≡◌, ℕ, zero, suc, ◌+◌, ◌<◌, List, [], ◌∷◌, ◌++◌, Some, slice_get, length, refl, ap, sym, ◌∙◌, subst, ◌⊎◌, inl, inr, arith, length-append, append-nil}
 use Rattle.fcns_encoding.specs.Cells.{Extends, IsUsed, AreUsed}
 use Rattle.fcns_encoding.specs.Folding.{begun_in, waiting}
 use Rattle.fcns_encoding.specs.declared.part.Part.{Part}
 use Rattle.fcns_encoding.specs.declared.part.Part.TheVariants.{Begun, Whole}
 use Rattle.fcns_encoding.specs.declared.subterms.Cell.{Cell}
-use Rattle.fcns_encoding.proofs.CellLemmas.{front_get, end_get, last_get, got_within}
+use Rattle.fcns_encoding.proofs.CellLemmas.{front_get}
 
 pub begun-append : (xs ys : List Part) → begun_in (xs ++ ys) ≡ begun_in xs + begun_in ys
 begun-append [] ys = omega arith

@@ -1,17 +1,15 @@
 -- Uses of numbers, what stands for a number, and how a body is written.
-use Rattle.std.proofs.Common.{◌≡◌, ℕ, zero, suc, ◌+◌, ◌<◌, ◌≤◌, nat_le, eqb, Bool, true, false, ◌||◌, List, [], ◌∷◌, ◌++◌, length, take, get_or, Some, slice_get, slice_set, if◌then◌else◌, refl, ap, sym, ◌∙◌, subst, ◌⊎◌, inl, inr, arith, length-append, append_assoc, append-nil, add-one}
+use Rattle.std.proofs.Common.{◌≡◌, ℕ, zero, suc, ◌+◌, ◌*◌, ◌<◌, ◌≤◌, eqb, Bool, true, false, List, [], ◌∷◌, ◌++◌, length, take, Some, slice_get, slice_set, if◌then◌else◌, refl, ap, sym, ◌∙◌, subst, ◌⊎◌, inl, inr, arith, append_assoc, append-nil}
 use Rattle.std.specs.Prelude.{Option, None}
 use Rattle.std.proofs.lemmas.List.{take_more}
-use Rattle.std.proofs.lemmas.Bool.{eqb-true, eq-eqb}
+use Rattle.std.proofs.lemmas.Bool.{eq-eqb}
 use Rattle.std.proofs.lemmas.Bool.Decides.{eqb_tells}
 use Rattle.rule_arena.specs.declared.label.Label.{Label}
 use Rattle.rule_arena.specs.declared.label.Label.TheVariants.{Bottom, Symbol, Call}
 use Rattle.slt_grammar.specs.declared.rules.Rule.{Rule}
 use Rattle.fcns_encoding.specs.Cells.{AreEarlier}
-use Rattle.fcns_encoding.specs.Sharing.{used_by, one_if, times, uses_for, AreCounted, is_ruled, rule_place, part_of, part_at, body_of, rule_of, rules_for, ArePlaces, Stands, AreBelow, pending}
+use Rattle.fcns_encoding.specs.Sharing.{used_by, one_if, times, AreCounted, is_ruled, rule_place, part_of, part_at, body_of, rule_of, rules_for, ArePlaces, Stands, AreBelow, pending}
 use Rattle.fcns_encoding.specs.declared.subterms.Cell.{Cell}
-use Rattle.fcns_encoding.specs.declared.shared_rules.Uses.{Uses}
-use Rattle.fcns_encoding.specs.declared.shared_rules.Uses.TheVariants.{Never, Once, Often}
 use Rattle.fcns_encoding.specs.declared.shared_rules.Written.TheVariants.{Whole, Over}
 use Rattle.fcns_encoding.proofs.CellLemmas.{get_is, has_get, got_within, numbered_zero, numbered_is}
 
@@ -51,85 +49,106 @@ pub missed : (i k : ℕ) → (i ≡ k → ⊥) → one_if (eqb i k) ≡ 0
 missed i k n = elim (eqb_tells i k) [ inl w ↦ absurd (n w.1) | inr w ↦ ap one_if w.0 ]
 
 -- a number is used once more
-pub counted-more : (uses uses' : List Uses) (numbers : List ℕ) (number : ℕ) (now next : Uses) → AreCounted numbers uses → number < length uses → slice_get uses number ≡ Some now
-    → ((n : ℕ) → now ≡ uses_for n → next ≡ uses_for (suc n)) → uses' ≡ slice_set uses number next → AreCounted (numbers ++ number ∷ []) uses'
-counted-more uses uses' numbers number now next counted there is goes e k h =
-    let longer = set_length uses number next in
+pub counted-more : (uses uses' : List ℕ) (numbers : List ℕ) (number now : ℕ) → AreCounted numbers uses → number < length uses → slice_get uses number ≡ Some now → uses' ≡ slice_set uses number (now + 1)
+    → AreCounted (numbers ++ number ∷ []) uses'
+counted-more uses uses' numbers number now counted there is e k h =
+    let longer = set_length uses number (now + 1) in
     let low : k < length uses = omega (arith, h, longer, ap length e) in
     let more : times k (numbers ++ number ∷ []) ≡ times k numbers + (one_if (eqb number k) + 0) = times-append k numbers (number ∷ []) in
     ap (λ us. slice_get us k) e
-    ∙ elim (get_set uses number k next low) [
+    ∙ elim (get_set uses number k (now + 1) low) [
       | inl w ↦ w.1
           ∙ ap Some (
-            let same : now ≡ uses_for (times number numbers) = one (sym is ∙ counted number there) in
-            let n : suc (times number numbers) ≡ times k (numbers ++ number ∷ []) = omega (arith, more, hit number k w.0, ap (λ j. times j numbers) w.0) in
-            goes (times number numbers) same ∙ ap uses_for n
+          let same : now ≡ times number numbers = one (sym is ∙ counted number there) in
+          let n : now + 1 ≡ times k (numbers ++ number ∷ []) = omega (arith, more, same, hit number k w.0, ap (λ j. times j numbers) w.0) in n
           )
-      | inr w ↦ w.1 ∙ counted k low ∙ ap (λ n. Some (uses_for n)) (let n : times k numbers ≡ times k (numbers ++ number ∷ []) = omega (arith, more, missed number k w.0) in n)
+      | inr w ↦ w.1 ∙ counted k low ∙ ap Some (let n : times k numbers ≡ times k (numbers ++ number ∷ []) = omega (arith, more, missed number k w.0) in n)
     ]
   where
-    one : {a b : Uses} → Some a ≡ Some b → a ≡ b
+    one : {a b : ℕ} → Some a ≡ Some b → a ≡ b
     one e = cc
 
-pub part-zero : (cells : List Cell) → part_at cells 0 ≡ Bottom ∷ []
-part-zero cells = get_is _ 0 (Bottom ∷ []) (Bottom ∷ []) (numbered_zero (Bottom ∷ []) (part_of cells) cells)
+-- a number stands in a list no more often than the list is long
+times-most : (k : ℕ) (ks : List ℕ) → times k ks ≤ length ks
+times-most k [] = omega arith
+times-most k (j ∷ ks) = elim (eqb_tells j k) [ inl w ↦ omega (arith, ap one_if w.0, times-most k ks) | inr w ↦ omega (arith, ap one_if w.0, times-most k ks) ]
 
-part-cell : (cells : List Cell) (i : ℕ) (c : Cell) → AreEarlier cells → slice_get cells i ≡ Some c → part_at cells (suc i) ≡ part_of cells (suc i) c (part_at cells c.first) (part_at cells c.second)
-part-cell cells i c low e = get_is _ (suc i) _ (Bottom ∷ []) (numbered_is (Bottom ∷ []) (part_of cells) cells i c low e)
+pub count-most : (uses numbers : List ℕ) (number now : ℕ) → AreCounted numbers uses → number < length uses → slice_get uses number ≡ Some now → now ≤ length numbers
+count-most uses numbers number now counted there is =
+    let same : now ≡ times number numbers = (let known = counted number there in cc) in omega (arith, same, times-most number numbers)
+
+-- each cell uses two numbers
+used_by-length : (cells : List Cell) → length (used_by cells) ≡ 2 * length cells
+used_by-length [] = refl
+used_by-length (c ∷ cs) = omega (arith, used_by-length cs)
+
+length_take : {X : Type 0} (xs : List X) (i : ℕ) (x : X) → slice_get xs i ≡ Some x → length (take i xs) ≡ i
+length_take [] i x e = cc
+length_take (y ∷ xs) zero x e = refl
+length_take (y ∷ xs) (suc i) x e = ap suc (length_take xs i x e)
+
+pub used_by-taken : (cells : List Cell) (i : ℕ) (c : Cell) → slice_get cells i ≡ Some c → length (used_by (take i cells)) ≡ 2 * i
+used_by-taken cells i c e = omega (arith, used_by-length (take i cells), length_take cells i c e)
+
+pub part-zero : (least : ℕ) (cells : List Cell) → part_at least cells 0 ≡ Bottom ∷ []
+part-zero least cells = get_is _ 0 (Bottom ∷ []) (Bottom ∷ []) (numbered_zero (Bottom ∷ []) (part_of least cells) cells)
+
+part-cell : (least : ℕ) (cells : List Cell) (i : ℕ) (c : Cell) → AreEarlier cells → slice_get cells i ≡ Some c → part_at least cells (suc i) ≡ part_of least cells (suc i) c (part_at least cells c.first) (part_at least cells c.second)
+part-cell least cells i c low e = get_is _ (suc i) _ (Bottom ∷ []) (numbered_is (Bottom ∷ []) (part_of least cells) cells i c low e)
 
 -- what stands for a cell's number that has a rule
-pub part-ruled : (cells : List Cell) (i : ℕ) (c : Cell) → AreEarlier cells → slice_get cells i ≡ Some c → is_ruled cells (suc i) ≡ true → part_at cells (suc i) ≡ Call (rule_place cells (suc i)) ∷ []
-part-ruled cells i c low e r =
-    part-cell cells i c low e ∙ ap (λ b. if b then Call (rule_place cells (suc i)) ∷ [] else body_of cells c) r
+pub part-ruled : (least : ℕ) (cells : List Cell) (i : ℕ) (c : Cell) → AreEarlier cells → slice_get cells i ≡ Some c → is_ruled least cells (suc i) ≡ true → part_at least cells (suc i) ≡ Call (rule_place least cells (suc i)) ∷ []
+part-ruled least cells i c low e r =
+    part-cell least cells i c low e ∙ ap (λ b. if b then Call (rule_place least cells (suc i)) ∷ [] else body_of least cells c) r
 
 -- and for one that has none
-pub part-whole : (cells : List Cell) (i : ℕ) (c : Cell) → AreEarlier cells → slice_get cells i ≡ Some c → is_ruled cells (suc i) ≡ false → part_at cells (suc i) ≡ body_of cells c
-part-whole cells i c low e r =
-    part-cell cells i c low e ∙ ap (λ b. if b then Call (rule_place cells (suc i)) ∷ [] else body_of cells c) r
+pub part-whole : (least : ℕ) (cells : List Cell) (i : ℕ) (c : Cell) → AreEarlier cells → slice_get cells i ≡ Some c → is_ruled least cells (suc i) ≡ false → part_at least cells (suc i) ≡ body_of least cells c
+part-whole least cells i c low e r =
+    part-cell least cells i c low e ∙ ap (λ b. if b then Call (rule_place least cells (suc i)) ∷ [] else body_of least cells c) r
 
-module _ (cells : List Cell) (low : AreEarlier cells) (at number : ℕ) (places : List (Option ℕ)) (are : ArePlaces cells at places) (below : number ≤ at) (there : number ≤ length cells) where
+module _ (least : ℕ) (cells : List Cell) (low : AreEarlier cells) (at number : ℕ) (places : List (Option ℕ)) (are : ArePlaces least cells at places) (below : number ≤ at) (there : number ≤ length cells) where
   -- a place that is there is that of the number's rule
-  pub stands-call : (place : ℕ) → slice_get places number ≡ Some (Some place) → Stands cells number (Whole (Call place))
-  stands-call place e = by_number number refl (is_ruled cells number) refl where
-    by_number : (k : ℕ) → number ≡ k → (b : Bool) → is_ruled cells number ≡ b → part_at cells number ≡ Call place ∷ []
+  pub stands-call : (place : ℕ) → slice_get places number ≡ Some (Some place) → Stands least cells number (Whole (Call place))
+  stands-call place e = by_number number refl (is_ruled least cells number) refl where
+    by_number : (k : ℕ) → number ≡ k → (b : Bool) → is_ruled least cells number ≡ b → part_at least cells number ≡ Call place ∷ []
     by_number k is false r = let other = are.others number below r in cc
-    by_number zero is true r = let none : is_ruled cells number ≡ false = ap (is_ruled cells) is in cc
+    by_number zero is true r = let none : is_ruled least cells number ≡ false = ap (is_ruled least cells) is in cc
     by_number (suc i) is true r =
         let here = has_get cells i (record { symbol = 0; first = 0; second = 0 }) (omega (arith, is, there)) in
-        let ruled : is_ruled cells (suc i) ≡ true = ap (is_ruled cells) (sym is) ∙ r in
-        let same : rule_place cells number ≡ place = (let known = are.ruled number below r in cc) in
-        ap (part_at cells) is ∙ part-ruled cells i _ low here ruled ∙ ap (λ p. Call p ∷ []) (ap (rule_place cells) (sym is) ∙ same)
+        let ruled : is_ruled least cells (suc i) ≡ true = ap (is_ruled least cells) (sym is) ∙ r in
+        let same : rule_place least cells number ≡ place = (let known = are.ruled number below r in cc) in
+        ap (part_at least cells) is ∙ part-ruled least cells i _ low here ruled ∙ ap (λ p. Call p ∷ []) (ap (rule_place least cells) (sym is) ∙ same)
 
-  no_rule : slice_get places number ≡ Some None → is_ruled cells number ≡ false
-  no_rule e = by_test (is_ruled cells number) refl where
-    by_test : (b : Bool) → is_ruled cells number ≡ b → is_ruled cells number ≡ false
+  no_rule : slice_get places number ≡ Some None → is_ruled least cells number ≡ false
+  no_rule e = by_test (is_ruled least cells number) refl where
+    by_test : (b : Bool) → is_ruled least cells number ≡ b → is_ruled least cells number ≡ false
     by_test true r = let known = are.ruled number below r in cc
     by_test false r = r
 
   -- where no place is, what stands for the number is the body of its cell
-  pub stands-cell : (c : Cell) (i : ℕ) → number ≡ i + 1 → slice_get cells i ≡ Some c → slice_get places number ≡ Some None → Stands cells number (Over c)
+  pub stands-cell : (c : Cell) (i : ℕ) → number ≡ i + 1 → slice_get cells i ≡ Some c → slice_get places number ≡ Some None → Stands least cells number (Over c)
   stands-cell c i is e p =
       let n : number ≡ suc i = omega (arith, is) in
-      let none : is_ruled cells (suc i) ≡ false = ap (is_ruled cells) (sym n) ∙ no_rule p in
-      let l = low i c e in (ap (part_at cells) n ∙ part-whole cells i c low e none, omega (arith, l.0, is), omega (arith, l.1, is))
+      let none : is_ruled least cells (suc i) ≡ false = ap (is_ruled least cells) (sym n) ∙ no_rule p in
+      let l = low i c e in (ap (part_at least cells) n ∙ part-whole least cells i c low e none, omega (arith, l.0, is), omega (arith, l.1, is))
 
-pub pending-push : (cells : List Cell) (ks : List ℕ) (k : ℕ) → pending cells (ks ++ k ∷ []) ≡ part_at cells k ++ pending cells ks
-pending-push cells [] k = sym (append-nil (part_at cells k))
-pending-push cells (j ∷ ks) k = ap (λ ls. ls ++ part_at cells j) (pending-push cells ks k) ∙ append_assoc (part_at cells k) (pending cells ks) (part_at cells j)
+pub pending-push : (least : ℕ) (cells : List Cell) (ks : List ℕ) (k : ℕ) → pending least cells (ks ++ k ∷ []) ≡ part_at least cells k ++ pending least cells ks
+pending-push least cells [] k = sym (append-nil (part_at least cells k))
+pending-push least cells (j ∷ ks) k = ap (λ ls. ls ++ part_at least cells j) (pending-push least cells ks k) ∙ append_assoc (part_at least cells k) (pending least cells ks) (part_at least cells j)
 
 -- the top of the stack is one label
-pub pending-whole : (cells : List Cell) (all ks : List ℕ) (k : ℕ) (label : Label) → all ≡ ks ++ k ∷ [] → Stands cells k (Whole label) → pending cells all ≡ label ∷ pending cells ks
-pending-whole cells all ks k label e s = ap (pending cells) e ∙ pending-push cells ks k ∙ ap (λ ls. ls ++ pending cells ks) s
+pub pending-whole : (least : ℕ) (cells : List Cell) (all ks : List ℕ) (k : ℕ) (label : Label) → all ≡ ks ++ k ∷ [] → Stands least cells k (Whole label) → pending least cells all ≡ label ∷ pending least cells ks
+pending-whole least cells all ks k label e s = ap (pending least cells) e ∙ pending-push least cells ks k ∙ ap (λ ls. ls ++ pending least cells ks) s
 
 -- a cell's body, before what stands for a stack
-pub pending-body : (cells : List Cell) (ks two : List ℕ) (c : Cell) → two ≡ (ks ++ c.second ∷ []) ++ c.first ∷ [] → body_of cells c ++ pending cells ks ≡ Symbol c.symbol ∷ pending cells two
-pending-body cells ks two c e =
-    ap (λ ls. Symbol c.symbol ∷ ls) (append_assoc (part_at cells c.first) (part_at cells c.second) (pending cells ks)
-    ∙ ap (λ ls. part_at cells c.first ++ ls) (sym (pending-push cells ks c.second)) ∙ sym (ap (pending cells) e ∙ pending-push cells (ks ++ c.second ∷ []) c.first))
+pub pending-body : (least : ℕ) (cells : List Cell) (ks two : List ℕ) (c : Cell) → two ≡ (ks ++ c.second ∷ []) ++ c.first ∷ [] → body_of least cells c ++ pending least cells ks ≡ Symbol c.symbol ∷ pending least cells two
+pending-body least cells ks two c e =
+    ap (λ ls. Symbol c.symbol ∷ ls) (append_assoc (part_at least cells c.first) (part_at least cells c.second) (pending least cells ks)
+    ∙ ap (λ ls. part_at least cells c.first ++ ls) (sym (pending-push least cells ks c.second)) ∙ sym (ap (pending least cells) e ∙ pending-push least cells (ks ++ c.second ∷ []) c.first))
 
 -- the top of the stack is a cell
-pub pending-over : (cells : List Cell) (all ks two : List ℕ) (k : ℕ) (c : Cell) → all ≡ ks ++ k ∷ [] → Stands cells k (Over c) → two ≡ (ks ++ c.second ∷ []) ++ c.first ∷ [] → pending cells all ≡ Symbol c.symbol ∷ pending cells two
-pending-over cells all ks two k c e s f = ap (pending cells) e ∙ pending-push cells ks k ∙ ap (λ ls. ls ++ pending cells ks) s.0 ∙ pending-body cells ks two c f
+pub pending-over : (least : ℕ) (cells : List Cell) (all ks two : List ℕ) (k : ℕ) (c : Cell) → all ≡ ks ++ k ∷ [] → Stands least cells k (Over c) → two ≡ (ks ++ c.second ∷ []) ++ c.first ∷ [] → pending least cells all ≡ Symbol c.symbol ∷ pending least cells two
+pending-over least cells all ks two k c e s f = ap (pending least cells) e ∙ pending-push least cells ks k ∙ ap (λ ls. ls ++ pending least cells ks) s.0 ∙ pending-body least cells ks two c f
 
 -- one label more is written
 pub writes-on : (body body' wait wait' whole : List Label) (label : Label) → body ++ wait ≡ whole → wait ≡ label ∷ wait' → body' ≡ body ++ label ∷ [] → body' ++ wait' ≡ whole
@@ -150,76 +169,71 @@ below-over at ks two k c a h f s e =
     subst (AreBelow at) (sym e) (below-push at (ks ++ c.second ∷ []) c.first (below-push at ks c.second a (omega (arith, h, s))) (omega (arith, h, f)))
 
 -- The rules of one cell more.
-rules-append : (all : List Cell) (number : ℕ) (xs : List Cell) (c : Cell) → rules_for all number (xs ++ c ∷ []) ≡ rules_for all number xs ++ (if is_ruled all (length xs + number) then rule_of all c ∷ [] else [])
-rules-append all number [] c = let n : 0 + number ≡ number = omega arith in append-nil (if is_ruled all number then rule_of all c ∷ [] else []) ∙ ap (λ k. if is_ruled all k then rule_of all c ∷ [] else []) (sym n)
-rules-append all number (x ∷ xs) c =
+rules-append : (least : ℕ) (all : List Cell) (number : ℕ) (xs : List Cell) (c : Cell) → rules_for least all number (xs ++ c ∷ []) ≡ rules_for least all number xs ++ (if is_ruled least all (length xs + number) then rule_of least all c ∷ [] else [])
+rules-append least all number [] c = let n : 0 + number ≡ number = omega arith in append-nil (if is_ruled least all number then rule_of least all c ∷ [] else []) ∙ ap (λ k. if is_ruled least all k then rule_of least all c ∷ [] else []) (sym n)
+rules-append least all number (x ∷ xs) c =
     let n : length xs + suc number ≡ length (x ∷ xs) + number = omega arith in
-    let own : List Rule = if is_ruled all number then rule_of all x ∷ [] else [] in
-    ap (λ G. own ++ G) (rules-append all (suc number) xs c ∙ ap (λ k. rules_for all (suc number) xs ++ (if is_ruled all k then rule_of all c ∷ [] else [])) n)
-    ∙ sym (append_assoc own (rules_for all (suc number) xs) (if is_ruled all (length (x ∷ xs) + number) then rule_of all c ∷ [] else []))
+    let own : List Rule = if is_ruled least all number then rule_of least all x ∷ [] else [] in
+    ap (λ G. own ++ G) (rules-append least all (suc number) xs c ∙ ap (λ k. rules_for least all (suc number) xs ++ (if is_ruled least all k then rule_of least all c ∷ [] else [])) n)
+    ∙ sym (append_assoc own (rules_for least all (suc number) xs) (if is_ruled least all (length (x ∷ xs) + number) then rule_of least all c ∷ [] else []))
 
-length_take : {X : Type 0} (xs : List X) (i : ℕ) (x : X) → slice_get xs i ≡ Some x → length (take i xs) ≡ i
-length_take [] i x e = cc
-length_take (y ∷ xs) zero x e = refl
-length_take (y ∷ xs) (suc i) x e = ap suc (length_take xs i x e)
-
-pub rules-more : (cells : List Cell) (i : ℕ) (c : Cell) → slice_get cells i ≡ Some c → rules_for cells 1 (take (i + 1) cells) ≡ rules_for cells 1 (take i cells) ++ (if is_ruled cells (i + 1) then rule_of cells c ∷ [] else [])
-rules-more cells i c e =
+pub rules-more : (least : ℕ) (cells : List Cell) (i : ℕ) (c : Cell) → slice_get cells i ≡ Some c → rules_for least cells 1 (take (i + 1) cells) ≡ rules_for least cells 1 (take i cells) ++ (if is_ruled least cells (i + 1) then rule_of least cells c ∷ [] else [])
+rules-more least cells i c e =
     let n : length (take i cells) + 1 ≡ i + 1 = omega (arith, length_take cells i c e) in
-    ap (rules_for cells 1) (take-more cells i c e) ∙ rules-append cells 1 (take i cells) c ∙ ap (λ k. rules_for cells 1 (take i cells) ++ (if is_ruled cells k then rule_of cells c ∷ [] else [])) n
+    ap (rules_for least cells 1) (take-more cells i c e) ∙ rules-append least cells 1 (take i cells) c ∙ ap (λ k. rules_for least cells 1 (take i cells) ++ (if is_ruled least cells k then rule_of least cells c ∷ [] else [])) n
 
 -- a rule comes
-pub rules-ruled : (cells : List Cell) (i : ℕ) (c : Cell) (rules rules' : List Rule) (body : List Label) → slice_get cells i ≡ Some c → is_ruled cells (i + 1) ≡ true → rules ≡ rules_for cells 1 (take i cells)
-    → body ≡ body_of cells c → rules' ≡ rules ++ record { rank = 0; body = body } ∷ [] → rules' ≡ rules_for cells 1 (take (i + 1) cells)
-rules-ruled cells i c rules rules' body e r is b go =
-    go ∙ ap (λ G. G ++ record { rank = 0; body = body } ∷ []) is ∙ ap (λ ls. rules_for cells 1 (take i cells) ++ record { rank = 0; body = ls } ∷ []) b
-    ∙ sym (rules-more cells i c e ∙ ap (λ t. rules_for cells 1 (take i cells) ++ (if t then rule_of cells c ∷ [] else [])) r)
+pub rules-ruled : (least : ℕ) (cells : List Cell) (i : ℕ) (c : Cell) (rules rules' : List Rule) (body : List Label) → slice_get cells i ≡ Some c → is_ruled least cells (i + 1) ≡ true → rules ≡ rules_for least cells 1 (take i cells)
+    → body ≡ body_of least cells c → rules' ≡ rules ++ record { rank = 0; body = body } ∷ [] → rules' ≡ rules_for least cells 1 (take (i + 1) cells)
+rules-ruled least cells i c rules rules' body e r is b go =
+    go ∙ ap (λ G. G ++ record { rank = 0; body = body } ∷ []) is ∙ ap (λ ls. rules_for least cells 1 (take i cells) ++ record { rank = 0; body = ls } ∷ []) b
+    ∙ sym (rules-more least cells i c e ∙ ap (λ t. rules_for least cells 1 (take i cells) ++ (if t then rule_of least cells c ∷ [] else [])) r)
 
 -- and none
-pub rules-other : (cells : List Cell) (i : ℕ) (c : Cell) (rules : List Rule) → slice_get cells i ≡ Some c → is_ruled cells (i + 1) ≡ false → rules ≡ rules_for cells 1 (take i cells)
-    → rules ≡ rules_for cells 1 (take (i + 1) cells)
-rules-other cells i c rules e r is =
-    is ∙ sym (append-nil (rules_for cells 1 (take i cells))) ∙ sym (rules-more cells i c e ∙ ap (λ t. rules_for cells 1 (take i cells) ++ (if t then rule_of cells c ∷ [] else [])) r)
+pub rules-other : (least : ℕ) (cells : List Cell) (i : ℕ) (c : Cell) (rules : List Rule) → slice_get cells i ≡ Some c → is_ruled least cells (i + 1) ≡ false → rules ≡ rules_for least cells 1 (take i cells)
+    → rules ≡ rules_for least cells 1 (take (i + 1) cells)
+rules-other least cells i c rules e r is =
+    is ∙ sym (append-nil (rules_for least cells 1 (take i cells))) ∙ sym (rules-more least cells i c e ∙ ap (λ t. rules_for least cells 1 (take i cells) ++ (if t then rule_of least cells c ∷ [] else [])) r)
 
-pub rules-length : (all : List Cell) (number : ℕ) (cs : List Cell) → rule_place all number + length (rules_for all number cs) ≡ rule_place all (length cs + number)
-rules-length all number [] = let n : 0 + number ≡ number = omega arith in omega (arith, ap (rule_place all) n)
-rules-length all number (c ∷ cs) = by_test (is_ruled all number) refl (rules-length all (suc number) cs) where
-  by_test : (b : Bool) → is_ruled all number ≡ b → rule_place all (suc number) + length (rules_for all (suc number) cs) ≡ rule_place all (length cs + suc number)
-      → rule_place all number + length ((if b then rule_of all c ∷ [] else []) ++ rules_for all (suc number) cs) ≡ rule_place all (length (c ∷ cs) + number)
+pub rules-length : (least : ℕ) (all : List Cell) (number : ℕ) (cs : List Cell) → rule_place least all number + length (rules_for least all number cs) ≡ rule_place least all (length cs + number)
+rules-length least all number [] = let n : 0 + number ≡ number = omega arith in omega (arith, ap (rule_place least all) n)
+rules-length least all number (c ∷ cs) = by_test (is_ruled least all number) refl (rules-length least all (suc number) cs) where
+  by_test : (b : Bool) → is_ruled least all number ≡ b → rule_place least all (suc number) + length (rules_for least all (suc number) cs) ≡ rule_place least all (length cs + suc number)
+      → rule_place least all number + length ((if b then rule_of least all c ∷ [] else []) ++ rules_for least all (suc number) cs) ≡ rule_place least all (length (c ∷ cs) + number)
   by_test true e h =
       let n : length cs + suc number ≡ length (c ∷ cs) + number = omega arith in
-      let one : rule_place all (suc number) ≡ rule_place all number + 1 = ap (λ b. rule_place all number + one_if b) e in
-      omega (arith, h, one, ap (rule_place all) n)
+      let one : rule_place least all (suc number) ≡ rule_place least all number + 1 = ap (λ b. rule_place least all number + one_if b) e in
+      omega (arith, h, one, ap (rule_place least all) n)
   by_test false e h =
       let n : length cs + suc number ≡ length (c ∷ cs) + number = omega arith in
-      let one : rule_place all (suc number) ≡ rule_place all number + 0 = ap (λ b. rule_place all number + one_if b) e in
-      omega (arith, h, one, ap (rule_place all) n)
+      let one : rule_place least all (suc number) ≡ rule_place least all number + 0 = ap (λ b. rule_place least all number + one_if b) e in
+      omega (arith, h, one, ap (rule_place least all) n)
 
 -- how many rules there are is the place of the next
-pub next-place : (cells : List Cell) (i : ℕ) (c : Cell) (rules : List Rule) (place : ℕ) → slice_get cells i ≡ Some c → rules ≡ rules_for cells 1 (take i cells) → place ≡ length rules → place ≡ rule_place cells (i + 1)
-next-place cells i c rules place e is p =
+pub next-place : (least : ℕ) (cells : List Cell) (i : ℕ) (c : Cell) (rules : List Rule) (place : ℕ) → slice_get cells i ≡ Some c → rules ≡ rules_for least cells 1 (take i cells) → place ≡ length rules → place ≡ rule_place least cells (i + 1)
+next-place least cells i c rules place e is p =
     let n : length (take i cells) + 1 ≡ i + 1 = omega (arith, length_take cells i c e) in
-    omega (arith, p, ap length is, rules-length cells 1 (take i cells), ap (rule_place cells) n)
+    omega (arith, p, ap length is, rules-length least cells 1 (take i cells), ap (rule_place least cells) n)
 
 -- before any rule
-pub places-none : (cells : List Cell) (places : List (Option ℕ)) → ((k : ℕ) → k < length places → slice_get places k ≡ Some None) → 0 < length places → ArePlaces cells 0 places
-places-none cells places none some = record {
-  ruled = λ k h r. let z : k ≡ 0 = omega (arith, h) in let f : is_ruled cells k ≡ false = ap (is_ruled cells) z in cc;
+pub places-none : (least : ℕ) (cells : List Cell) (places : List (Option ℕ)) → ((k : ℕ) → k < length places → slice_get places k ≡ Some None) → 0 < length places → ArePlaces least cells 0 places
+places-none least cells places none some = record {
+  ruled = λ k h r. let z : k ≡ 0 = omega (arith, h) in let f : is_ruled least cells k ≡ false = ap (is_ruled least cells) z in cc;
   others = λ k h r. none k (omega (arith, h, some));
   later = λ k h l. none k l;
 }
 
 -- A number has a rule, and its place is kept.
-pub places-ruled : (cells : List Cell) (at place : ℕ) (places places' : List (Option ℕ)) → ArePlaces cells at places → at + 1 < length places → is_ruled cells (at + 1) ≡ true → place ≡ rule_place cells (at + 1)
-    → places' ≡ slice_set places (at + 1) (Some place) → ArePlaces cells (at + 1) places'
-places-ruled cells at place places places' are there r p e =
+pub places-ruled : (least : ℕ) (cells : List Cell) (at place : ℕ) (places places' : List (Option ℕ)) → ArePlaces least cells at places → at + 1 < length places → is_ruled least cells (at + 1) ≡ true → place ≡ rule_place least cells (at + 1)
+    → places' ≡ slice_set places (at + 1) (Some place) → ArePlaces least cells (at + 1) places'
+places-ruled least cells at place places places' are there r p e =
     record {
       ruled = λ k h ruled. elim (set k (omega (arith, h, there))) [
-        | inl w ↦ w.1 ∙ ap (λ q. Some (Some q)) (p ∙ ap (rule_place cells) w.0)
+        | inl w ↦ w.1 ∙ ap (λ q. Some (Some q)) (p ∙ ap (rule_place least cells) w.0)
         | inr w ↦ w.1 ∙ are.ruled k (lower k h w.0) ruled
       ];
       others = λ k h none. elim (set k (omega (arith, h, there))) [
-        | inl w ↦ let yes : is_ruled cells k ≡ true = ap (is_ruled cells) (sym w.0) ∙ r in cc
+        | inl w ↦ let yes : is_ruled least cells k ≡ true = ap (is_ruled least cells) (sym w.0) ∙ r in cc
         | inr w ↦ w.1 ∙ are.others k (lower k h w.0) none
       ];
       later = λ k h l. elim (set k (omega (arith, l, longer))) [ inl w ↦ absurd (omega (arith, w.0, h)) | inr w ↦ w.1 ∙ are.later k (omega (arith, h)) (omega (arith, l, longer)) ];
@@ -235,9 +249,9 @@ places-ruled cells at place places places' are there r p e =
     set k h = elim (get_set places (at + 1) k (Some place) h) [ inl w ↦ inl (w.0, ap (λ ps. slice_get ps k) e ∙ w.1) | inr w ↦ inr (w.0, ap (λ ps. slice_get ps k) e ∙ w.1) ]
 
 -- A number has no rule.
-pub places-other : (cells : List Cell) (at : ℕ) (places : List (Option ℕ)) → ArePlaces cells at places → at + 1 < length places → is_ruled cells (at + 1) ≡ false → ArePlaces cells (at + 1) places
-places-other cells at places are there r = record {
-  ruled = λ k h ruled. elim (cases k h) [ inl l ↦ are.ruled k l ruled | inr e ↦ let no : is_ruled cells k ≡ false = ap (is_ruled cells) e ∙ r in cc ];
+pub places-other : (least : ℕ) (cells : List Cell) (at : ℕ) (places : List (Option ℕ)) → ArePlaces least cells at places → at + 1 < length places → is_ruled least cells (at + 1) ≡ false → ArePlaces least cells (at + 1) places
+places-other least cells at places are there r = record {
+  ruled = λ k h ruled. elim (cases k h) [ inl l ↦ are.ruled k l ruled | inr e ↦ let no : is_ruled least cells k ≡ false = ap (is_ruled least cells) e ∙ r in cc ];
   others = λ k h none. elim (cases k h) [ inl l ↦ are.others k l none | inr e ↦ are.later k (omega (arith, e)) (omega (arith, e, there)) ];
   later = λ k h l. are.later k (omega (arith, h)) l;
 }

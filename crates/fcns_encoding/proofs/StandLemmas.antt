@@ -1,7 +1,6 @@
 -- What a folder that is finished got.
-use Rattle.std.proofs.Common.{◌≡◌, ℕ, zero, suc, ◌+◌, ◌*◌, ◌<◌, ◌≤◌, Bool, true, false, List, [], ◌∷◌, ◌++◌, map, length, Some, slice_get, refl, ap, sym, ◌∙◌, subst, ◌⊎◌, inl, inr, arith, append-nil}
+use Rattle.std.proofs.Common.{◌≡◌, ℕ, ◌*◌, ◌≤◌, false, List, [], ◌∷◌, ◌++◌, map, length, Some, slice_get, refl, ap, sym, ◌∙◌, subst, append-nil}
 use Rattle.std.specs.Prelude.{Option, None}
-use Rattle.plain_tree.specs.declared.kind.Kind.{Kind}
 use Rattle.plain_tree.specs.declared.kind.Kind.TheVariants as kind
 use Rattle.plain_tree.specs.Lawful.{IsDocument}
 use Rattle.plain_tree.specs.Numbers.{nodes_all, texts, values_of}
@@ -15,7 +14,6 @@ use Rattle.slt_grammar.specs.declared.rules.Rule.{Rule}
 use Rattle.xml_nodes.proofs.One.{all-inj}
 use Rattle.xml_nodes.specs.Machine.{Event, events, events_all, AreShaped}
 use Rattle.fcns_encoding.specs.Calls.{started_pairs, event_texts}
-use Rattle.fcns_encoding.specs.Cells.{terms_of}
 use Rattle.fcns_encoding.specs.Folding.{Taken, Stood}
 use Rattle.fcns_encoding.specs.Interning.{Pair, Interns, tree_pair, pairs_of_tree}
 use Rattle.fcns_encoding.specs.Subterms.{AreSubterms}

@@ -35,8 +35,8 @@ no_longer [] ys once has = omega arith
 no_longer {X} (x ∷ xs) ys once has =
     let first = has 0 x refl in
     let others : (i : ℕ) (z : X) → slice_get xs i ≡ Some z → (j : ℕ) × (slice_get (out ys first.0) j ≡ Some z) = λ i z e.
-        let w = has (suc i) z e in
-        out-has ys first.0 w.0 z (λ s. apart i (once 0 (suc i) x refl (e ∙ sym (sym (ap (slice_get ys) s ∙ first.1) ∙ w.1)))) w.1 in
+    let w = has (suc i) z e in
+    out-has ys first.0 w.0 z (λ s. apart i (once 0 (suc i) x refl (e ∙ sym (sym (ap (slice_get ys) s ∙ first.1) ∙ w.1)))) w.1 in
     let rest = no_longer xs (out ys first.0) (λ i j z a b. let e = once (suc i) (suc j) z a b in omega (arith, e)) others in
     omega (arith, rest, out-length ys first.0 (got_within ys first.0 x first.1))
   where
@@ -55,9 +55,9 @@ below-symbol f a b (Hole i) s = cc
 below-symbol f a b (Node g x y) s =
     elim s [
       | inl e ↦ let left : a ≡ x = cc in let right : b ≡ y = cc in (
-          inr (inl (subst (λ t. IsSubterm t x) (sym left) (own-subterm x))),
-          inr (inr (subst (λ t. IsSubterm t y) (sym right) (own-subterm y))),
-        )
+        inr (inl (subst (λ t. IsSubterm t x) (sym left) (own-subterm x))),
+        inr (inr (subst (λ t. IsSubterm t y) (sym right) (own-subterm y))),
+      )
       | inr w ↦ elim w [
         | inl u ↦ let h = below-symbol f a b x u in (inr (inl h.0), inr (inl h.1))
         | inr u ↦ let h = below-symbol f a b y u in (inr (inr h.0), inr (inr h.1))
@@ -120,7 +120,7 @@ module _ (cells : List Cell) (low : AreEarlier cells) where
           | inr w ↦
               let ne = w.1 in
               let u = used-cell cells used i (omega (arith, h, ne)) in
-              used-subterm i u.0 u.1 u.2 u.3 (cell-subterm left u.0 (omega (arith, got_within cells u.0 u.1 u.2)) (omega (arith, l, user-later cells low m n used i u.0 u.1 u.2 u.3)))
+              used-subterm i u.0 u.1 u.2 u.3 (cell-subterm left u.0 (omega (arith, got_within cells u.0 u.1 u.2)) (omega (arith, l, user-later cells low i u.0 u.1 u.2 u.3)))
         ]
 
     number-subterm : (k : ℕ) → k ≤ length cells → IsSubterm (term_at cells k) (term_at cells (length cells))
@@ -132,8 +132,8 @@ module _ (cells : List Cell) (low : AreEarlier cells) where
     few-cells one terms are =
         let long = numbered_long Leaf term_of cells in
         let is : (k : ℕ) (s : Term) → slice_get (terms_of cells) k ≡ Some s → (k ≤ length cells) × (term_at cells k ≡ s) = λ k s e.
-            (omega (arith, long, got_within (terms_of cells) k s e), get_is (terms_of cells) k s Leaf e) in
+        (omega (arith, long, got_within (terms_of cells) k s e), get_is (terms_of cells) k s Leaf e) in
         let all = no_longer (terms_of cells) terms
-            (λ i j s a b. let x = is i s a in let y = is j s b in one_number one (suc i) i j (omega arith) x.0 y.0 (x.1 ∙ sym y.1))
-            (λ i s e. let x = is i s e in are.each s (subst (λ t. IsSubterm t (term_at cells (length cells))) x.1 (number-subterm i x.0))) in
+        (λ i j s a b. let x = is i s a in let y = is j s b in one_number one (suc i) i j (omega arith) x.0 y.0 (x.1 ∙ sym y.1))
+        (λ i s e. let x = is i s e in are.each s (subst (λ t. IsSubterm t (term_at cells (length cells))) x.1 (number-subterm i x.0))) in
         omega (arith, all, long)

@@ -1,5 +1,5 @@
 -- What a builder's calls say of names and texts.
-use Rattle.std.specs.Prelude.{◌≡◌, ℕ, suc, List, [], ◌∷◌, ◌++◌}
+use Rattle.std.specs.Prelude.{ℕ, List, [], ◌∷◌}
 use Rattle.plain_tree.specs.declared.kind.Kind.TheVariants as kind
 use Rattle.xml_nodes.specs.Machine.{Event, Opened, Leaf, Closed}
 use Rattle.fcns_encoding.specs.Interning.{Pair}

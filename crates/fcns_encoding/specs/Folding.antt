@@ -1,8 +1,7 @@
 -- What a folder's fields tell of its calls.
 use Rattle.std.specs.Prelude.{◌≡◌, ℕ, ◌+◌, Bool, true, List, [], ◌∷◌, ◌++◌, Option, Some, None, slice_get, get_or}
-use Rattle.plain_tree.specs.declared.kind.Kind.{Kind}
 use Rattle.plain_tree.specs.declared.kind.Kind.TheVariants as kind
-use Rattle.plain_tree.specs.Tree.{Tree, node, Trees, none, more}
+use Rattle.plain_tree.specs.Tree.{Tree, node, Trees}
 use Rattle.xml_nodes.specs.Machine.{Event, Opened, Leaf, Closed, events, events_all, IsShaped, AreShaped}
 use Rattle.xml_nodes.specs.Taking.{Built}
 use Rattle.slt_grammar.specs.Terms.{Term, Leaf as Bottom, Node, Hole}

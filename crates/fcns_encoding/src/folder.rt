@@ -38,8 +38,8 @@ pub struct Folder {
     sound: bool,
 }
 
-/// What the calls of a document were folded into: a grammar with a rule for each subterm that is used twice or more, the table of
-/// names, and the texts.
+/// What the calls of a document were folded into: a grammar with rules for subterms that are used often, the table of names, and
+/// the texts.
 #[derive(Drop)]
 pub struct Folded {
     pub grammar: Grammar,
@@ -75,7 +75,8 @@ impl Folder {
         }
     }
 
-    /// The grammar of the document that has these calls, its names and its texts. It is refused only for want of memory.
+    /// The grammar of the document that has these calls, its names and its texts; each subterm that is used twice or more has a
+    /// rule. It is refused only for want of memory.
     pub fn finish(self) -> Result<Folded, AllocError>
         requires sound { self.sound ≡ true }
         requires depth { self.depth ≡ 0 }
@@ -84,6 +85,34 @@ impl Folder {
         ensures grammar { IfOk result (λ f. IsGrammar (rules_of f.grammar.rules)) }
         ensures swept { IfOk result (λ f. IsSwept (rules_of f.grammar.rules)) }
         ensures size { IfOk result (λ f. (t : Tree) (term : Term) (terms : List Term) → IsDocument t → self.log ≡ events t []
+            → Codes f.names (more t none) term → AreSubterms terms term → size (rules_of f.grammar.rules) ≤ 3 * length terms) }
+    {
+        self.folded(2)
+    }
+
+    /// The same, but a subterm has a rule only where the table uses it `least` times or more, and else is written out where it is
+    /// used. With a greater number there are fewer rules, and more of the document is written out: settling then finds digrams
+    /// that reach into what would be rules. It is refused only for want of memory.
+    pub fn finish_with(self, least: usize) -> Result<Folded, AllocError>
+        requires sound { self.sound ≡ true }
+        requires depth { self.depth ≡ 0 }
+        ensures stand { IfOk result (λ f. (t : Tree) → IsDocument t → self.log ≡ events t [] → StandsFor (rules_of f.grammar.rules) f.names f.texts.texts t) }
+        ensures names { IfOk result (λ f. (t : Tree) → IsDocument t → self.log ≡ events t [] → Interns [] (pairs_of_tree t) f.names) }
+        ensures grammar { IfOk result (λ f. IsGrammar (rules_of f.grammar.rules)) }
+        ensures swept { IfOk result (λ f. IsSwept (rules_of f.grammar.rules)) }
+    {
+        self.folded(least)
+    }
+
+    // The grammar with a rule for each subterm that is used `least` times or more. It is small where that is two or fewer.
+    fn folded(self, least: usize) -> Result<Folded, AllocError>
+        requires sound { self.sound ≡ true }
+        requires depth { self.depth ≡ 0 }
+        ensures stand { IfOk result (λ f. (t : Tree) → IsDocument t → self.log ≡ events t [] → StandsFor (rules_of f.grammar.rules) f.names f.texts.texts t) }
+        ensures names { IfOk result (λ f. (t : Tree) → IsDocument t → self.log ≡ events t [] → Interns [] (pairs_of_tree t) f.names) }
+        ensures grammar { IfOk result (λ f. IsGrammar (rules_of f.grammar.rules)) }
+        ensures swept { IfOk result (λ f. IsSwept (rules_of f.grammar.rules)) }
+        ensures size { least ≤ 2 → IfOk result (λ f. (t : Tree) (term : Term) (terms : List Term) → IsDocument t → self.log ≡ events t []
             → Codes f.names (more t none) term → AreSubterms terms term → size (rules_of f.grammar.rules) ≤ 3 * length terms) }
     {
         let Folder {
@@ -99,7 +128,7 @@ impl Folder {
         let None = kids.begun else { unreachable!() };
         let document = symbol(alloc, &mut names, Kind::Document, b"")?;
         subterms.node(document, kids.code, 0)?;
-        let rules = rules_of_table(alloc, subterms)?;
+        let rules = rules_of_table(alloc, subterms, least)?;
         let grammar = grammar_of(alloc, rules)?;
         Ok(Folded {
             grammar,

@@ -1,9 +1,9 @@
 // Tests of the folder.
-ghost use Rattle.std.specs.Prelude.{◌≡◌, true, OnOk};
+ghost use Rattle.std.specs.Prelude.{◌≡◌, true, IfOk, OnOk};
 
 use crate::Folder;
 use plain_tree::Kind;
-use std::alloc::AllocError;
+use std::alloc::{AllocError, Global};
 use std::test::Fail;
 use xml_nodes::Builder;
 
@@ -21,18 +21,30 @@ fn add_row(folder: &mut Folder) -> Result<(), AllocError>
     folder.close()
 }
 
-#[test]
-fn equal_subterms_are_kept_once(rt: HostRuntime) -> Result<(), Fail> {
-    let mut folder = Folder::new(rt.alloc());
+// A hundred rows under an element.
+fn rows(alloc: Global) -> Result<Folder, AllocError>
+    ensures sound { IfOk result (λ f. f.sound ≡ true) }
+    ensures depth { IfOk result (λ f. f.depth ≡ 0) }
+{
+    let mut folder = Folder::new(alloc);
     folder.open(Kind::Element, b"r")?;
     for _ in 0..100 {
         add_row(&mut folder)?;
     }
     folder.close()?;
-    let folded = folder.finish()?;
+    Ok(folder)
+}
+
+#[test]
+fn equal_subterms_are_kept_once(rt: HostRuntime) -> Result<(), Fail> {
+    let folded = rows(rt.alloc())?.finish()?;
     assert_eq!(rt; folded.names.len(), 5);
     assert_eq!(rt; folded.grammar.rules(), 2);
     assert_eq!(rt; folded.grammar.size(), 210);
+    let written = rows(rt.alloc())?.finish_with(200)?;
+    assert_eq!(rt; written.names.len(), 5);
+    assert_eq!(rt; written.grammar.rules(), 1);
+    assert_eq!(rt; written.grammar.size(), 605);
     Ok(())
 }
 

@@ -20,10 +20,7 @@ pub(crate) struct Kids {
 
 // Takes from the stack the whole nodes on top, and the element below them. From their end on: the code of a node stands over the
 // code of its kids and the code of the nodes behind it.
-pub(crate) fn take_kids(
-    subterms: &mut Subterms,
-    stack: &mut Vec<Part>,
-) -> Result<Kids, AllocError>
+pub(crate) fn take_kids(subterms: &mut Subterms, stack: &mut Vec<Part>) -> Result<Kids, AllocError>
     requires { (names : List Pair) × (log : List Event) × Builds names (terms_of subterms.old) stack.old.items log }
     ensures taken { (names : List Pair) (log : List Event) → Builds names (terms_of subterms.old) stack.old.items log
         → IfOk result (λ k. Taken names (terms_of subterms.new) stack.new.items log k.code k.begun) }

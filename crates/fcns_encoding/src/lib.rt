@@ -10,7 +10,7 @@
 //! `subterms` has the table, `part` and `kids` the stack of what waits until its element is closed, `symbols` the names in the
 //! order of their first nodes. `finish` makes a `Folded`: `shared_rules` writes a rule for each subterm that is used twice or more,
 //! and everything else where it is used. The grammar stands for the document, is swept, and is at most three times as large as the
-//! code has different subterms.
+//! code has different subterms. `finish_with` says how many uses make a rule; its grammar stands for the document and is swept too.
 #![tactic(auto)]
 
 mod coding;

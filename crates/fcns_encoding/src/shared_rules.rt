@@ -3,19 +3,11 @@ ghost use Rattle.std.specs.Prelude.{suc, ◌≡◌, ◌<◌, ◌≤◌, ◌+◌,
 ghost use Rattle.rule_arena.specs.declared.label.Label.TheVariants.{Symbol};
 ghost use Rattle.fcns_encoding.specs.Cells.{AreEarlier, AreDistinctCells};
 ghost use Rattle.fcns_encoding.specs.declared.subterms.Cell.{Cell as TableCell};
-ghost use Rattle.fcns_encoding.specs.Sharing.{used_by, uses_for, AreCounted, is_ruled, part_at, body_of, rules_of_cells, ArePlaces, Stands};
+ghost use Rattle.fcns_encoding.specs.Sharing.{used_by, AreCounted, is_ruled, part_at, body_of, rules_of_cells, ArePlaces, Stands};
 
 use crate::subterms::{Cell, Subterms, short};
 use slt_grammar::{Body, Label, RuleList};
 use std::alloc::{AllocError, Global};
-
-// How often a number is used in the table.
-#[derive(Clone, Copy, PartialEq, Eq, Drop)]
-pub(crate) enum Uses {
-    Never,
-    Once,
-    Often,
-}
 
 // What stands for a number in a body: one label, or a symbol over two more numbers.
 #[derive(Clone, Copy, Drop)]
@@ -24,30 +16,48 @@ pub(crate) enum Written {
     Over(Cell),
 }
 
-// A rule for each number that is used twice or more, and for the last, with everything else written where it is used. The table
-// goes when the rules stand.
-pub(crate) fn rules_of_table(alloc: Global, subterms: Subterms) -> Result<RuleList, AllocError>
-    ensures rules { IfOk result (λ G. G ≡ rules_of_cells subterms) }
+// A table with how often each number is used in it, and how many uses make a rule.
+#[derive(Clone, Copy)]
+struct Counted<'a> {
+    cells: &'a [Cell],
+    uses: &'a [usize],
+    least: usize,
+}
+
+// A rule for each number that is used `least` times or more, and for the last, with everything else written where it is used. The
+// table goes when the rules stand.
+pub(crate) fn rules_of_table(
+    alloc: Global,
+    subterms: Subterms,
+    least: usize,
+) -> Result<RuleList, AllocError>
+    ensures rules { IfOk result (λ G. G ≡ rules_of_cells least subterms) }
     ensures earlier { AreEarlier subterms }
     ensures distinct { AreDistinctCells subterms }
 {
-    shared_rules(alloc, subterms.as_slice())
+    shared_rules(alloc, subterms.as_slice(), least)
 }
 
-fn shared_rules(alloc: Global, cells: &[Cell]) -> Result<RuleList, AllocError>
+fn shared_rules(alloc: Global, cells: &[Cell], least: usize) -> Result<RuleList, AllocError>
     requires earlier { AreEarlier cells.now }
     requires few { length cells.now < 2 ^ 63 }
-    ensures { IfOk result (λ G. G ≡ rules_of_cells cells.now) }
+    ensures { IfOk result (λ G. G ≡ rules_of_cells least cells.now) }
 {
-    let mut uses = vec![in alloc; Uses::Never; cells.len() + 1]?;
+    let mut uses = vec![in alloc; 0; cells.len() + 1]?;
     count_uses(cells, uses.as_mut_slice());
+    let counted = Counted {
+        cells,
+        uses: uses.as_slice(),
+        least,
+    };
     let mut places = vec![in alloc; None; cells.len() + 1]?;
-    rules_with(alloc, cells, uses.as_slice(), places.as_mut_slice())
+    rules_with(alloc, counted, places.as_mut_slice())
 }
 
-// Marks each number by how often the cells use it.
-fn count_uses(cells: &[Cell], uses: &mut [Uses])
+// Counts how often the cells use each number.
+fn count_uses(cells: &[Cell], uses: &mut [usize])
     requires earlier { AreEarlier cells.now }
+    requires few { length cells.now < 2 ^ 63 }
     requires len { length uses.old ≡ length cells.now + 1 }
     requires counted { AreCounted [] uses.old }
     ensures { AreCounted (used_by cells.now) uses.new }
@@ -58,42 +68,32 @@ fn count_uses(cells: &[Cell], uses: &mut [Uses])
     }
 }
 
-fn count_use(uses: &mut [Uses], number: u32)
-    requires { number < length uses.old }
+fn count_use(uses: &mut [usize], number: u32)
+    requires there { number < length uses.old }
+    requires room { (numbers : List ℕ) × AreCounted numbers uses.old × (length numbers + 1 < 2 ^ 64) }
     ensures { (numbers : List ℕ) → AreCounted numbers uses.old → AreCounted (numbers ++ number ∷ []) uses.new }
 {
     let at = number as usize;
-    let so_far = uses[at];
-    uses[at] = one_more(so_far);
-}
-
-fn one_more(uses: Uses) -> Uses
-    ensures { (n : ℕ) → uses ≡ uses_for n → result ≡ uses_for (suc n) }
-{
-    match uses {
-        Uses::Never => Uses::Once,
-        Uses::Once | Uses::Often => Uses::Often,
-    }
+    uses[at] += 1;
 }
 
 // The rules, in the order of their numbers, with room for their places.
 fn rules_with(
     alloc: Global,
-    cells: &[Cell],
-    uses: &[Uses],
+    table: Counted,
     places: &mut [Option<u32>],
 ) -> Result<RuleList, AllocError>
-    requires earlier { AreEarlier cells.now }
-    requires uses { length uses.now ≡ length cells.now + 1 }
-    requires counted { AreCounted (used_by cells.now) uses.now }
-    requires len { length places.old ≡ length cells.now + 1 }
-    requires places { ArePlaces cells.now 0 places.old }
-    ensures { IfOk result (λ G. G ≡ rules_of_cells cells.now) }
+    requires earlier { AreEarlier table.cells.now }
+    requires uses { length table.uses.now ≡ length table.cells.now + 1 }
+    requires counted { AreCounted (used_by table.cells.now) table.uses.now }
+    requires len { length places.old ≡ length table.cells.now + 1 }
+    requires places { ArePlaces table.least table.cells.now 0 places.old }
+    ensures { IfOk result (λ G. G ≡ rules_of_cells table.entry.least table.entry.cells.now) }
 {
     let mut rules = RuleList::new(alloc);
-    for at in 0..cells.len() {
-        if has_rule(cells, uses, at) {
-            let body = write(alloc, cells, places, at)?;
+    for at in 0..table.cells.len() {
+        if has_rule(table, at) {
+            let body = write(alloc, table, places, at)?;
             let place = short(rules.as_slice().len())?;
             rules.push(0, body)?;
             places[at + 1] = Some(place);
@@ -102,34 +102,34 @@ fn rules_with(
     Ok(rules)
 }
 
-// Whether a cell's number is used often, or is the last.
-fn has_rule(cells: &[Cell], uses: &[Uses], at: usize) -> bool
-    requires there { at < length cells.now }
-    requires len { length uses.now ≡ length cells.now + 1 }
-    requires counted { AreCounted (used_by cells.now) uses.now }
-    ensures { result ≡ is_ruled cells.now (at + 1) }
+// Whether a cell's number is used often enough, or is the last.
+fn has_rule(table: Counted, at: usize) -> bool
+    requires there { at < length table.cells.now }
+    requires len { length table.uses.now ≡ length table.cells.now + 1 }
+    requires counted { AreCounted (used_by table.cells.now) table.uses.now }
+    ensures { result ≡ is_ruled table.entry.least table.entry.cells.now (at + 1) }
 {
-    at + 1 == cells.len() || uses.get(at + 1).copied() == Some(Uses::Often)
+    at + 1 == table.cells.len() || table.uses[at + 1] >= table.least
 }
 
 // The body of a cell's number: its symbol, and so on below it, but for calls of the rules that there are.
 fn write(
     alloc: Global,
-    cells: &[Cell],
+    table: Counted,
     places: &[Option<u32>],
     at: usize,
 ) -> Result<Body, AllocError>
-    requires there { at < length cells.now }
-    requires earlier { AreEarlier cells.now }
-    requires len { length places.now ≡ length cells.now + 1 }
-    requires places { ArePlaces cells.now at places.now }
-    ensures { (c : TableCell) → slice_get cells.now at ≡ Some c → IfOk result (λ body. body ≡ body_of cells.now c) }
+    requires there { at < length table.cells.now }
+    requires earlier { AreEarlier table.cells.now }
+    requires len { length places.now ≡ length table.cells.now + 1 }
+    requires places { ArePlaces table.least table.cells.now at places.now }
+    ensures { (c : TableCell) → slice_get table.entry.cells.now at ≡ Some c → IfOk result (λ body. body ≡ body_of table.entry.least table.entry.cells.now c) }
 {
     let mut body = Body::new(alloc);
     let mut stack = Vec::new(alloc);
-    open(cells[at], &mut body, &mut stack)?;
+    open(table.cells[at], &mut body, &mut stack)?;
     while let Some(number) = stack.pop() {
-        match writing_of(cells, places, number) {
+        match writing_of(table, places, number) {
             Written::Whole(label) => body.push(label)?,
             Written::Over(cell) => open(cell, &mut body, &mut stack)?,
         }
@@ -149,18 +149,18 @@ fn open(cell: Cell, body: &mut Body, stack: &mut Vec<u32>) -> Result<(), AllocEr
 }
 
 // What stands for a number below a cell, where the numbers up to that cell have their rules.
-fn writing_of(cells: &[Cell], places: &[Option<u32>], number: u32) -> Written
-    requires there { number ≤ length cells.now }
-    requires earlier { AreEarlier cells.now }
-    requires len { length places.now ≡ length cells.now + 1 }
-    requires places { (at : ℕ) × (number ≤ at) × ArePlaces cells.now at places.now }
-    ensures { Stands cells.now number result }
+fn writing_of(table: Counted, places: &[Option<u32>], number: u32) -> Written
+    requires there { number ≤ length table.cells.now }
+    requires earlier { AreEarlier table.cells.now }
+    requires len { length places.now ≡ length table.cells.now + 1 }
+    requires places { (at : ℕ) × (number ≤ at) × ArePlaces table.least table.cells.now at places.now }
+    ensures { Stands table.entry.least table.entry.cells.now number result }
 {
     match places[number as usize] {
         Some(place) => Written::Whole(Label::Call(place as usize)),
         None => match number {
             0 => Written::Whole(Label::Bottom),
-            _ => Written::Over(cells[number as usize - 1]),
+            _ => Written::Over(table.cells[number as usize - 1]),
         },
     }
 }

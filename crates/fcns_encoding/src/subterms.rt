@@ -55,12 +55,7 @@ impl Subterms {
 
     // The number of a symbol over two numbers, which is new if it was not there. It is refused for want of memory, and where a
     // number would have more than 32 bits.
-    pub(crate) fn node(
-        &mut self,
-        symbol: u32,
-        first: u32,
-        second: u32,
-    ) -> Result<u32, AllocError>
+    pub(crate) fn node(&mut self, symbol: u32, first: u32, second: u32) -> Result<u32, AllocError>
         requires first { first ≤ length self.old }
         requires second { second ≤ length self.old }
         ensures term { (a b : Term) → slice_get (terms_of self.old) first ≡ Some a → slice_get (terms_of self.old) second ≡ Some b

@@ -1,4 +1,4 @@
-use Rattle.std.proofs.Common.{◌≡◌, ◌++◌, ◌∷◌, ◌+◌, [], refl, ap, sym, ◌∙◌, length, take, ◌-◌, subst, append-nil, arith}
+use Rattle.std.proofs.Common.{◌≡◌, ◌++◌, ◌∷◌, [], refl, ap, sym, ◌∙◌, length, take, ◌-◌, subst, append-nil, arith}
 use Rattle.fcns_encoding.specs.declared.part.Part.TheVariants.{Begun, Whole}
 use Rattle.fcns_encoding.specs.Cells.{AreUsed}
 use Rattle.fcns_encoding.specs.Folding.{begun_in, waiting}

@@ -1,4 +1,4 @@
-use Rattle.std.proofs.Common.{◌≡◌, ◌∷◌, List, ℕ, length}
+use Rattle.std.proofs.Common.{◌≡◌, ◌∷◌, List, length}
 use Rattle.xml_nodes.specs.Machine.{Event}
 use Rattle.fcns_encoding.specs.Cells.{terms_of, AreUsed}
 use Rattle.fcns_encoding.specs.Folding.{Builds, Taking, waiting, begun_in}

@@ -1,4 +1,4 @@
-use Rattle.std.proofs.Common.{refl, ◌≡◌, length, arith}
+use Rattle.std.proofs.Common.{refl, arith}
 use Rattle.fcns_encoding.proofs.InternLemmas.{interned}
 use Rattle.fcns_encoding.proofs.NameLemmas.{started_first}
 use Rattle.fcns_encoding.proofs.symbols.begin.Goals as goal

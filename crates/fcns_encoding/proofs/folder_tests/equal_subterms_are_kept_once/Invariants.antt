@@ -1,5 +1,0 @@
-use Rattle.std.proofs.Common.{◌≡◌, true}
-use Rattle.fcns_encoding.proofs.folder_tests.equal_subterms_are_kept_once.Given as goal
-
-abbrev pub invariant-loop : goal.invariant-loop
-invariant-loop g l = record { sound : l.folder.sound ≡ true; depth : l.folder.depth ≡ 1 }

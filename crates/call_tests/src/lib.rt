@@ -7,6 +7,8 @@
 #[cfg(test)]
 mod code;
 #[cfg(test)]
+mod folding;
+#[cfg(test)]
 mod nodes;
 #[cfg(test)]
 mod outside;

@@ -15,8 +15,6 @@
 
 mod coding;
 mod folder;
-#[cfg(test)]
-mod folder_tests;
 mod kids;
 mod laws;
 mod part;

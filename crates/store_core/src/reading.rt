@@ -15,6 +15,9 @@ use xml_profile::{Reader, XmlError};
 /// A file must have fewer bytes than this.
 const FILE_LIMIT: usize = 1 << 30;
 
+/// A subterm of the code that is used less often has no rule before settling, which then finds smaller rules.
+const LEAST_USES: usize = 32;
+
 /// How many bytes of a file are read at once.
 const PIECE: usize = 1 << 16;
 
@@ -30,7 +33,7 @@ pub(crate) fn read_document<F: Shelf>(alloc: Global, shelf: &mut F) -> Result<Fo
     let mut folder = Folder::new(alloc);
     feed_file(alloc, shelf, &mut reader, &mut folder)?;
     reader.finish()?;
-    Ok(folder.finish()?)
+    Ok(folder.finish_with(LEAST_USES)?)
 }
 
 // Feeds the open file to the reader, to the file's end, to the limit or to a fault. Bytes that go wrong don't end it, since

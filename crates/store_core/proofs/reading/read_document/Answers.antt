@@ -16,7 +16,7 @@ returns-in_err-reader-clause-only g c = OnlyReads-refl (g.F.Shelf.told c.args.sh
 pub returns-clause-document : goal.returns-clause-document
 returns-clause-document g c =
     let w = told_document _ _ _ c.in_ok-feed_file.ensures.feeds (unfailed _ _ c.in_ok-finish.field-0 c.in_ok-finish.ensures.again refl) c.in_ok-finish.ensures.document in
-    let e = c.in_ok-finish-2.ensures in
+    let e = c.in_ok-finish_with.ensures in
     record {
       tree = w.tree;
       reads = w.reads;

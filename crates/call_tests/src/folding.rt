@@ -1,7 +1,7 @@
-// Tests of the folder.
+// Documents that are folded while their calls come.
 ghost use Rattle.std.specs.Prelude.{◌≡◌, true, IfOk, OnOk};
 
-use crate::Folder;
+use fcns_encoding::Folder;
 use plain_tree::Kind;
 use std::alloc::{AllocError, Global};
 use std::test::Fail;

@@ -1,0 +1,16 @@
+pub mod Lists
+pub mod Entries
+pub mod Evaluation
+pub mod Closing
+pub mod Frames
+pub mod Once
+pub mod Listings
+pub mod Handing
+pub mod Cutting
+pub mod Weaving
+pub mod Telling
+pub mod Tellings
+pub mod Places
+pub mod Descents
+pub mod Triples
+pub mod Answering

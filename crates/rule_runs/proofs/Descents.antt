@@ -36,7 +36,7 @@ use Rattle.rule_runs.proofs.Cutting.{before-nothing, beside-nothing, length-join
 use Rattle.rule_runs.proofs.Handing.{AllHoles, linear, handed_all, length-handed, fall-body}
 use Rattle.rule_runs.proofs.Lists.{slice_get-at}
 use Rattle.rule_runs.proofs.Telling.{told-woven}
-use Rattle.rule_runs.proofs.Tellings.{tells-more, telling-more, told-more, told-push, told-at, length-told}
+use Rattle.rule_runs.proofs.Tellings.{tells-more, telling-more, told-more, told-at, length-told}
 
 -- what is open, by its first place
 pub down-is : {D : Type 0} (start : D) (ms : List (Open D)) → down_at start ms ≡ get_or (downs_of ms) 0 start
@@ -154,7 +154,7 @@ module _ {S D : Type 0} (A : Algebra S) (W : Downward S D) (G : List Rule) (g : 
   body-meaning : meanings term_algebra (ranks_of G) (all_meanings term_algebra G) (holes 0 (rank_at G key.0)) (body_at G key.0) [] ≡ value_at G key.0 ∷ []
   body-meaning =
       let hs : List Term = holes 0 (rank_at G key.0) in
-      let m = meanings-whole terms (ranks_of G) (all_meanings term_algebra G) 1 hs (body_at G key.0) [] (g.each key.0 pair.there).shaped.term in
+      let m = meanings-whole term_algebra (ranks_of G) (all_meanings term_algebra G) 1 hs (body_at G key.0) [] (g.each key.0 pair.there).shaped.term in
       only Leaf _ m.1 ∙ ap (λ t. t ∷ []) (sym (memo-at term_algebra G g key.0 pair.there hs))
 
   ups-holes : map (λ t. up A t key.1) (holes 0 (rank_at G key.0)) ≡ key.1
@@ -369,10 +369,10 @@ module _ {S D : Type 0} (A : Algebra S) (W : Downward S D) (G : List Rule) (ks :
         (rw k.1 t.0, k.0, rw k.1 below.0)
 
     -- a parameter ends a stretch
-    pub walk-param : (more : List (Vec Part Global)) (notes : List (Note S)) (marks : List (Mark D)) (here here' : Here) (d : D) (t : Told) (new : Outcome D) (w : Walks A W G ks lists key down (NoteParam ∷ notes) (MarkTerm d ∷ marks) here outcome)
-        → Tells (lists ++ more) t w.s → IsTelling (lists ++ more) here' nothing → new.told.items ≡ outcome.told.items ++ t ∷ [] → new.handed.items ≡ outcome.handed.items ++ d ∷ []
+    pub walk-param : (more : List (Vec Part Global)) (notes : List (Note S)) (marks : List (Mark D)) (here here' : Here) (d : D) (new : Outcome D) (w : Walks A W G ks lists key down (NoteParam ∷ notes) (MarkTerm d ∷ marks) here outcome)
+        → AreTold (lists ++ more) new.told.items (w.done ++ w.s ∷ []) → IsTelling (lists ++ more) here' nothing → new.handed.items ≡ outcome.handed.items ++ d ∷ []
         → Walks A W G ks (lists ++ more) key down notes marks here' new
-    walk-param more notes marks here here' d t new w tells telling told_is handed_is =
+    walk-param more notes marks here here' d new w finished telling handed_is =
         let m = open-term lists d marks w.ms w.marked in
         let n = note-param A G ks w.args w.ls notes w.noted in
         let s : w.done ++ (w.s ∷ told A W G (drop 1 w.args) nothing m.0 n.0) ≡ cut A W (value_at G key.0) key.1 down = rw (m.1, n.1) at w.stretches in
@@ -386,7 +386,7 @@ module _ {S D : Type 0} (A : Algebra S) (W : Downward S D) (G : List Rule) (ks :
           noted = n.2;
           marked = open-more lists more marks m.0 m.2;
           telling = telling;
-          finished = rw told_is (told-push (lists ++ more) outcome.told.items w.done t w.s (told-more lists more outcome.told.items w.done w.finished) tells);
+          finished = finished;
           stretches = append_assoc w.done (w.s ∷ []) (told A W G (drop 1 w.args) nothing m.0 n.0) ∙ s;
           hands = rw handed_is (append_assoc outcome.handed.items (d ∷ []) (param_downs A W G (drop 1 w.args) (downs_of m.0) n.0) ∙ h);
           terms = rw (m.1, n.1, zero-add) at w.terms;
@@ -395,14 +395,14 @@ module _ {S D : Type 0} (A : Algebra S) (W : Downward S D) (G : List Rule) (ks :
         }
 
     -- the end of a body ends the last stretch
-    pub walk-end : (more : List (Vec Part Global)) (marks : List (Mark D)) (here : Here) (t : Told) (new : Outcome D) (w : Walks A W G ks lists key down [] marks here outcome)
-        → Tells (lists ++ more) t (absorbed w.s w.ms) → new.told.items ≡ outcome.told.items ++ t ∷ [] → new.handed.items ≡ outcome.handed.items
-        → AreTold (lists ++ more) new.told.items (cut A W (value_at G key.0) key.1 down) × (new.handed.items ≡ handed A W (value_at G key.0) key.1 down)
-    walk-end more marks here t new w tells told_is handed_is =
+    pub walk-end : (after_lists : List (Vec Part Global)) (marks : List (Mark D)) (here : Here) (new : Outcome D) (w : Walks A W G ks lists key down [] marks here outcome)
+        → AreTold after_lists new.told.items (w.done ++ absorbed w.s w.ms ∷ []) → new.handed.items ≡ outcome.handed.items
+        → AreTold after_lists new.told.items (cut A W (value_at G key.0) key.1 down) × (new.handed.items ≡ handed A W (value_at G key.0) key.1 down)
+    walk-end after_lists marks here new w finished handed_is =
         let n = note-none A G ks w.args w.ls w.noted in
         let s : w.done ++ (absorbed w.s w.ms ∷ []) ≡ cut A W (value_at G key.0) key.1 down = rw n at w.stretches in
         let h : outcome.handed.items ++ [] ≡ handed A W (value_at G key.0) key.1 down = rw n at w.hands in (
-          rw (← s, told_is) (told-push (lists ++ more) outcome.told.items w.done t (absorbed w.s w.ms) (told-more lists more outcome.told.items w.done w.finished) tells),
+          rw s at finished,
           handed_is ∙ sym (append-nil outcome.handed.items) ∙ h,
         )
 

@@ -111,14 +111,14 @@ module _ {S D : Type 0} (A : Algebra S) (W : Downward S D) (G : List Rule) (lin 
   fall-body (suc n) (Symbol f ∷ ls) hs (d ∷ ds) t w a e =
       let all : List Term = meanings term_algebra (ranks_of G) (all_meanings term_algebra G) hs ls [] in
       let u = ups-meanings hs ls in
-      let m = meanings-whole terms (ranks_of G) (all_meanings term_algebra G) (2 + n) hs ls [] t in
+      let m = meanings-whole term_algebra (ranks_of G) (all_meanings term_algebra G) (2 + n) hs ls [] t in
       let s = fall-symbol f all d ds (meanings A (ranks_of G) (all_meanings A G) (map (λ x. up A x states) hs) ls []) (omega (arith, m.1)) (sym u) in
       s ∙ fall-body (2 + n) ls hs (_ ∷ _ ∷ ds) t (omega arith) a e
   fall-body (suc n) (Call q ∷ ls) hs (d ∷ ds) t w a e =
       let k : ℕ = get_or (ranks_of G) q 0 in
       let all : List Term = meanings term_algebra (ranks_of G) (all_meanings term_algebra G) hs ls [] in
       let u = ups-meanings hs ls in
-      let m = meanings-whole terms (ranks_of G) (all_meanings term_algebra G) (k + n) hs ls [] t in
+      let m = meanings-whole term_algebra (ranks_of G) (all_meanings term_algebra G) (k + n) hs ls [] t in
       let h : k ≤ length all = omega (arith, m.1) in
       let s = fall-call q all d ds h in
       let o = lin.in_order q (take k all) (length-take-le k all h) in

@@ -1,5 +1,7 @@
 pub mod Lists
+pub mod Sizes
 pub mod Entries
+pub mod Bodies
 pub mod Evaluation
 pub mod Closing
 pub mod Frames
@@ -12,5 +14,6 @@ pub mod Telling
 pub mod Tellings
 pub mod Places
 pub mod Descents
+pub mod Rooms
 pub mod Triples
 pub mod Answering

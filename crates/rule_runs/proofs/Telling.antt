@@ -104,7 +104,7 @@ module _ {S D : Type 0} (A : Algebra S) (W : Downward S D) (G : List Rule) (lin 
       ih ∙ ap (λ x. woven A W G states x (after ms) all) (sym (beside-nothing (absorbed here ms))) ∙ sym (woven-before A W G states (absorbed here ms) nothing (after ms) all) ∙ ap (before (absorbed here ms)) (sym (before-nothing V (woven-some A W G states nothing (after ms) all))) ∙ sym w
   told-woven (suc n) (Symbol f ∷ ls) hs here ms t p a e =
       let all : List Term = meanings term_algebra (ranks_of G) (all_meanings term_algebra G) hs ls [] in
-      let m = meanings-whole terms (ranks_of G) (all_meanings term_algebra G) (2 + n) hs ls [] t in
+      let m = meanings-whole term_algebra (ranks_of G) (all_meanings term_algebra G) (2 + n) hs ls [] t in
       let u = ups-meanings A W G lin states hs ls in
       let pa = places-after ms n p in
       let ih = told-woven (2 + n) ls hs _ (Place _ ∷ Place _ ∷ after ms) t (omega arith) a e in
@@ -112,7 +112,7 @@ module _ {S D : Type 0} (A : Algebra S) (W : Downward S D) (G : List Rule) (lin 
   told-woven (suc n) (Call q ∷ ls) hs here ms t p a e =
       let k : ℕ = get_or (ranks_of G) q 0 in
       let all : List Term = meanings term_algebra (ranks_of G) (all_meanings term_algebra G) hs ls [] in
-      let m = meanings-whole terms (ranks_of G) (all_meanings term_algebra G) (k + n) hs ls [] t in
+      let m = meanings-whole term_algebra (ranks_of G) (all_meanings term_algebra G) (k + n) hs ls [] t in
       let h : k ≤ length all = omega (arith, m.1) in
       let u = ups-meanings A W G lin states hs ls in
       let kids : List S = take k (meanings A (ranks_of G) (all_meanings A G) (map (λ t. up A t states) hs) ls []) in

@@ -1,5 +1,5 @@
 -- The triples that a run downward reads: each is met, and no two are the same; and what the run has at its end.
-use Rattle.std.proofs.Common.{◌≡◌, ◌≢◌, ℕ, zero, suc, ◌+◌, ◌-◌, ◌*◌, ◌^◌, ◌<◌, ◌≤◌, List, [], ◌∷◌, ◌++◌, length, get_or, drop, map, reverse, sum_by, Option, Some, None, Vec, Global, refl, sym, ap, ◌∙◌, arith, append_assoc, All, AllPairs}
+use Rattle.std.proofs.Common.{◌≡◌, ◌≢◌, ℕ, zero, suc, ◌+◌, ◌-◌, ◌*◌, ◌^◌, ◌<◌, ◌≤◌, List, [], ◌∷◌, ◌++◌, length, get_or, drop, map, reverse, sum_by, Option, Some, None, Vec, Global, refl, sym, ap, ◌∙◌, arith, append_assoc, subst, All, AllPairs}
 use Rattle.std.proofs.lemmas.List.Elements.{All-append, All-cons, All-get_or, All-head, All-nil, All-tail, All-weaker}
 use Rattle.std.proofs.lemmas.List.{map-append, get_or_push, length_push}
 use Rattle.std.proofs.lemmas.List.Sums.{get_or-le-sum_by, sum_by-append}
@@ -26,8 +26,13 @@ use Rattle.rule_runs.specs.Risen.{IsPair, IsRun, pair_at, keys}
 use Rattle.rule_runs.specs.Tellings.{Lists, Tells, IsTelling, AreTold}
 use Rattle.rule_runs.specs.Walks.{Open, woven_marks}
 use Rattle.rule_runs.proofs.Cutting.{cut-whole}
-use Rattle.rule_runs.proofs.Lists.{cost-lt, all-insert, all-one, all-unmap, distinct-one, distinct-insert, distinct-apart, one-place, sum-insert}
+use Rattle.rule_runs.proofs.Sizes.{met-within}
+use Rattle.rule_runs.proofs.Lists.{cost-lt, all-at, all-split, all-insert, all-one, all-unmap, distinct-one, distinct-insert, distinct-apart, one-place, sum-insert}
 use Rattle.rule_runs.proofs.Descents.{open-term, walk-call, outcome-more, waiting-more}
+
+-- nothing is read
+pub falls-none : {S D : Type 0} (A : Algebra S) (W : Downward S D) (G : List Rule) (n : ℕ) → n ≤ 0 → FallsOnce A W G [] n
+falls-none {S} {D} A W G n le = record { met = All-nil (λ (t : RuleStates S × D). Falls S D A W G t.0.0 t.0.1 t.1); distinct = λ i j d l m. absurd (omega arith); bound = omega arith }
 
 module _ {S D : Type 0} (A : Algebra S) (W : Downward S D) (G : List Rule) (ks : List (RuleStates S)) where
   abbrev pub known_triples : List (Spot D × Outcome D) → List (RuleStates S × D)
@@ -132,7 +137,7 @@ module _ {S D : Type 0} (A : Algebra S) (W : Downward S D) (G : List Rule) (know
   }
 
   pub pair-of : (i : ℕ) → i < length (keys known) → IsPair G (pair_at (keys known) i)
-  pair-of i lt = All-get_or (IsPair G) (keys known) i (0, []) run.pairs lt
+  pair-of i lt = All-get_or (IsPair G) (keys known) i (0, []) lt run.pairs
 
   -- the outcome of the start is one stretch: the whole's nodes and hits
   pub outcome-whole : IsGrammar G → (lists : List (Vec Part Global)) (spot : Spot D) (outcome : Outcome D) → HasOutcome A W G (keys known) lists spot outcome → spot ≡ record { pair = length (keys known) - 1; down = W.start }
@@ -153,12 +158,31 @@ told-answers lists t s h = by_list t.list h.list
     by_list None l = sym l
     by_list (Some i) l = l.1
 
-pub told-answered : (lists : List (Vec Part Global)) (t : Told) (s : Stretch) → Tells lists t s → AreEarlier lists → IsAnswered lists t
-told-answered lists t s h a = record { earlier = a; there = by_list t.list h.list; counted = h.hits ∙ ap length (sym (told-answers lists t s h)) }
+pub told-answered : (lists : List (Vec Part Global)) (t : Told) (s : Stretch) → Tells lists t s → AreEarlier lists → All (λ n. n < 2 ^ 64) s.hits → IsAnswered lists t
+told-answered lists t s h a small = record {
+  earlier = a;
+  there = by_list t.list h.list;
+  counted = h.hits ∙ ap length (sym (told-answers lists t s h));
+  small = subst (λ ns. All (λ n. n < 2 ^ 64) ns) (sym (told-answers lists t s h)) small;
+}
   where
     by_list : (list : Option ℕ) → Lists lists list s.hits → IsThere lists list
     by_list None l = tt
     by_list (Some i) l = l.0
+
+-- what the bodies that are read, the innermost and the next one, stand for is no larger than the whole
+module _ {S D : Type 0} (A : Algebra S) (W : Downward S D) (G : List Rule) (ks : List (RuleStates S)) (g : IsGrammar G) (small : nodes_in (value G) < 2 ^ 63) where
+  met-small : (t : RuleStates S × D) → Falls S D A W G t.0.0 t.0.1 t.1 → nodes_in (value_at G t.0.0) < 2 ^ 63
+  met-small t f = let m = met-within G g A W t.0.0 t.0.1 t.1 f in omega (arith, m.1)
+
+  pub frame-small : (known : List (RuleStates S × D)) (spot : Spot D) (rest : List (RuleStates S × D)) (n : ℕ) → FallsOnce A W G (known ++ triple_at ks spot ∷ rest) n → nodes_in (value_at G (pair_at ks spot.pair).0) < 2 ^ 63
+  frame-small known spot rest n reads = met-small (triple_at ks spot) (all-at (λ (t : RuleStates S × D). Falls S D A W G t.0.0 t.0.1 t.1) known (triple_at ks spot) rest reads.met)
+
+  pub outer-small : (known : List (RuleStates S × D)) (first : RuleStates S × D) (spot : Spot D) (rest : List (RuleStates S × D)) (n : ℕ) → FallsOnce A W G (known ++ first ∷ triple_at ks spot ∷ rest) n → nodes_in (value_at G (pair_at ks spot.pair).0) < 2 ^ 63
+  outer-small known first spot rest n reads =
+      let P : RuleStates S × D → Type 0 = λ t. Falls S D A W G t.0.0 t.0.1 t.1 in
+      let later = All-tail P first (triple_at ks spot ∷ rest) (all-split P known (first ∷ triple_at ks spot ∷ rest) reads.met).1 in
+      met-small (triple_at ks spot) (All-head P (triple_at ks spot) rest later)
 
 module _ {S D : Type 0} (A : Algebra S) (W : Downward S D) (G : List Rule) (ks : List (RuleStates S)) where
   pub outcomes-more : (lists more : List (Vec Part Global)) (known : List (Spot D × Outcome D)) → All (λ e. HasOutcome A W G ks lists e.0 e.1) known → All (λ e. HasOutcome A W G ks (lists ++ more) e.0 e.1) known

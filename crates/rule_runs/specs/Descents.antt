@@ -19,6 +19,7 @@ use Rattle.rule_runs.specs.declared.notes.Note.TheVariants.{Call as NoteCall}
 use Rattle.rule_runs.specs.declared.spots.Outcome.{Outcome}
 use Rattle.rule_runs.specs.declared.spots.Spot.{Spot}
 use Rattle.rule_runs.specs.declared.told.Here.{Here}
+use Rattle.rule_runs.specs.declared.told.Told.{Told}
 use Rattle.rule_runs.specs.Cuts.{Stretch, cut}
 use Rattle.rule_runs.specs.Frames.{base}
 use Rattle.rule_runs.specs.Notes.{AreNotes}
@@ -32,6 +33,17 @@ AreOpen lists [] [] = Unit {0}
 AreOpen lists (MarkTerm d ∷ xs) (Place e ∷ ms) = (d ≡ e) × AreOpen lists xs ms
 AreOpen lists (MarkPiece t ∷ xs) (Piece s ∷ ms) = Tells lists t s × AreOpen lists xs ms
 AreOpen lists xs ms = ⊥
+
+-- what the pieces before the next term add up to
+abbrev pub ahead : {D : Type 0} → (Told → ℕ) → List (Mark D) → ℕ
+ahead f [] = 0
+ahead f (MarkTerm d ∷ xs) = 0
+ahead f (MarkPiece t ∷ xs) = f t + ahead f xs
+
+-- the pieces before the next term fit behind what was told so far
+pub record HasRoomAhead {D : Type 0} (h : Here) (marks : List (Mark D)) : Type 0 where
+  pub nodes : h.nodes + ahead (λ t. t.nodes) marks < 2 ^ 64
+  pub hits : h.hits + ahead (λ t. t.hits) marks < 2 ^ 64
 
 -- the next term's down state
 abbrev pub IsFound : {D : Type 0} → Option D → List (Open D) → Type 0

@@ -1,5 +1,5 @@
 // The answers of a run downward, one after another.
-ghost use Rattle.std.specs.Prelude.{◌≡◌, ◌++◌, [], None, IfOk, OnErr, option_to_list, All};
+ghost use Rattle.std.specs.Prelude.{◌≡◌, ◌++◌, [], None, IfOk, OnErr, option_to_list};
 
 use crate::falling::FallTable;
 use crate::listing::{Level, Part, next_number};
@@ -15,13 +15,13 @@ pub struct Answers<'a> {
 
 impl<'a> Model for Answers<'a> {
     ghost use Rattle.std.specs.Prelude.{ℕ, List, reverse};
-    ghost use Rattle.rule_runs.specs.Listing.{coming, AreEarlier, AreWithin};
+    ghost use Rattle.rule_runs.specs.Listing.{coming, IsComing};
 
     ghost Value = { List ℕ };
 
     ghost view = { λ a. coming a.lists.now (reverse a.levels.items) };
 
-    ghost invariant = { λ a. AreEarlier a.lists.now × AreWithin a.lists.now (reverse a.levels.items) };
+    ghost invariant = { λ a. IsComing a.lists.now (reverse a.levels.items) };
 }
 
 impl<'a> Answers<'a> {

@@ -21,9 +21,10 @@ pub(crate) fn read_body<L: Ledger>(
     ensures counted { steps.old ≤ steps.new }
 {
     let mut labels = Vec::new(alloc);
-    let mut walk = grammar.walk(rule);
-    'nodes: while let Some(label) = walk.next(steps) {
-        labels.push(label)?;
+    let mut next = Some(grammar.root(rule));
+    'nodes: while let Some(key) = next {
+        labels.push(grammar.label(key, steps))?;
+        next = grammar.next_in_preorder(key, steps);
     }
     Ok(labels)
 }

@@ -1,15 +1,16 @@
 // Rule bodies that a run downward reads, node by node from their root.
-ghost use Rattle.std.specs.Prelude.{◌≡◌, ◌≢◌, ◌+◌, ◌*◌, ◌<◌, ◌≤◌, ◌++◌, List, Vec, length, get_or, drop, reverse, IfOk, OnOk, IfSome, IfNone, All};
+ghost use Rattle.std.specs.Prelude.{◌≡◌, ◌≢◌, ◌+◌, ◌*◌, ◌^◌, ◌<◌, ◌≤◌, ◌++◌, ◌∷◌, List, [], Vec, length, get_or, drop, reverse, IfOk, OnOk, IfSome, IfNone, All};
 ghost use Rattle.std.specs.Global.{Global as TheGlobal};
-ghost use Rattle.slt_grammar.specs.Grammars.{body_at};
+ghost use Rattle.slt_grammar.specs.Automata.{nodes_in};
+ghost use Rattle.slt_grammar.specs.Grammars.{body_at, value_at};
 ghost use Rattle.slt_grammar.specs.Keyed.{rules_of};
 ghost use Rattle.rule_runs.specs.Reached.{Falls};
-ghost use Rattle.rule_runs.specs.Cuts.{Stretch, nothing, beside};
+ghost use Rattle.rule_runs.specs.Cuts.{Stretch, nothing, one, beside};
 ghost use Rattle.rule_runs.specs.Listing.{AreEarlier};
 ghost use Rattle.rule_runs.specs.Risen.{IsRun, keys, pair_at};
-ghost use Rattle.rule_runs.specs.Tellings.{IsTelling, AreTold};
+ghost use Rattle.rule_runs.specs.Tellings.{HasRoom, IsTelling, AreTold};
 ghost use Rattle.rule_runs.specs.Walks.{Open, woven_marks};
-ghost use Rattle.rule_runs.specs.Descents.{AreOpen, IsNext, HasOutcome, Standing, Asks};
+ghost use Rattle.rule_runs.specs.Descents.{AreOpen, HasRoomAhead, IsNext, HasOutcome, Standing, Asks};
 
 use crate::body::read_body;
 use crate::listing::Part;
@@ -19,7 +20,7 @@ use crate::spots::{Outcome, Spot, Spots};
 use crate::stack::copy_at;
 use crate::told::{Here, Told};
 use read_steps::Steps;
-use slt_grammar::{Falling, Grammar, RunState};
+use slt_grammar::{Falling, Fell, Grammar, RunState};
 use std::alloc::{AllocError, Global};
 use std::sync::ledger::Ledger;
 
@@ -61,7 +62,7 @@ pub(crate) fn begin<A: Falling, L: Ledger>(
     // The call tells that the rules are a grammar.
     let _rules = grammar.rules();
     let Some(pair) = risen.known.pair(spot.pair) else {
-        return Err(AllocError);
+        unreachable!()
     };
     let labels = read_body(alloc, grammar, pair.rule, steps)?;
     let notes = note_labels(alloc, automaton, grammar, &risen.known, pair, &labels)?;
@@ -93,6 +94,7 @@ pub(crate) fn descend<A: Falling>(
     requires known { All (λ e. HasOutcome (A.algebra automaton.now) (A.downward automaton.now) (rules_of grammar.now.rules) (keys risen.now.known) lists.old.items e.0 e.1) known.now }
     requires earlier { AreEarlier lists.old.items }
     requires there { descent.old.spot.pair < length (keys risen.now.known) }
+    requires small { nodes_in (value_at (rules_of grammar.now.rules) (pair_at (keys risen.now.known) descent.old.spot.pair).0) < 2 ^ 63 }
     requires stands { Standing (A.algebra automaton.now) (A.downward automaton.now) (rules_of grammar.now.rules) (keys risen.now.known) lists.old.items descent.old }
     ensures same { descent.new.spot ≡ descent.old.spot }
     ensures more { OnOk result ((more : List (Vec Part TheGlobal)) × (lists.new.items ≡ lists.old.items ++ more)) }
@@ -105,38 +107,35 @@ pub(crate) fn descend<A: Falling>(
     let _rules = grammar.rules();
     'notes: while let Some(note) = descent.notes.pop() {
         let Some(down) = next_term(&mut descent.marks, &mut descent.here)? else {
-            return Err(AllocError);
+            unreachable!()
         };
         match note {
             Note::Bottom => {}
             Note::Param => {
-                let told = descent.here.finish(alloc, lists)?;
-                descent.outcome.told.push(told)?;
+                end_stretch(alloc, lists, &mut descent.here, &mut descent.outcome)?;
                 descent.outcome.handed.push(down)?;
             }
             Note::Symbol(symbol, kids, rest) => {
                 let fell = automaton.step(symbol, &down, &kids, &rest)?;
-                descent.here.add(fell.hit)?;
-                descent.marks.push(Mark::Term(fell.right))?;
-                descent.marks.push(Mark::Term(fell.left))?;
+                enter_symbol(&mut descent.marks, &mut descent.here, fell)?;
             }
             Note::Call(pair) => {
                 let spot = Spot { pair, down };
                 match known.find(&spot) {
-                    Some(outcome) => enter(&mut descent.marks, &mut descent.here, outcome)?,
+                    Some(outcome) => enter_call(&mut descent.marks, &mut descent.here, outcome)?,
                     None => return Ok(Some(spot)),
                 }
             }
         }
     }
     next_term(&mut descent.marks, &mut descent.here)?;
-    let told = descent.here.finish(alloc, lists)?;
-    descent.outcome.told.push(told)?;
+    end_stretch(alloc, lists, &mut descent.here, &mut descent.outcome)?;
     Ok(None)
 }
 
 // Goes to the next term, and answers its down state; none where nothing is open any more.
 fn next_term<D: Drop>(marks: &mut Vec<Mark<D>>, here: &mut Here) -> Result<Option<D>, AllocError>
+    requires { HasRoomAhead here.old (reverse marks.old.items) }
     ensures { IfOk result (λ found. (lists : List (Vec Part TheGlobal)) (s : Stretch) (ms : List (Open D)) → IsTelling lists here.old s → AreOpen lists (reverse marks.old.items) ms → IsNext lists found s ms (reverse marks.new.items) here.new) }
 {
     'marks: while let Some(mark) = marks.pop() {
@@ -148,13 +147,49 @@ fn next_term<D: Drop>(marks: &mut Vec<Mark<D>>, here: &mut Here) -> Result<Optio
     Ok(None)
 }
 
+// Ends a stretch: it is told, and the next one begins.
+fn end_stretch<D: Drop>(
+    alloc: Global,
+    lists: &mut Vec<Vec<Part>>,
+    here: &mut Here,
+    outcome: &mut Outcome<D>,
+) -> Result<(), AllocError>
+    ensures told { OnOk result ((s : Stretch) (done : List Stretch) → IsTelling lists.old.items here.old s → AreEarlier lists.old.items → AreTold lists.old.items outcome.old.told.items done → AreTold lists.new.items outcome.new.told.items (done ++ s ∷ [])) }
+    ensures earlier { OnOk result ((s : Stretch) → IsTelling lists.old.items here.old s → AreEarlier lists.old.items → AreEarlier lists.new.items) }
+    ensures more { OnOk result ((more : List (Vec Part TheGlobal)) × (lists.new.items ≡ lists.old.items ++ more)) }
+    ensures empty { OnOk result ((any : List (Vec Part TheGlobal)) → IsTelling any here.new nothing) }
+    ensures handed { outcome.new.handed ≡ outcome.old.handed }
+{
+    let told = here.finish(alloc, lists)?;
+    outcome.told.push(told)?;
+    Ok(())
+}
+
+// Enters a symbol: it is one node more, and its children are open.
+fn enter_symbol<D: Drop>(
+    marks: &mut Vec<Mark<D>>,
+    here: &mut Here,
+    fell: Fell<D>,
+) -> Result<(), AllocError>
+    requires nodes { here.old.nodes + 1 < 2 ^ 64 }
+    requires hits { here.old.hits + 1 < 2 ^ 64 }
+    ensures telling { OnOk result ((lists : List (Vec Part TheGlobal)) (s : Stretch) → IsTelling lists here.old s → IsTelling lists here.new (beside s (one fell.hit))) }
+    ensures marks { OnOk result (reverse marks.new.items ≡ Mark.Term fell.left ∷ Mark.Term fell.right ∷ reverse marks.old.items) }
+{
+    here.add(fell.hit)?;
+    marks.push(Mark::Term(fell.right))?;
+    marks.push(Mark::Term(fell.left))?;
+    Ok(())
+}
+
 // Enters a call: its first stretch is here, and its arguments are open with the other stretches behind them.
-pub(crate) fn enter<D: RunState>(
+pub(crate) fn enter_call<D: RunState>(
     marks: &mut Vec<Mark<D>>,
     here: &mut Here,
     outcome: &Outcome<D>,
 ) -> Result<(), AllocError>
-    requires { length outcome.now.told.items ≡ length outcome.now.handed.items + 1 }
+    requires lengths { length outcome.now.told.items ≡ length outcome.now.handed.items + 1 }
+    requires room { (told : Told) → told ≡ get_or outcome.now.told.items 0 told → HasRoom here.old told }
     ensures { (lists : List (Vec Part TheGlobal)) (s : Stretch) (ms : List (Open D)) (ss : List Stretch) → IsTelling lists here.old s → AreOpen lists (reverse marks.old.items) ms → AreTold lists outcome.now.told.items ss → OnOk result (IsTelling lists here.new (beside s (get_or ss 0 nothing)) × AreOpen lists (reverse marks.new.items) (woven_marks outcome.now.handed.items (drop 1 ss) ++ ms)) }
 {
     let mut left = outcome.handed.len();

@@ -1,12 +1,12 @@
 // Runs downward: each rule is read once for each list of argument states and each down state that it is met with.
-ghost use Rattle.std.specs.Prelude.{◌≡◌, ◌-◌, ◌≤◌, List, length, IfOk};
-ghost use Rattle.slt_grammar.specs.Automata.{hits};
+ghost use Rattle.std.specs.Prelude.{◌≡◌, ◌-◌, ◌^◌, ◌<◌, ◌≤◌, List, length, IfOk};
+ghost use Rattle.slt_grammar.specs.Automata.{hits, nodes_in};
 ghost use Rattle.slt_grammar.specs.Grammars.{value};
 ghost use Rattle.slt_grammar.specs.Keyed.{rules_of};
 ghost use Rattle.rule_runs.specs.Reached.{RuleStates, FallsOnce};
 ghost use Rattle.rule_runs.specs.Risen.{IsRun};
 
-use crate::descent::{begin, descend, enter};
+use crate::descent::{begin, descend, enter_call};
 use crate::listing::Part;
 use crate::rising::RiseTable;
 use crate::spots::{Spot, Spots};
@@ -53,7 +53,8 @@ pub fn fall<A: Falling, L: Ledger>(
     risen: &RiseTable<A>,
     steps: &mut Steps<L>,
 ) -> Result<FallTable, AllocError>
-    requires { IsRun (A.algebra automaton.now) (rules_of grammar.now.rules) risen.now.known }
+    requires run { IsRun (A.algebra automaton.now) (rules_of grammar.now.rules) risen.now.known }
+    requires small { nodes_in (value (rules_of grammar.now.rules)) < 2 ^ 63 }
     ensures hits { IfOk result (λ table. table ≡ hits (A.algebra automaton.now) (A.downward automaton.now) (value (rules_of grammar.now.rules))) }
     ensures steps { (triples : List (RuleStates A.State × A.Down)) × FallsOnce (A.algebra automaton.now) (A.downward automaton.now) (rules_of grammar.now.rules) triples (steps.new - steps.old) }
     ensures counted { steps.old ≤ steps.new }
@@ -86,7 +87,7 @@ pub fn fall<A: Falling, L: Ledger>(
                 Some(below) => {
                     let done = frame;
                     frame = below;
-                    enter(&mut frame.marks, &mut frame.here, &done.outcome)?;
+                    enter_call(&mut frame.marks, &mut frame.here, &done.outcome)?;
                     known.note(done.spot, done.outcome)?;
                 }
             },

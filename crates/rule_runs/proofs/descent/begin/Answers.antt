@@ -47,7 +47,7 @@ note_labels-requires-clause-closed g c =
     let es = c.args.risen.now.known in
     let kn = ap (λ r. r.known) c.risen.view_is in
     let k : key_of c.in-Some.pair.now ≡ pair_at (keys es) c.args.spot.pair = c.in-Some.ensures.pair ∙ ap (λ x. pair_at (keys x) c.args.spot.pair) kn in
-    let h = All-get_or (λ k. AreKnown A G es k 0) (keys es) c.args.spot.pair (0, []) c.requires.run.closed c.requires.there in
+    let h = All-get_or (λ k. AreKnown A G es k 0) (keys es) c.args.spot.pair (0, []) c.requires.there c.requires.run.closed in
     subst (λ x. AreKnown A G x (key_of c.in-Some.pair.now) 0) (sym kn) (subst (λ x. AreKnown A G es x 0) (sym k) h)
 
 pub note_labels-requires-clause-right : goal.note_labels-requires-clause-right

@@ -7,8 +7,8 @@ use Rattle.rule_runs.specs.Entries.{key_of}
 use Rattle.rule_runs.proofs.Lists.{reverse-push, all-get, slice_get-map}
 use Rattle.rule_runs.proofs.notes.note_label.Goals as goal
 
-pub returns-in-Some-clause-state : goal.returns-in-Some-clause-state
-returns-in-Some-clause-state g c =
+pub returns-in_ok-push-in-Some-clause-state : goal.returns-in_ok-push-in-Some-clause-state
+returns-in_ok-push-in-Some-clause-state g c =
     let A = g.A.Rising.algebra c.args.automaton.now in
     let G = rules_of c.args.grammar.now.rules in
     let asks = c.in_ok-pair-in-Call.ensures in
@@ -19,8 +19,8 @@ returns-in-Some-clause-state g c =
     let q : c.in-Call.rule ≡ c.in_ok-pair-in-Call.pair.rule = cc in
     rw (c.in-Call.is, rank_at-ranks_of G c.in-Call.rule, q, ← asks.states, ← asks.others) (r ∙ ap (λ x. x ∷ reverse c.pop_pair.new.stack.items) s)
 
-pub returns-in-Some-clause-note : goal.returns-in-Some-clause-note
-returns-in-Some-clause-note g c =
+pub returns-in_ok-push-in-Some-clause-note : goal.returns-in_ok-push-in-Some-clause-note
+returns-in_ok-push-in-Some-clause-note g c =
     let G = rules_of c.args.grammar.now.rules in
     let asks = c.in_ok-pair-in-Call.ensures in
     let i = asks.is in
@@ -28,20 +28,11 @@ returns-in-Some-clause-note g c =
     let f = slice_get-map (λ e. e.0) c.args.known.now c.in-Some.place _ c.in-Some.ensures.found in
     rw (c.in-Call.is, rank_at-ranks_of G c.in-Call.rule, q, ← asks.states) f
 
-pub returns-in-Call-clause-state : goal.returns-in-Call-clause-state
-returns-in-Call-clause-state g c =
+pub unreachable-requires : goal.unreachable-requires
+unreachable-requires g c =
     let asks = c.in_ok-pair-in-Call.ensures in
     let i = asks.is in
     let q : c.in-Call.rule ≡ c.in_ok-pair-in-Call.pair.rule = cc in
     let h = c.requires.called c.in-Call.rule c.in-Call.is in
     let k : IsKnown c.args.known.now (key_of c.in_ok-pair-in-Call.pair) = rw (q, ← asks.states) at h in
-    absurd (unknown c.args.known.now (key_of c.in_ok-pair-in-Call.pair) c.in-None.ensures.absent k)
-
-pub returns-in-Call-clause-note : goal.returns-in-Call-clause-note
-returns-in-Call-clause-note g c =
-    let asks = c.in_ok-pair-in-Call.ensures in
-    let i = asks.is in
-    let q : c.in-Call.rule ≡ c.in_ok-pair-in-Call.pair.rule = cc in
-    let h = c.requires.called c.in-Call.rule c.in-Call.is in
-    let k : IsKnown c.args.known.now (key_of c.in_ok-pair-in-Call.pair) = rw (q, ← asks.states) at h in
-    absurd (unknown c.args.known.now (key_of c.in_ok-pair-in-Call.pair) c.in-None.ensures.absent k)
+    unknown c.args.known.now (key_of c.in_ok-pair-in-Call.pair) c.in-None.ensures.absent k

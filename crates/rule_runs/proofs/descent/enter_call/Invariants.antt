@@ -4,7 +4,7 @@ use Rattle.rule_runs.specs.Cuts.{Stretch}
 use Rattle.rule_runs.specs.Descents.{AreOpen}
 use Rattle.rule_runs.specs.Tellings.{AreTold}
 use Rattle.rule_runs.specs.Walks.{Open, woven_marks}
-use Rattle.rule_runs.proofs.descent.enter.Given as goal
+use Rattle.rule_runs.proofs.descent.enter_call.Given as goal
 
 abbrev pub decreases-arguments : goal.decreases-arguments
 decreases-arguments g l = l.left

@@ -1,6 +1,7 @@
 -- No called rule has a larger value than the rule that calls it.
-use Rattle.std.proofs.Common.{◌≡◌, ℕ, zero, suc, ◌+◌, ◌-◌, ◌<◌, ◌≤◌, List, [], ◌∷◌, ◌++◌, length, get_or, take, drop, map, Some, slice_get, refl, sym, ap, ◌∙◌, arith}
+use Rattle.std.proofs.Common.{◌≡◌, ℕ, zero, suc, ◌+◌, ◌-◌, ◌<◌, ◌≤◌, List, [], ◌∷◌, ◌++◌, length, get_or, take, drop, map, Some, slice_get, sum_by, refl, sym, ap, ◌∙◌, arith}
 use Rattle.std.proofs.lemmas.List.{map-append, length-take-le}
+use Rattle.std.proofs.lemmas.List.Sums.{sum_by-append}
 use Rattle.rule_arena.specs.Preorder.{AreTerms}
 use Rattle.rule_arena.specs.declared.label.Label.{Label}
 use Rattle.rule_arena.specs.declared.label.Label.TheVariants.{Bottom, Symbol, Call, Param}
@@ -8,6 +9,7 @@ use Rattle.slt_grammar.specs.Algebras.{Algebra, meanings, ranks_of, all_meanings
 use Rattle.slt_grammar.specs.Automata.{Downward, nodes_in}
 use Rattle.slt_grammar.specs.Bodies.{arity, CallsBelow}
 use Rattle.slt_grammar.specs.Grammars.{IsGrammar, body_at, rank_at, value, value_at}
+use Rattle.slt_grammar.specs.Segments.{listed}
 use Rattle.slt_grammar.specs.Terms.{Term, Leaf, Node, Hole, holes, holes_of, up}
 use Rattle.slt_grammar.specs.declared.rules.Rule.{Rule}
 use Rattle.slt_grammar.proofs.Carrying.{up-holes, up-value_at}
@@ -127,3 +129,13 @@ module _ (G : List Rule) (g : IsGrammar G) where
       let k = slice_get-at (body_at G r) place (Call q) Bottom e in
       let c = call-earlier r place q (body_at G r) (g.each r m.0).earlier k.1 in
       (let a = m.0 in omega arith, let b = m.1 in omega arith)
+
+-- the nodes of a term as those who weigh its labels count them: a symbol weighs 1, and nothing else does
+module _ (weigh : Label → ℕ) (symbols : (f : ℕ) → weigh (Symbol f) ≡ 1) (bottoms : weigh Bottom ≡ 0) (params : weigh Param ≡ 0) where
+  listed-weighs : (t : Term) (rest : List Label) → sum_by weigh (listed t rest) ≡ nodes_in t + sum_by weigh rest
+  listed-weighs Leaf rest = omega (arith, bottoms, sum_by-append weigh (Bottom ∷ []) rest)
+  listed-weighs (Hole i) rest = omega (arith, params, sum_by-append weigh (Param ∷ []) rest)
+  listed-weighs (Node f a b) rest = omega (arith, symbols f, sum_by-append weigh (Symbol f ∷ []) (listed a (listed b rest)), listed-weighs a (listed b rest), listed-weighs b rest)
+
+  pub nodes-weigh : (t : Term) → nodes_in t ≡ sum_by weigh (listed t [])
+  nodes-weigh t = omega (arith, listed-weighs t [])

@@ -180,9 +180,9 @@ module _ {S D : Type 0} (A : Algebra S) (W : Downward S D) where
       let left = hits_from A W (suc number) a states s.left in
       let right = hits_from A W (suc number + nodes_in a) b states s.right in
       All-append P (if s.hit then number ∷ [] else []) (left ++ right) (own s.hit)
-          (All-append P left right
-              (All-weaker (λ n. n < suc number + nodes_in a) P (λ n h. omega arith) left (hits-below (suc number) a states s.left))
-              (All-weaker (λ n. n < (suc number + nodes_in a) + nodes_in b) P (λ n h. omega arith) right (hits-below (suc number + nodes_in a) b states s.right)))
+      (All-append P left right
+      (All-weaker (λ n. n < suc number + nodes_in a) P (λ n h. omega arith) left (hits-below (suc number) a states s.left))
+      (All-weaker (λ n. n < (suc number + nodes_in a) + nodes_in b) P (λ n h. omega arith) right (hits-below (suc number + nodes_in a) b states s.right)))
     where
       own : (hit : Bool) → All (λ n. n < number + suc (nodes_in a + nodes_in b)) (if hit then number ∷ [] else [])
       own true = All-cons (λ n. n < number + suc (nodes_in a + nodes_in b)) number [] (omega arith) (All-nil (λ n. n < number + suc (nodes_in a + nodes_in b)))

@@ -61,11 +61,11 @@ module _ {S D : Type 0} (A : Algebra S) (W : Downward S D) (G : List Rule) (ks :
       let N : Spot D × Outcome D → Type 0 = λ e. e.0 ≢ spot in
       let first = All-head P e es h in
       All-cons (λ (t : RuleStates S × D). t ≢ triple_at ks spot) (triple_at ks e.0) (known_triples es)
-          (λ q.
-              let i : e.0.pair ≡ spot.pair = one-place ks e.0.pair spot.pair (0, []) dk first.there there (ap (λ (t : RuleStates S × D). t.0) q) in
-              let d : e.0.down ≡ spot.down = ap (λ (t : RuleStates S × D). t.1) q in
-              All-head N e es n (ap (λ (x : ℕ). record { pair = x; down = e.0.down }) i ∙ ap (λ (y : D). record { pair = spot.pair; down = y }) d))
-          (known-apart dk lists spot there es (All-tail P e es h) (All-tail N e es n))
+      (λ q.
+      let i : e.0.pair ≡ spot.pair = one-place ks e.0.pair spot.pair (0, []) dk first.there there (ap (λ (t : RuleStates S × D). t.0) q) in
+      let d : e.0.down ≡ spot.down = ap (λ (t : RuleStates S × D). t.1) q in
+      All-head N e es n (ap (λ (x : ℕ). record { pair = x; down = e.0.down }) i ∙ ap (λ (y : D). record { pair = spot.pair; down = y }) d))
+      (known-apart dk lists spot there es (All-tail P e es h) (All-tail N e es n))
 
   -- a spot that is not known is read too
   pub falls-more : AllPairs (λ p q. p ≢ q) ks → (lists : List (Vec Part Global)) (known : List (Spot D × Outcome D)) (f f' : Descent S D) (gs : List (Descent S D)) (spot : Spot D) (n m : ℕ) (lists' : List (Vec Part Global))

@@ -1,6 +1,5 @@
 -- Bodies read from their root, node by node.
-use Rattle.std.proofs.Common.{◌≡◌, ℕ, zero, suc, ◌+◌, ◌<◌, List, [], ◌∷◌, ◌++◌, length, get_or, take, drop, map, reverse, Option, Some, None, Vec, Global, slice_get, refl, sym, ap, ◌∙◌, arith, append_assoc, append-nil, length-append, get_or-drop, add_comm, zero-add, subst}
-use Rattle.std.proofs.lemmas.List.{drop_more, length-drop}
+use Rattle.std.proofs.Common.{◌≡◌, ℕ, zero, suc, ◌+◌, ◌<◌, List, [], ◌∷◌, ◌++◌, length, get_or, take, drop, map, reverse, Option, Some, Vec, Global, slice_get, refl, sym, ap, ◌∙◌, arith, append_assoc, append-nil, length-append, zero-add, subst}
 use Rattle.rule_arena.specs.Preorder.{AreTerms}
 use Rattle.rule_arena.specs.declared.label.Label.{Label}
 use Rattle.rule_arena.specs.declared.label.Label.TheVariants.{Bottom, Symbol, Call, Param}
@@ -17,7 +16,7 @@ use Rattle.slt_grammar.proofs.RuleMeanings.{memo-at, rank_at-ranks_of}
 use Rattle.slt_grammar.proofs.Carrying.{up-holes}
 use Rattle.slt_grammar.proofs.Linear.{value_at-linear, length-holes}
 use Rattle.rule_runs.specs.declared.descent.Mark.{Mark}
-use Rattle.rule_runs.specs.declared.descent.Mark.TheVariants.{Term as MarkTerm, Piece as MarkPiece}
+use Rattle.rule_runs.specs.declared.descent.Mark.TheVariants.{Term as MarkTerm}
 use Rattle.rule_runs.specs.declared.descent.Descent.{Descent}
 use Rattle.rule_runs.specs.declared.listing.Part.{Part}
 use Rattle.rule_runs.specs.declared.notes.Note.{Note}
@@ -25,106 +24,19 @@ use Rattle.rule_runs.specs.declared.notes.Note.TheVariants.{Bottom as NoteBottom
 use Rattle.rule_runs.specs.declared.spots.Outcome.{Outcome}
 use Rattle.rule_runs.specs.declared.spots.Spot.{Spot}
 use Rattle.rule_runs.specs.declared.told.Here.{Here}
-use Rattle.rule_runs.specs.declared.told.Told.{Told}
 use Rattle.rule_runs.specs.Cuts.{Stretch, nothing, one, beside, before, joined, cut}
 use Rattle.rule_runs.specs.Notes.{AreNotes}
 use Rattle.rule_runs.specs.Risen.{IsPair, pair_at}
-use Rattle.rule_runs.specs.Tellings.{Tells, IsTelling, AreTold}
-use Rattle.rule_runs.specs.Walks.{Open, Place, Piece, absorbed, after, down_at, places, downs_of, woven_marks, told, param_downs, woven}
-use Rattle.rule_runs.specs.Descents.{AreOpen, IsNext, IsAbsorbing, CallsMeet, Walks, HasOutcome, AreWaiting}
+use Rattle.rule_runs.specs.Tellings.{IsTelling, AreTold}
+use Rattle.rule_runs.specs.Walks.{Open, Place, absorbed, after, down_at, downs_of, woven_marks, told, param_downs, woven}
+use Rattle.rule_runs.specs.Descents.{AreOpen, IsNext, CallsMeet, Walks, HasOutcome, AreWaiting}
 use Rattle.rule_runs.proofs.Cutting.{before-nothing, beside-nothing, length-joined, length-cut, cut-some}
 use Rattle.rule_runs.proofs.Handing.{AllHoles, linear, handed_all, length-handed, fall-body}
 use Rattle.rule_runs.proofs.Lists.{slice_get-at}
 use Rattle.rule_runs.proofs.Telling.{told-woven}
-use Rattle.rule_runs.proofs.Tellings.{tells-more, telling-more, told-more, told-at, length-told}
-
--- what is open, by its first place
-pub down-is : {D : Type 0} (start : D) (ms : List (Open D)) → down_at start ms ≡ get_or (downs_of ms) 0 start
-down-is start [] = refl
-down-is start (Place d ∷ ms) = refl
-down-is start (Piece s ∷ ms) = down-is start ms
-
-pub places-are : {D : Type 0} (ms : List (Open D)) → places ms ≡ length (downs_of ms)
-places-are [] = refl
-places-are (Place d ∷ ms) = ap suc (places-are ms)
-places-are (Piece s ∷ ms) = places-are ms
-
-pub downs-woven : {D : Type 0} (ds : List D) (ss : List Stretch) (ms : List (Open D)) → downs_of (woven_marks ds ss ++ ms) ≡ ds ++ downs_of ms
-downs-woven [] ss ms = refl
-downs-woven (d ∷ ds) [] ms = ap (λ x. d ∷ x) (downs-woven ds [] ms)
-downs-woven (d ∷ ds) (s ∷ ss) ms = ap (λ x. d ∷ x) (downs-woven ds ss ms)
-
-pub open-term : {D : Type 0} (lists : List (Vec Part Global)) (d : D) (marks : List (Mark D)) (ms : List (Open D)) → AreOpen lists (MarkTerm d ∷ marks) ms → (rest : List (Open D)) × (ms ≡ Place d ∷ rest) × AreOpen lists marks rest
-open-term lists d marks [] o = absurd o
-open-term lists d marks (Piece s ∷ ms) o = absurd o
-open-term lists d marks (Place e ∷ ms) o = (ms, ap (λ x. Place x ∷ ms) (sym o.0), o.1)
-
-pub open-piece : {D : Type 0} (lists : List (Vec Part Global)) (t : Told) (marks : List (Mark D)) (ms : List (Open D)) → AreOpen lists (MarkPiece t ∷ marks) ms → (s : Stretch) × (rest : List (Open D)) × (ms ≡ Piece s ∷ rest) × Tells lists t s × AreOpen lists marks rest
-open-piece lists t marks [] o = absurd o
-open-piece lists t marks (Place d ∷ ms) o = absurd o
-open-piece lists t marks (Piece s ∷ ms) o = (s, ms, refl, o.0, o.1)
-
-pub open-none : {D : Type 0} (lists : List (Vec Part Global)) (ms : List (Open D)) → AreOpen lists [] ms → ms ≡ []
-open-none lists [] o = refl
-open-none lists (m ∷ ms) o = absurd o
-
-pub open-more : {D : Type 0} (lists more : List (Vec Part Global)) (marks : List (Mark D)) (ms : List (Open D)) → AreOpen lists marks ms → AreOpen (lists ++ more) marks ms
-open-more lists more [] [] o = tt
-open-more lists more [] (m ∷ ms) o = absurd o
-open-more lists more (MarkTerm d ∷ xs) [] o = absurd o
-open-more lists more (MarkTerm d ∷ xs) (Piece s ∷ ms) o = absurd o
-open-more lists more (MarkTerm d ∷ xs) (Place e ∷ ms) o = (o.0, open-more lists more xs ms o.1)
-open-more lists more (MarkPiece t ∷ xs) [] o = absurd o
-open-more lists more (MarkPiece t ∷ xs) (Place d ∷ ms) o = absurd o
-open-more lists more (MarkPiece t ∷ xs) (Piece s ∷ ms) o = (tells-more lists more t s o.0, open-more lists more xs ms o.1)
-
-module _ {S : Type 0} (A : Algebra S) (G : List Rule) (ks : List (RuleStates S)) (args : List S) where
-  pub note-bottom : (ls : List Label) (ns : List (Note S)) → AreNotes A G ks args ls (NoteBottom ∷ ns) → (rest : List Label) × (ls ≡ Bottom ∷ rest) × AreNotes A G ks args rest ns
-  note-bottom [] ns o = absurd o
-  note-bottom (Bottom ∷ ls) ns o = (ls, refl, o.1)
-  note-bottom (Symbol f ∷ ls) ns o = absurd o.0
-  note-bottom (Call q ∷ ls) ns o = absurd o.0
-  note-bottom (Param ∷ ls) ns o = let e = o.0 in absurd (cc)
-
-  pub note-param : (ls : List Label) (ns : List (Note S)) → AreNotes A G ks args ls (NoteParam ∷ ns) → (rest : List Label) × (ls ≡ Param ∷ rest) × AreNotes A G ks (drop 1 args) rest ns
-  note-param [] ns o = absurd o
-  note-param (Bottom ∷ ls) ns o = absurd o.0
-  note-param (Symbol f ∷ ls) ns o = absurd o.0
-  note-param (Call q ∷ ls) ns o = absurd o.0
-  note-param (Param ∷ ls) ns o = (ls, refl, o.1)
-
-  pub note-symbol : (ls : List Label) (f : ℕ) (kids rest : S) (ns : List (Note S)) → AreNotes A G ks args ls (NoteSymbol f kids rest ∷ ns)
-      → (behind : List Label) × (ls ≡ Symbol f ∷ behind) × (kids ≡ get_or (states_of A G args behind) 0 A.bottom) × (rest ≡ get_or (states_of A G args behind) 1 A.bottom) × AreNotes A G ks args behind ns
-  note-symbol [] f kids rest ns o = absurd o
-  note-symbol (Bottom ∷ ls) f kids rest ns o = absurd o.0
-  note-symbol (Symbol g ∷ ls) f kids rest ns o = (ls, ap (λ x. Symbol x ∷ ls) (sym o.0.0), o.0.1, o.0.2, o.1)
-  note-symbol (Call q ∷ ls) f kids rest ns o = absurd o.0
-  note-symbol (Param ∷ ls) f kids rest ns o = let e = o.0 in absurd (cc)
-
-  pub note-call : (ls : List Label) (i : ℕ) (ns : List (Note S)) → AreNotes A G ks args ls (NoteCall i ∷ ns)
-      → (q : ℕ) × (behind : List Label) × (ls ≡ Call q ∷ behind) × (slice_get ks i ≡ Some (q, take (get_or (ranks_of G) q 0) (states_of A G args behind))) × AreNotes A G ks args behind ns
-  note-call [] i ns o = absurd o
-  note-call (Bottom ∷ ls) i ns o = absurd o.0
-  note-call (Symbol g ∷ ls) i ns o = absurd o.0
-  note-call (Call q ∷ ls) i ns o = (q, ls, refl, o.0, o.1)
-  note-call (Param ∷ ls) i ns o = let e = o.0 in absurd (cc)
-
-  pub note-some : (ls : List Label) (n : Note S) (ns : List (Note S)) → AreNotes A G ks args ls (n ∷ ns) → (l : Label) × (rest : List Label) × (ls ≡ l ∷ rest)
-  note-some [] n ns o = absurd o
-  note-some (l ∷ ls) n ns o = (l, ls, refl)
-
-  pub note-none : (ls : List Label) → AreNotes A G ks args ls [] → ls ≡ []
-  note-none [] o = refl
-  note-none (l ∷ ls) o = absurd o
-
-pub notes-length : {S : Type 0} (A : Algebra S) (G : List Rule) (ks : List (RuleStates S)) (args : List S) (ls : List Label) (ns : List (Note S)) → AreNotes A G ks args ls ns → length ns ≡ length ls
-notes-length A G ks args [] [] o = refl
-notes-length A G ks args [] (n ∷ ns) o = absurd o
-notes-length A G ks args (l ∷ ls) [] o = absurd o
-notes-length A G ks args (Param ∷ ls) (n ∷ ns) o = ap suc (notes-length A G ks (drop 1 args) ls ns o.1)
-notes-length A G ks args (Bottom ∷ ls) (n ∷ ns) o = ap suc (notes-length A G ks args ls ns o.1)
-notes-length A G ks args (Symbol f ∷ ls) (n ∷ ns) o = ap suc (notes-length A G ks args ls ns o.1)
-notes-length A G ks args (Call q ∷ ls) (n ∷ ns) o = ap suc (notes-length A G ks args ls ns o.1)
+use Rattle.rule_runs.proofs.Tellings.{telling-more, told-more, length-told}
+use Rattle.rule_runs.proofs.Marks.{down-is, downs-woven, open-term, open-more}
+use Rattle.rule_runs.proofs.NoteLemmas.{note-bottom, note-param, note-symbol, note-call, note-some, note-none}
 
 module _ {S D : Type 0} (A : Algebra S) (W : Downward S D) (G : List Rule) where
   -- what stands before the next place can go to the front
@@ -405,55 +317,3 @@ module _ {S D : Type 0} (A : Algebra S) (W : Downward S D) (G : List Rule) (ks :
           rw s at finished,
           handed_is ∙ sym (append-nil outcome.handed.items) ∙ h,
         )
-
--- the way to the next term, mark by mark
-module _ {D : Type 0} (lists : List (Vec Part Global)) (s : Stretch) (ms : List (Open D)) where
-  pub absorbing-start : (marks : List (Mark D)) (here : Here) → IsTelling lists here s → AreOpen lists marks ms → IsAbsorbing lists s ms marks here
-  absorbing-start marks here i o = record { now = s; left = ms; telling = i; marked = o; same_stretch = refl; same_rest = refl; same_downs = refl }
-
-  pub absorbing-piece : (t : Told) (marks : List (Mark D)) (here here' : Here) → IsAbsorbing lists s ms (MarkPiece t ∷ marks) here → ((a b : Stretch) → IsTelling lists here a → Tells lists t b → IsTelling lists here' (beside a b)) → IsAbsorbing lists s ms marks here'
-  absorbing-piece t marks here here' a absorb =
-      let p = open-piece lists t marks a.left a.marked in
-      record {
-        now = beside a.now p.0;
-        left = p.1;
-        telling = absorb a.now p.0 a.telling p.3;
-        marked = p.4;
-        same_stretch = a.same_stretch ∙ ap (absorbed a.now) p.2;
-        same_rest = a.same_rest ∙ ap after p.2;
-        same_downs = a.same_downs ∙ ap downs_of p.2;
-      }
-
-  pub absorbing-term : (d : D) (marks : List (Mark D)) (here : Here) → IsAbsorbing lists s ms (MarkTerm d ∷ marks) here → IsNext lists (Some d) s ms marks here
-  absorbing-term d marks here a =
-      let p = open-term lists d marks a.left a.marked in
-      let r : after ms ≡ p.0 = a.same_rest ∙ ap after p.1 in
-      record {
-        telling = rw (a.same_stretch ∙ ap (absorbed a.now) p.1) a.telling;
-        marked = rw r p.2;
-        is = a.same_downs ∙ ap downs_of p.1 ∙ ap (λ x. d ∷ downs_of x) (sym r);
-      }
-
-  pub absorbing-end : (here : Here) → IsAbsorbing lists s ms [] here → IsNext lists None s ms [] here
-  absorbing-end here a =
-      let e = open-none lists a.left a.marked in
-      record {
-        telling = rw (a.same_stretch ∙ ap (absorbed a.now) e) a.telling;
-        marked = rw (a.same_rest ∙ ap after e) tt;
-        is = a.same_downs ∙ ap downs_of e;
-      }
-
--- a call's arguments are opened from the last one on
-pub woven-more : {D : Type 0} (lists : List (Vec Part Global)) (told_items : List Told) (hands : List D) (left : ℕ) (marks : List (Mark D)) (ms : List (Open D)) (ss : List Stretch) (d : D) (t : Told)
-    → AreTold lists told_items ss → length told_items ≡ length hands + 1 → left < length hands → d ≡ get_or hands left d → t ≡ get_or told_items (left + 1) t
-    → AreOpen lists marks (woven_marks (drop (left + 1) hands) (drop (left + 1) (drop 1 ss)) ++ ms)
-    → AreOpen lists (MarkTerm d ∷ MarkPiece t ∷ marks) (woven_marks (drop left hands) (drop left (drop 1 ss)) ++ ms)
-woven-more lists told_items hands left marks ms ss d t a n lt d-is t-is o =
-    let l = length-told lists told_items ss a in
-    let m : length (drop 1 ss) ≡ length hands = omega (arith, length-drop 1 ss) in
-    let dh : drop left hands ≡ d ∷ drop (left + 1) hands = drop_more hands left d lt ∙ ap (λ x. x ∷ drop (left + 1) hands) (sym d-is) in
-    let x : Stretch = get_or (drop 1 ss) left nothing in
-    let ds : drop left (drop 1 ss) ≡ x ∷ drop (left + 1) (drop 1 ss) = drop_more (drop 1 ss) left nothing (omega arith) in
-    let k : x ≡ get_or ss (left + 1) nothing = get_or-drop 1 ss left nothing ∙ ap (λ i. get_or ss i nothing) (add_comm 1 left) in
-    let tells : Tells lists t x = rw k (told-at lists told_items ss (left + 1) t a (omega arith) t-is) in
-    rw (dh, ds) (refl, (tells, o))

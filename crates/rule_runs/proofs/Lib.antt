@@ -13,6 +13,8 @@ pub mod Weaving
 pub mod Telling
 pub mod Tellings
 pub mod Places
+pub mod Marks
+pub mod NoteLemmas
 pub mod Descents
 pub mod Rooms
 pub mod Triples

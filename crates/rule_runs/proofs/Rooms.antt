@@ -24,7 +24,8 @@ use Rattle.rule_runs.specs.Descents.{AreOpen, HasRoomAhead, Walks, HasOutcome, a
 use Rattle.rule_runs.specs.Risen.{pair_at}
 use Rattle.rule_runs.specs.Tellings.{HasRoom, Tells, IsTelling}
 use Rattle.rule_runs.specs.Walks.{Open, Place, Piece, absorbed, after, down_at, woven_marks, kids_of, told}
-use Rattle.rule_runs.proofs.Descents.{open-term, note-call}
+use Rattle.rule_runs.proofs.Marks.{open-term}
+use Rattle.rule_runs.proofs.NoteLemmas.{note-call}
 use Rattle.rule_runs.proofs.Lists.{slice_get-at}
 use Rattle.rule_runs.proofs.Tellings.{told-at}
 

@@ -28,7 +28,8 @@ use Rattle.rule_runs.specs.Walks.{Open, woven_marks}
 use Rattle.rule_runs.proofs.Cutting.{cut-whole}
 use Rattle.rule_runs.proofs.Sizes.{met-within}
 use Rattle.rule_runs.proofs.Lists.{cost-lt, all-at, all-split, all-insert, all-one, all-unmap, distinct-one, distinct-insert, distinct-apart, one-place, sum-insert}
-use Rattle.rule_runs.proofs.Descents.{open-term, walk-call, outcome-more, waiting-more}
+use Rattle.rule_runs.proofs.Descents.{walk-call, outcome-more, waiting-more}
+use Rattle.rule_runs.proofs.Marks.{open-term}
 
 -- nothing is read
 pub falls-none : {S D : Type 0} (A : Algebra S) (W : Downward S D) (G : List Rule) (n : ℕ) → n ≤ 0 → FallsOnce A W G [] n

@@ -105,6 +105,7 @@ module _ {S D : Type 0} (A : Algebra S) (W : Downward S D) (G : List Rule) where
       pub finished : AreTold lists outcome.told.items (cut A W (value_at G (pair_at ks spot.pair).0) (pair_at ks spot.pair).1 spot.down)
       pub hands : outcome.handed.items ≡ handed A W (value_at G (pair_at ks spot.pair).0) (pair_at ks spot.pair).1 spot.down
 
+    -- the body is read down to a place
     abbrev pub Standing : Descent S D → Type 0
     Standing f = Walks (pair_at ks f.spot.pair) f.spot.down (reverse f.notes.items) (reverse f.marks.items) f.here f.outcome
 

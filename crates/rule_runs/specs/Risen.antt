@@ -15,6 +15,7 @@ pub record IsPair {S : Type 0} (G : List Rule) (k : RuleStates S) : Type 0 where
 abbrev pub state_at : {S : Type 0} → Algebra S → List Rule → RuleStates S → S
 state_at A G k = get_or (all_meanings A G) k.0 (λ _. A.bottom) k.1
 
+-- the pairs of a table
 abbrev pub keys : {S : Type 0} → List (RuleStates S × S) → List (RuleStates S)
 keys = map (λ e. e.0)
 
@@ -22,6 +23,7 @@ keys = map (λ e. e.0)
 abbrev pub pair_at : {S : Type 0} → List (RuleStates S) → ℕ → RuleStates S
 pair_at ks i = get_or ks i (0, [])
 
+-- the table has the pair
 abbrev pub IsKnown : {S : Type 0} → List (RuleStates S × S) → RuleStates S → Type 0
 IsKnown known k = (i : ℕ) × (slice_get (keys known) i ≡ Some k)
 

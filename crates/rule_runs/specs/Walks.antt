@@ -27,6 +27,7 @@ after [] = []
 after (Place d ∷ ms) = ms
 after (Piece s ∷ ms) = after ms
 
+-- the down state of the next place
 abbrev pub down_at : {D : Type 0} → D → List (Open D) → D
 down_at start [] = start
 down_at start (Place d ∷ ms) = d

@@ -6,7 +6,7 @@ use crate::listing::{Level, Part, next_number};
 use std::alloc::{AllocError, Global};
 use std::marker::Model;
 
-/// The numbers of the nodes that are hit, rising; it is seen as those that are still to come.
+/// The numbers of the nodes that are hit, rising, one after another. It is seen as those that are still to come.
 #[derive(Drop)]
 pub struct Answers<'a> {
     lists: &'a [Vec<Part>],
@@ -25,7 +25,7 @@ impl<'a> Model for Answers<'a> {
 }
 
 impl<'a> Answers<'a> {
-    /// All answers of a table.
+    /// All answers of a table. It fails where memory is refused.
     pub fn new(alloc: Global, fallen: &'a FallTable) -> Result<Answers<'a>, AllocError>
         ensures { IfOk result (λ answers. answers ≡ fallen.now) }
     {
@@ -43,7 +43,7 @@ impl<'a> Answers<'a> {
         })
     }
 
-    /// The next number, and none behind the last one. After a refusal the same numbers are still to come.
+    /// The next number, and none behind the last one. It fails where memory is refused, and then the same numbers are still to come.
     pub fn next(&mut self) -> Result<Option<u64>, AllocError>
         ensures next { IfOk result (λ number. self.old ≡ option_to_list number ++ self.new) }
         ensures end { IfOk result (λ number. number ≡ None → self.old ≡ []) }

@@ -17,7 +17,8 @@ use std::alloc::{AllocError, Global};
 use std::marker::Model;
 use std::sync::ledger::Ledger;
 
-/// What a run downward has found: the numbers of the nodes that are hit, rising.
+/// What a run downward has found. It is seen as the numbers of the nodes that are hit, rising; a number counts the nodes before, in
+/// preorder and without bottoms.
 #[derive(Drop)]
 pub struct FallTable {
     pub(crate) lists: Vec<Vec<Part>>,
@@ -44,8 +45,10 @@ impl FallTable {
     }
 }
 
-/// Runs the automaton downward, over what its run upward found. Each triple that is met is read once, with at most two steps a
-/// node, whatever is answered.
+/// Runs the automaton downward, over what its run upward found in this grammar: which nodes are hit of all that the grammar stands for.
+///
+/// What the grammar stands for has at most 2^63 - 1 nodes that aren't bottom. Each triple of a rule, states of its arguments and a
+/// down state that the run meets is read once, with at most two steps a node, whatever is answered. It fails where memory is refused.
 pub fn fall<A: Falling, L: Ledger>(
     alloc: Global,
     grammar: &Grammar,

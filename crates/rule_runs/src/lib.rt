@@ -7,6 +7,9 @@
 //! `body` reads a rule's body. Upward: `rising` runs over the bodies of `frame`, with states on a `stack`, and notes them in `memo`.
 //! Downward: `falling` runs over the bodies of `descent`, which `notes` has made ready, and keeps in `spots` what each was found to
 //! be, as stretches of nodes (`told`). `listing` tells a list that is made of earlier lists, for `answers`.
+//!
+//! `specs/Reached.antt` says which pairs and triples a run meets. Counts tell that a value is small enough for `fall`, by the lemma
+//! `nodes-weigh` of `proofs/Sizes.antt`.
 #![tactic(auto)]
 
 mod answers;

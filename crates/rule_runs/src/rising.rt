@@ -14,7 +14,8 @@ use std::alloc::{AllocError, Global};
 use std::marker::Model;
 use std::sync::ledger::Ledger;
 
-/// What a run upward has found: the state of each pair that it met, and that of the whole.
+/// What a run upward has found. It is seen as the states of the pairs that it met, a rule with the states of its arguments, and the
+/// state of the whole.
 #[derive(Drop)]
 pub struct RiseTable<A: Rising> {
     pub(crate) known: Memo<A::State>,
@@ -38,7 +39,10 @@ impl<A: Rising> RiseTable<A> {
     }
 }
 
-/// Runs the automaton over the rules. Each pair that is met is read once, with at most two steps a node, whatever is answered.
+/// Runs the automaton upward over the rules: its state at the root of what the grammar stands for, and what a run downward needs.
+///
+/// Each pair of a rule and states of its arguments that the run meets is read once, with at most two steps a node, whatever is
+/// answered. It fails where memory is refused.
 pub fn rise<A: Rising, L: Ledger>(
     alloc: Global,
     grammar: &Grammar,

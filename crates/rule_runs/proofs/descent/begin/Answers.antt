@@ -10,7 +10,8 @@ use Rattle.rule_runs.specs.Notes.{AreNotes}
 use Rattle.rule_runs.specs.Risen.{state_at, keys, pair_at, AreKnown}
 use Rattle.rule_runs.proofs.Lists.{reverse-push}
 use Rattle.rule_runs.proofs.Triples.{pair-of}
-use Rattle.rule_runs.proofs.Descents.{walk-start, notes-length}
+use Rattle.rule_runs.proofs.Descents.{walk-start}
+use Rattle.rule_runs.proofs.NoteLemmas.{notes-length}
 use Rattle.rule_runs.proofs.descent.begin.Goals as goal
 
 pub returns-clause-stands : goal.returns-clause-stands

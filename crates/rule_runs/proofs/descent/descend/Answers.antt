@@ -10,7 +10,8 @@ use Rattle.rule_runs.specs.Risen.{IsPair, keys, pair_at}
 use Rattle.rule_runs.specs.Tellings.{AreTold}
 use Rattle.rule_runs.specs.Walks.{absorbed}
 use Rattle.rule_runs.proofs.Lists.{reverse-push, empty_reverse, no_more}
-use Rattle.rule_runs.proofs.Descents.{open-term, outcome-more, outcome-lengths, walk-next, walk-open, walk-bottom, walk-symbol, walk-call, walk-meets, walk-param, walk-end}
+use Rattle.rule_runs.proofs.Descents.{outcome-more, outcome-lengths, walk-next, walk-open, walk-bottom, walk-symbol, walk-call, walk-meets, walk-param, walk-end}
+use Rattle.rule_runs.proofs.Marks.{open-term}
 use Rattle.rule_runs.proofs.Rooms.{walk-room, walk-room-one, walk-room-call}
 use Rattle.rule_runs.proofs.descent.descend.Goals as goal
 

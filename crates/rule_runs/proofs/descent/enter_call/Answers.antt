@@ -1,6 +1,6 @@
 use Rattle.std.proofs.Common.{◌≡◌, ◌+◌, ◌-◌, ◌∙◌, ap, arith, reverse, get_or}
 use Rattle.rule_runs.proofs.Lists.{reverse-push}
-use Rattle.rule_runs.proofs.Descents.{woven-more}
+use Rattle.rule_runs.proofs.Marks.{woven-more}
 use Rattle.rule_runs.proofs.Tellings.{told-at}
 use Rattle.rule_runs.specs.Cuts.{nothing}
 use Rattle.std.proofs.lemmas.Result.{on_ok_weaker}

@@ -1,0 +1,252 @@
+use Rattle.std.proofs.Common.{◌≡◌, ◌<◌, ◌^◌, ◌∙◌, ◌++◌, ◌∷◌, [], None, sym, ap, refl, subst, arith, reverse, length, append_assoc}
+use Rattle.std.proofs.lemmas.List.Elements.{All-contains, All-get_or}
+use Rattle.std.proofs.lemmas.List.{length_push}
+use Rattle.slt_grammar.specs.Automata.{nodes_in}
+use Rattle.slt_grammar.specs.Keyed.{rules_of}
+use Rattle.slt_grammar.specs.Grammars.{value_at}
+use Rattle.rule_runs.specs.Cuts.{cut}
+use Rattle.rule_runs.specs.Descents.{Walks, HasOutcome}
+use Rattle.rule_runs.specs.Risen.{IsPair, keys, pair_at}
+use Rattle.rule_runs.specs.Tellings.{AreTold}
+use Rattle.rule_runs.specs.Walks.{absorbed}
+use Rattle.rule_runs.proofs.Lists.{reverse-push, empty_reverse, no_more}
+use Rattle.rule_runs.proofs.Descents.{outcome-more, outcome-lengths, walk-next, walk-open, walk-bottom, walk-symbol, walk-call, walk-meets, walk-param, walk-end}
+use Rattle.rule_runs.proofs.Marks.{open-term}
+use Rattle.rule_runs.proofs.Rooms.{walk-room, walk-room-one, walk-room-call}
+use Rattle.rule_runs.proofs.descent.descend.Goals as goal
+
+pub next_term-requires : goal.next_term-requires
+next_term-requires g c =
+    let A = g.A.Rising.algebra c.args.automaton.now in
+    let W = g.A.Falling.downward c.args.automaton.now in
+    let G = rules_of c.args.grammar.now.rules in
+    let ks = keys c.args.risen.now.known in
+    let f = c.notes.descent in
+    let k = pair_at ks f.spot.pair in
+    let ls = c.notes.lists.items in
+    let small : nodes_in (value_at G k.0) < 2 ^ 63 = subst (λ s. nodes_in (value_at G (pair_at ks s.pair).0) < 2 ^ 63) (sym c.notes.invariant.same) c.requires.small in
+    walk-room A W G ks ls k f.spot.down f.outcome (reverse f.notes.items) (reverse f.marks.items) f.here c.notes.invariant.stands small
+
+pub unreachable-requires : goal.unreachable-requires
+unreachable-requires g c =
+    let A = g.A.Rising.algebra c.args.automaton.now in
+    let W = g.A.Falling.downward c.args.automaton.now in
+    let G = rules_of c.args.grammar.now.rules in
+    let ks = keys c.args.risen.now.known in
+    let f = c.notes.descent in
+    let k = pair_at ks f.spot.pair in
+    let ls = c.notes.lists.items in
+    let p : reverse f.notes.items ≡ c.in-Some.note ∷ reverse c.pop.new.self.items = ap reverse c.in-Some.ensures.items ∙ reverse-push c.pop.new.self.items c.in-Some.note in
+    let w = rw p at c.notes.invariant.stands in
+    let next = rw (no_more c.in_ok-down.field-0 c.in_default-2.not-Some) at (c.in_ok-down.ensures ls w.s w.ms w.telling w.marked) in
+    walk-open A W G ks ls k f.spot.down f.outcome c.in-Some.note (reverse c.pop.new.self.items) (reverse f.marks.items) f.here w next.is
+
+pub notes-preserved-in-Bottom-note-2 : goal.notes-preserved-in-Bottom-note-2
+notes-preserved-in-Bottom-note-2 g c =
+    let A = g.A.Rising.algebra c.args.automaton.now in
+    let W = g.A.Falling.downward c.args.automaton.now in
+    let G = rules_of c.args.grammar.now.rules in
+    let ks = keys c.args.risen.now.known in
+    let f = c.notes.descent in
+    let k = pair_at ks f.spot.pair in
+    let ls = c.notes.lists.items in
+    let p : reverse f.notes.items ≡ c.in-Some.note ∷ reverse c.pop.new.self.items = ap reverse c.in-Some.ensures.items ∙ reverse-push c.pop.new.self.items c.in-Some.note in
+    let d = c.in-Some-2.down in
+    let w = walk-next A W G ks ls k f.spot.down f.outcome _ (reverse f.marks.items) (reverse c.next_term.new.marks.items) f.here c.next_term.new.here d c.in_ok-down.field-0 (rw (p, c.in-Bottom.is) at c.notes.invariant.stands) c.in-Some-2.is (c.in_ok-down.ensures ls) in
+    record {
+      same = c.notes.invariant.same;
+      more = c.notes.invariant.more;
+      earlier = c.notes.invariant.earlier;
+      stands = walk-bottom A W G ks ls k f.spot.down f.outcome (reverse c.pop.new.self.items) (reverse c.next_term.new.marks.items) c.next_term.new.here d w;
+      fewer = omega (arith, c.notes.invariant.fewer, ap length c.in-Some.ensures.items, length_push c.pop.new.self.items c.in-Some.note);
+    }
+
+pub notes-preserved-in-Continue-branch-4 : goal.notes-preserved-in-Continue-branch-4
+notes-preserved-in-Continue-branch-4 g c =
+    let A = g.A.Rising.algebra c.args.automaton.now in
+    let W = g.A.Falling.downward c.args.automaton.now in
+    let G = rules_of c.args.grammar.now.rules in
+    let ks = keys c.args.risen.now.known in
+    let f = c.notes.descent in
+    let k = pair_at ks f.spot.pair in
+    let ls = c.notes.lists.items in
+    let p : reverse f.notes.items ≡ c.in-Some.note ∷ reverse c.pop.new.self.items = ap reverse c.in-Some.ensures.items ∙ reverse-push c.pop.new.self.items c.in-Some.note in
+    let d = c.in-Some-2.down in
+    let w = walk-next A W G ks ls k f.spot.down f.outcome _ (reverse f.marks.items) (reverse c.next_term.new.marks.items) f.here c.next_term.new.here d c.in_ok-down.field-0 (rw (p, c.in-Param.is) at c.notes.invariant.stands) c.in-Some-2.is (c.in_ok-down.ensures ls) in
+    let ended = c.in_ok-end_stretch-in-Param.ensures in
+    let m = ended.more in
+    let n = c.notes.invariant.more in
+    let new = c.end_stretch.new.outcome in
+    let told = subst (λ x. AreTold x new.told.items (w.done ++ w.s ∷ [])) m.1 (ended.told w.s w.done w.telling c.notes.invariant.earlier w.finished) in
+    let handed = c.in_ok-push-in-Param.ensures.items ∙ ap (λ v. v.items ++ d ∷ []) c.end_stretch.ensures.handed in
+    record {
+      same = c.notes.invariant.same;
+      more = (n.0 ++ m.0, m.1 ∙ ap (λ x. x ++ m.0) n.1 ∙ append_assoc c.args.lists.now.items n.0 m.0);
+      earlier = ended.earlier w.s w.telling c.notes.invariant.earlier;
+      stands = rw m.1 (walk-param A W G ks ls k f.spot.down f.outcome m.0 (reverse c.pop.new.self.items) (reverse c.next_term.new.marks.items) c.next_term.new.here c.end_stretch.new.here d (record { told = new.told; handed = c.push.new.self }) w told (ended.empty (ls ++ m.0)) handed);
+      fewer = omega (arith, c.notes.invariant.fewer, ap length c.in-Some.ensures.items, length_push c.pop.new.self.items c.in-Some.note);
+    }
+
+pub enter_symbol-requires : goal.enter_symbol-requires
+enter_symbol-requires g c =
+    let A = g.A.Rising.algebra c.args.automaton.now in
+    let W = g.A.Falling.downward c.args.automaton.now in
+    let G = rules_of c.args.grammar.now.rules in
+    let ks = keys c.args.risen.now.known in
+    let f = c.notes.descent in
+    let k = pair_at ks f.spot.pair in
+    let ls = c.notes.lists.items in
+    let small : nodes_in (value_at G k.0) < 2 ^ 63 = subst (λ s. nodes_in (value_at G (pair_at ks s.pair).0) < 2 ^ 63) (sym c.notes.invariant.same) c.requires.small in
+    let p : reverse f.notes.items ≡ c.in-Some.note ∷ reverse c.pop.new.self.items = ap reverse c.in-Some.ensures.items ∙ reverse-push c.pop.new.self.items c.in-Some.note in
+    let d = c.in-Some-2.down in
+    let w = walk-next A W G ks ls k f.spot.down f.outcome _ (reverse f.marks.items) (reverse c.next_term.new.marks.items) f.here c.next_term.new.here d c.in_ok-down.field-0 (rw (p, c.in-Symbol.is) at c.notes.invariant.stands) c.in-Some-2.is (c.in_ok-down.ensures ls) in
+    let room = walk-room-one A W G ks ls k f.spot.down f.outcome _ _ c.next_term.new.here w small in
+    record { nodes = room.0; hits = room.1 }
+
+pub notes-preserved-in-Symbol-note-2 : goal.notes-preserved-in-Symbol-note-2
+notes-preserved-in-Symbol-note-2 g c =
+    let A = g.A.Rising.algebra c.args.automaton.now in
+    let W = g.A.Falling.downward c.args.automaton.now in
+    let G = rules_of c.args.grammar.now.rules in
+    let ks = keys c.args.risen.now.known in
+    let f = c.notes.descent in
+    let k = pair_at ks f.spot.pair in
+    let ls = c.notes.lists.items in
+    let p : reverse f.notes.items ≡ c.in-Some.note ∷ reverse c.pop.new.self.items = ap reverse c.in-Some.ensures.items ∙ reverse-push c.pop.new.self.items c.in-Some.note in
+    let d = c.in-Some-2.down in
+    let w = walk-next A W G ks ls k f.spot.down f.outcome _ (reverse f.marks.items) (reverse c.next_term.new.marks.items) f.here c.next_term.new.here d c.in_ok-down.field-0 (rw (p, c.in-Symbol.is) at c.notes.invariant.stands) c.in-Some-2.is (c.in_ok-down.ensures ls) in
+    let entered = c.in_ok-enter_symbol-in-Symbol.ensures in
+    record {
+      same = c.notes.invariant.same;
+      more = c.notes.invariant.more;
+      earlier = c.notes.invariant.earlier;
+      stands = rw entered.marks (walk-symbol A W G ks ls k f.spot.down f.outcome c.in-Symbol.symbol c.in-Symbol.kids c.in-Symbol.rest (reverse c.pop.new.self.items) (reverse c.next_term.new.marks.items) c.next_term.new.here c.enter_symbol.new.here d c.in_ok-fell-in-Symbol.fell w c.in_ok-fell-in-Symbol.ensures (entered.telling ls w.s w.telling));
+      fewer = omega (arith, c.notes.invariant.fewer, ap length c.in-Some.ensures.items, length_push c.pop.new.self.items c.in-Some.note);
+    }
+
+pub enter_call-requires : goal.enter_call-requires
+enter_call-requires g c =
+    let A = g.A.Rising.algebra c.args.automaton.now in
+    let W = g.A.Falling.downward c.args.automaton.now in
+    let G = rules_of c.args.grammar.now.rules in
+    let ks = keys c.args.risen.now.known in
+    let f = c.notes.descent in
+    let k = pair_at ks f.spot.pair in
+    let ls = c.notes.lists.items in
+    let small : nodes_in (value_at G k.0) < 2 ^ 63 = subst (λ s. nodes_in (value_at G (pair_at ks s.pair).0) < 2 ^ 63) (sym c.notes.invariant.same) c.requires.small in
+    let p : reverse f.notes.items ≡ c.in-Some.note ∷ reverse c.pop.new.self.items = ap reverse c.in-Some.ensures.items ∙ reverse-push c.pop.new.self.items c.in-Some.note in
+    let d = c.in-Some-2.down in
+    let w = walk-next A W G ks ls k f.spot.down f.outcome _ (reverse f.marks.items) (reverse c.next_term.new.marks.items) f.here c.next_term.new.here d c.in_ok-down.field-0 (rw (p, c.in-Call.is) at c.notes.invariant.stands) c.in-Some-2.is (c.in_ok-down.ensures ls) in
+    let i = c.in-Call.pair in
+    let o = c.in-Some-find.outcome.now in
+    let n = c.notes.invariant.more in
+    let h0 = All-contains (λ e. HasOutcome A W G ks c.args.lists.now.items e.0 e.1) c.args.known.now _ c.requires.known c.in-Some-find.ensures.found in
+    let h : HasOutcome A W G ks ls (record { pair = i; down = d }) o = rw n.1 (outcome-more A W G ks c.args.lists.now.items n.0 (record { pair = i; down = d }) o h0) in
+    let lengths = outcome-lengths A W G ks ls (record { pair = i; down = d }) o h in
+    record {
+      lengths = lengths;
+      room = walk-room-call A W G ks ls k f.spot.down f.outcome i (reverse c.pop.new.self.items) (reverse c.next_term.new.marks.items) c.next_term.new.here d w o h (omega arith) small;
+    }
+
+pub notes-preserved : goal.notes-preserved
+notes-preserved g c =
+    let A = g.A.Rising.algebra c.args.automaton.now in
+    let W = g.A.Falling.downward c.args.automaton.now in
+    let G = rules_of c.args.grammar.now.rules in
+    let ks = keys c.args.risen.now.known in
+    let f = c.notes.descent in
+    let k = pair_at ks f.spot.pair in
+    let ls = c.notes.lists.items in
+    let p : reverse f.notes.items ≡ c.in-Some.note ∷ reverse c.pop.new.self.items = ap reverse c.in-Some.ensures.items ∙ reverse-push c.pop.new.self.items c.in-Some.note in
+    let d = c.in-Some-2.down in
+    let w = walk-next A W G ks ls k f.spot.down f.outcome _ (reverse f.marks.items) (reverse c.next_term.new.marks.items) f.here c.next_term.new.here d c.in_ok-down.field-0 (rw (p, c.in-Call.is) at c.notes.invariant.stands) c.in-Some-2.is (c.in_ok-down.ensures ls) in
+    let i = c.in-Call.pair in
+    let o = c.in-Some-find.outcome.now in
+    let n = c.notes.invariant.more in
+    let h0 = All-contains (λ e. HasOutcome A W G ks c.args.lists.now.items e.0 e.1) c.args.known.now _ c.requires.known c.in-Some-find.ensures.found in
+    let h : HasOutcome A W G ks ls (record { pair = i; down = d }) o = rw n.1 (outcome-more A W G ks c.args.lists.now.items n.0 (record { pair = i; down = d }) o h0) in
+    let m = open-term ls d (reverse c.next_term.new.marks.items) w.ms w.marked in
+    let e = c.in_ok-enter_call-in-Some-find.ensures ls w.s m.0 (cut A W (value_at G (pair_at ks i).0) (pair_at ks i).1 d) w.telling m.2 h.finished in
+    let pair : IsPair G k = rw c.notes.invariant.same (All-get_or (IsPair G) ks c.args.descent.now.spot.pair (0, []) c.requires.there c.requires.run.pairs) in
+    record {
+      same = c.notes.invariant.same;
+      more = n;
+      earlier = c.notes.invariant.earlier;
+      stands = walk-call A W G ks ls k f.spot.down f.outcome c.rules-rules.ensures.grammar pair i (reverse c.pop.new.self.items) (reverse c.next_term.new.marks.items) (reverse c.enter_call.new.marks.items) c.next_term.new.here c.enter_call.new.here d o w h e.0 e.1;
+      fewer = omega (arith, c.notes.invariant.fewer, ap length c.in-Some.ensures.items, length_push c.pop.new.self.items c.in-Some.note);
+    }
+
+pub returns-in-None-clause-waits : goal.returns-in-None-clause-waits
+returns-in-None-clause-waits g c =
+    let A = g.A.Rising.algebra c.args.automaton.now in
+    let W = g.A.Falling.downward c.args.automaton.now in
+    let G = rules_of c.args.grammar.now.rules in
+    let ks = keys c.args.risen.now.known in
+    let f = c.notes.descent in
+    let k = pair_at ks f.spot.pair in
+    let ls = c.notes.lists.items in
+    let p : reverse f.notes.items ≡ c.in-Some.note ∷ reverse c.pop.new.self.items = ap reverse c.in-Some.ensures.items ∙ reverse-push c.pop.new.self.items c.in-Some.note in
+    let d = c.in-Some-2.down in
+    let w = walk-next A W G ks ls k f.spot.down f.outcome _ (reverse f.marks.items) (reverse c.next_term.new.marks.items) f.here c.next_term.new.here d c.in_ok-down.field-0 (rw (p, c.in-Call.is) at c.notes.invariant.stands) c.in-Some-2.is (c.in_ok-down.ensures ls) in
+    let m = walk-meets A W G ks ls k f.spot.down f.outcome c.in-Call.pair (reverse c.pop.new.self.items) (reverse c.next_term.new.marks.items) c.next_term.new.here d w in
+    record {
+      waits = w;
+      met = m.0;
+      there = m.1;
+      earlier = rw c.notes.invariant.same at m.2;
+      fewer = omega (arith, c.notes.invariant.fewer, ap length c.in-Some.ensures.items, length_push c.pop.new.self.items c.in-Some.note);
+    }
+
+pub next_term-requires-2 : goal.next_term-requires-2
+next_term-requires-2 g c =
+    let A = g.A.Rising.algebra c.args.automaton.now in
+    let W = g.A.Falling.downward c.args.automaton.now in
+    let G = rules_of c.args.grammar.now.rules in
+    let ks = keys c.args.risen.now.known in
+    let f = c.notes.descent in
+    let k = pair_at ks f.spot.pair in
+    let ls = c.notes.lists.items in
+    let small : nodes_in (value_at G k.0) < 2 ^ 63 = subst (λ s. nodes_in (value_at G (pair_at ks s.pair).0) < 2 ^ 63) (sym c.notes.invariant.same) c.requires.small in
+    walk-room A W G ks ls k f.spot.down f.outcome (reverse f.notes.items) (reverse f.marks.items) f.here c.notes.invariant.stands small
+
+pub returns-clause-more : goal.returns-clause-more
+returns-clause-more g c =
+    let m = c.in_ok-end_stretch.ensures.more in
+    let n = c.notes.invariant.more in
+    (n.0 ++ m.0, m.1 ∙ ap (λ x. x ++ m.0) n.1 ∙ append_assoc c.args.lists.now.items n.0 m.0)
+
+pub returns-clause-earlier : goal.returns-clause-earlier
+returns-clause-earlier g c =
+    let A = g.A.Rising.algebra c.args.automaton.now in
+    let W = g.A.Falling.downward c.args.automaton.now in
+    let G = rules_of c.args.grammar.now.rules in
+    let ks = keys c.args.risen.now.known in
+    let f = c.notes.descent in
+    let k = pair_at ks f.spot.pair in
+    let ls = c.notes.lists.items in
+    let none = rw (no_more c.pop.result c.in_default.not-Some) at c.pop.ensures.cases in
+    let z : length f.notes.items ≡ 0 = omega (arith, none.0, f.notes.ok.0) in
+    let w : Walks A W G ks ls k f.spot.down [] (reverse f.marks.items) f.here f.outcome = rw (empty_reverse f.notes.items z) at c.notes.invariant.stands in
+    let i = (c.in_ok-next_term.ensures ls w.s w.ms w.telling w.marked).telling in
+    c.in_ok-end_stretch.ensures.earlier (absorbed w.s w.ms) i c.notes.invariant.earlier
+
+pub returns-clause-done : goal.returns-clause-done
+returns-clause-done g c =
+    let A = g.A.Rising.algebra c.args.automaton.now in
+    let W = g.A.Falling.downward c.args.automaton.now in
+    let G = rules_of c.args.grammar.now.rules in
+    let ks = keys c.args.risen.now.known in
+    let f = c.notes.descent in
+    let k = pair_at ks f.spot.pair in
+    let ls = c.notes.lists.items in
+    let none = rw (no_more c.pop.result c.in_default.not-Some) at c.pop.ensures.cases in
+    let z : length f.notes.items ≡ 0 = omega (arith, none.0, f.notes.ok.0) in
+    let w : Walks A W G ks ls k f.spot.down [] (reverse f.marks.items) f.here f.outcome = rw (empty_reverse f.notes.items z) at c.notes.invariant.stands in
+    let i = (c.in_ok-next_term.ensures ls w.s w.ms w.telling w.marked).telling in
+    let told = c.in_ok-end_stretch.ensures.told (absorbed w.s w.ms) w.done i c.notes.invariant.earlier w.finished in
+    let e = walk-end A W G ks ls k f.spot.down f.outcome c.end_stretch-2.new.lists.items (reverse f.marks.items) f.here c.end_stretch-2.new.outcome w told (ap (λ v. v.items) c.end_stretch-2.ensures.handed) in
+    record {
+      there = rw c.notes.invariant.same c.requires.there;
+      finished = e.0;
+      hands = e.1;
+    }

@@ -1,0 +1,16 @@
+use Rattle.std.proofs.Common.{List, Vec, Global, length, reverse}
+use Rattle.rule_runs.specs.declared.listing.Part.{Part}
+use Rattle.rule_runs.specs.Cuts.{Stretch}
+use Rattle.rule_runs.specs.Descents.{AreOpen, HasRoomAhead, IsAbsorbing}
+use Rattle.rule_runs.specs.Tellings.{IsTelling}
+use Rattle.rule_runs.specs.Walks.{Open}
+use Rattle.rule_runs.proofs.descent.next_term.Given as goal
+
+abbrev pub decreases-marks : goal.decreases-marks
+decreases-marks g l = length l.marks.items
+
+abbrev pub invariant-marks : goal.invariant-marks
+invariant-marks g l = record {
+  absorbing : (lists : List (Vec Part Global)) (s : Stretch) (ms : List (Open g.row.D.Denot)) → IsTelling lists l.initial.here s → AreOpen lists (reverse l.initial.marks.items) ms → IsAbsorbing lists s ms (reverse l.marks.items) l.here;
+  room : HasRoomAhead l.here (reverse l.marks.items);
+}

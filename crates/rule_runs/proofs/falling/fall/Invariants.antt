@@ -1,0 +1,27 @@
+use Rattle.std.proofs.Common.{◌<◌, ◌≤◌, ◌+◌, ◌-◌, ◌++◌, ◌∷◌, length, reverse, sum_by, All}
+use Rattle.slt_grammar.specs.Keyed.{rules_of}
+use Rattle.rule_runs.specs.Reached.{FallsOnce}
+use Rattle.rule_runs.specs.Descents.{HasOutcome, Standing, AreWaiting, triple_at, fall_cost}
+use Rattle.rule_runs.specs.Listing.{AreEarlier}
+use Rattle.rule_runs.specs.Risen.{keys}
+use Rattle.rule_runs.proofs.Triples.{known_triples, open_triples}
+use Rattle.rule_runs.proofs.falling.fall.Given as goal
+
+abbrev pub decreases-bodies : goal.decreases-bodies
+decreases-bodies g l = fall_cost (rules_of l.grammar.rules) (keys l.risen.known) l.frame + sum_by (fall_cost (rules_of l.grammar.rules) (keys l.risen.known)) (reverse l.frames.items)
+
+abbrev pub invariant-bodies : goal.invariant-bodies
+invariant-bodies g l =
+    let A = g.A.Rising.algebra l.automaton in
+    let W = g.A.Falling.downward l.automaton in
+    let G = rules_of l.grammar.rules in
+    let ks = keys l.risen.known in
+    record {
+      outcomes : All (λ e. HasOutcome A W G ks l.lists.items e.0 e.1) l.known;
+      earlier : AreEarlier l.lists.items;
+      there : l.frame.spot.pair < length ks;
+      stands : Standing A W G ks l.lists.items l.frame;
+      waiting : AreWaiting A W G ks l.lists.items l.frame.spot (reverse l.frames.items);
+      reads : FallsOnce A W G (known_triples A W G ks l.known ++ (triple_at ks l.frame.spot ∷ open_triples A W G ks (reverse l.frames.items))) (l.steps - l.fn.steps);
+      counted : l.fn.steps ≤ l.steps;
+    }

@@ -1,0 +1,79 @@
+-- Bodies that a run is in the middle of.
+use Rattle.std.specs.Prelude.{◌≡◌, ℕ, ◌+◌, ◌-◌, ◌*◌, ◌^◌, ◌<◌, ◌≤◌, List, [], ◌∷◌, ◌++◌, length, take, drop, map, reverse, Some, slice_get, ◌⊎◌, All}
+use Rattle.rule_arena.specs.declared.label.Label.{Label}
+use Rattle.rule_arena.specs.declared.label.Label.TheVariants.{Call}
+use Rattle.slt_grammar.specs.Bodies.{params}
+use Rattle.slt_grammar.specs.Algebras.{Algebra}
+use Rattle.slt_grammar.specs.Grammars.{body_at, rank_at, whole}
+use Rattle.rule_runs.specs.Reached.{RuleStates, states_from, argument_states}
+use Rattle.slt_grammar.specs.declared.rules.Rule.{Rule}
+use Rattle.rule_runs.specs.declared.memo.Pair.{Pair}
+use Rattle.rule_runs.specs.declared.frame.Frame.{Frame}
+use Rattle.rule_runs.specs.Entries.{key_of}
+use Rattle.rule_runs.specs.Risen.{IsPair, state_at, keys, IsKnown, AreKnown}
+
+module _ {S : Type 0} (A : Algebra S) (G : List Rule) where
+  -- a body is evaluated from its end to a place: the states of the terms that begin there or behind, and how many parameters stand before
+  pub record IsEvaluated (args : List S) (body : List Label) (left waiting : ℕ) (states : List S) : Type 0 where
+    pub are : states ≡ states_from A G left args body
+    pub before : waiting ≡ params (take left body)
+    pub within : left ≤ length body
+
+  -- the frame is evaluated so far, with these states still to be put on its stack
+  pub record Stands (extra : List S) (f : Frame S) : Type 0 where
+    pub pair : IsPair G (key_of f.pair)
+    pub labels : f.labels.items ≡ body_at G f.pair.rule
+    pub evaluated : IsEvaluated f.pair.states.items f.labels.items f.left f.waiting (extra ++ reverse f.stack.items)
+
+  -- the frames, the innermost first: each waits for the state of the pair before it, and the outermost is the start's
+  abbrev pub AreFrames : List S → Frame S → List (Frame S) → Type 0
+  AreFrames extra f [] = Stands extra f × (key_of f.pair ≡ (length G - 1, []))
+  AreFrames extra f (g ∷ gs) = Stands extra f × (f.pair.rule < g.pair.rule) × AreFrames (state_at A G (key_of f.pair) ∷ []) g gs
+
+  -- the calls of a pair's body from a place on are known, but for one pair
+  abbrev pub AreKnownBut : List (RuleStates S × S) → RuleStates S → ℕ → RuleStates S → Type 0
+  AreKnownBut known k from but = (place q : ℕ) → from ≤ place → slice_get (body_at G k.0) place ≡ Some (Call q)
+      → IsKnown known (q, argument_states A G q k.1 (body_at G k.0) place) ⊎ ((q, argument_states A G q k.1 (body_at G k.0) place) ≡ but)
+
+  -- in each outer body the calls that were read are known, but for the one that it waits for
+  abbrev pub AreAwaiting : List (RuleStates S × S) → RuleStates S → List (Frame S) → Type 0
+  AreAwaiting known q [] = Unit {0}
+  AreAwaiting known q (g ∷ gs) = AreKnownBut known (key_of g.pair) g.left q × AreAwaiting known (key_of g.pair) gs
+
+  -- the calls of all that was read are known
+  pub record IsClosing (known : List (RuleStates S × S)) (f : Frame S) (gs : List (Frame S)) : Type 0 where
+    pub now : AreKnown A G known (key_of f.pair) f.left
+    pub outer : AreAwaiting known (key_of f.pair) gs
+    pub all : All (λ k. AreKnown A G known k 0) (keys known)
+
+  -- a call of this pair stands in the body of that one
+  pub record Calls (k q : RuleStates S) : Type 0 where
+    pub place : ℕ
+    pub is : slice_get (body_at G k.0) place ≡ Some (Call q.0)
+    pub states : q.1 ≡ argument_states A G q.0 k.1 (body_at G k.0) place
+
+  -- the body waits for the state of a pair that it calls
+  pub record Waits (old : Frame S) (pair : Pair S) (new : Frame S) : Type 0 where
+    pub stands : Stands (state_at A G (key_of pair) ∷ []) new
+    pub calls : Calls (key_of old.pair) (key_of pair)
+    pub earlier : pair.rule < old.pair.rule
+    pub there : IsPair G (key_of pair)
+    pub fewer : new.left < old.left
+
+-- the node is a call of this pair over the topmost states, and the others are left
+pub record Asks {S : Type 0} (G : List Rule) (l : Label) (before : List S) (pair : Pair S) (rest : List S) : Type 0 where
+  pub is : l ≡ Call pair.rule
+  pub states : pair.states.items ≡ take (rank_at G pair.rule) before
+  pub others : rest ≡ drop (rank_at G pair.rule) before
+  pub count : length pair.states.items ≡ rank_at G pair.rule
+
+-- the frames' pairs
+abbrev pub keys_of : {S : Type 0} → List (Frame S) → List (RuleStates S)
+keys_of fs = map (λ f. key_of f.pair) fs
+
+-- a bound on what is left to do
+abbrev pub base : List Rule → ℕ
+base G = 2 + whole G
+
+abbrev pub cost : {S : Type 0} → List Rule → Frame S → ℕ
+cost G f = f.left * base G ^ f.pair.rule + 1

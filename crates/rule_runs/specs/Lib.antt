@@ -1,0 +1,11 @@
+pub mod Reached
+pub mod Entries
+pub mod Risen
+pub mod Frames
+pub mod Listing
+pub mod Cuts
+pub mod Walks
+pub mod Tellings
+pub mod Notes
+pub mod Descents
+pub mod Answering

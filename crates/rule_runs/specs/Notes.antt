@@ -1,0 +1,25 @@
+-- Bodies as a run downward reads them.
+use Rattle.std.specs.Prelude.{◌≡◌, List, [], ◌∷◌, get_or, take, drop, Some, slice_get}
+use Rattle.rule_arena.specs.declared.label.Label.{Label}
+use Rattle.rule_arena.specs.declared.label.Label.TheVariants.{Bottom, Symbol, Call, Param}
+use Rattle.slt_grammar.specs.Algebras.{Algebra, ranks_of}
+use Rattle.rule_runs.specs.Reached.{RuleStates, states_of}
+use Rattle.slt_grammar.specs.declared.rules.Rule.{Rule}
+use Rattle.rule_runs.specs.declared.notes.Note.{Note}
+use Rattle.rule_runs.specs.declared.notes.Note.TheVariants.{Bottom as NoteBottom, Param as NoteParam, Symbol as NoteSymbol, Call as NoteCall}
+
+module _ {S : Type 0} (A : Algebra S) (G : List Rule) (keys : List (RuleStates S)) where
+  -- the note of a label that is no parameter, by the states of the terms behind it
+  abbrev pub NoteIs : Label → List S → Note S → Type 0
+  NoteIs Bottom states NoteBottom = Unit {0}
+  NoteIs (Symbol f) states (NoteSymbol g kids rest) = (g ≡ f) × (kids ≡ get_or states 0 A.bottom) × (rest ≡ get_or states 1 A.bottom)
+  NoteIs (Call q) states (NoteCall place) = slice_get keys place ≡ Some (q, take (get_or (ranks_of G) q 0) states)
+  NoteIs l states n = ⊥
+
+  -- the notes of labels, by the states of the parameters among them
+  abbrev pub AreNotes : List S → List Label → List (Note S) → Type 0
+  AreNotes args [] [] = Unit {0}
+  AreNotes args [] (n ∷ ns) = ⊥
+  AreNotes args (l ∷ ls) [] = ⊥
+  AreNotes args (Param ∷ ls) (n ∷ ns) = (n ≡ NoteParam) × AreNotes (drop 1 args) ls ns
+  AreNotes args (l ∷ ls) (n ∷ ns) = NoteIs l (states_of A G args ls) n × AreNotes args ls ns

@@ -1,0 +1,99 @@
+// Runs downward: each rule is read once for each list of argument states and each down state that it is met with.
+ghost use Rattle.std.specs.Prelude.{◌≡◌, ◌-◌, ◌^◌, ◌<◌, ◌≤◌, List, length, IfOk};
+ghost use Rattle.slt_grammar.specs.Automata.{hits, nodes_in};
+ghost use Rattle.slt_grammar.specs.Grammars.{value};
+ghost use Rattle.slt_grammar.specs.Keyed.{rules_of};
+ghost use Rattle.rule_runs.specs.Reached.{RuleStates, FallsOnce};
+ghost use Rattle.rule_runs.specs.Risen.{IsRun};
+
+use crate::descent::{begin, descend, enter_call};
+use crate::listing::Part;
+use crate::rising::RiseTable;
+use crate::spots::{Spot, Spots};
+use crate::told::Told;
+use read_steps::Steps;
+use slt_grammar::{Falling, Grammar, RunState};
+use std::alloc::{AllocError, Global};
+use std::marker::Model;
+use std::sync::ledger::Ledger;
+
+/// What a run downward has found. It is seen as the numbers of the nodes that are hit, rising; a number counts the nodes before, in
+/// preorder and without bottoms.
+#[derive(Drop)]
+pub struct FallTable {
+    pub(crate) lists: Vec<Vec<Part>>,
+    pub(crate) whole: Told,
+}
+
+impl Model for FallTable {
+    ghost use Rattle.std.specs.Prelude.{ℕ, List};
+    ghost use Rattle.rule_runs.specs.Answering.{all_of, IsAnswered};
+
+    ghost Value = { List ℕ };
+
+    ghost view = { λ t. all_of t.lists.items t.whole.list };
+
+    ghost invariant = { λ t. IsAnswered t.lists.items t.whole };
+}
+
+impl FallTable {
+    /// How many nodes are hit.
+    pub fn count(&self) -> u64
+        ensures { result ≡ length self.now }
+    {
+        self.whole.hits
+    }
+}
+
+/// Runs the automaton downward, over what its run upward found in this grammar: which nodes are hit of all that the grammar stands for.
+///
+/// What the grammar stands for has at most 2^63 - 1 nodes that aren't bottom. Each triple of a rule, states of its arguments and a
+/// down state that the run meets is read once, with at most two steps a node, whatever is answered. It fails where memory is refused.
+pub fn fall<A: Falling, L: Ledger>(
+    alloc: Global,
+    grammar: &Grammar,
+    automaton: &A,
+    risen: &RiseTable<A>,
+    steps: &mut Steps<L>,
+) -> Result<FallTable, AllocError>
+    requires run { IsRun (A.algebra automaton.now) (rules_of grammar.now.rules) risen.now.known }
+    requires small { nodes_in (value (rules_of grammar.now.rules)) < 2 ^ 63 }
+    ensures hits { IfOk result (λ table. table ≡ hits (A.algebra automaton.now) (A.downward automaton.now) (value (rules_of grammar.now.rules))) }
+    ensures steps { (triples : List (RuleStates A.State × A.Down)) × FallsOnce (A.algebra automaton.now) (A.downward automaton.now) (rules_of grammar.now.rules) triples (steps.new - steps.old) }
+    ensures counted { steps.old ≤ steps.new }
+{
+    // The call tells that the rules are a grammar.
+    let _rules = grammar.rules();
+    let mut known = Spots::new(alloc);
+    let mut lists = Vec::new(alloc);
+    let mut frames = Vec::new(alloc);
+    let start = Spot {
+        pair: risen.known.len() - 1,
+        down: automaton.start()?,
+    };
+    let mut frame = begin(alloc, automaton, grammar, risen, start, steps)?;
+    'bodies: loop {
+        match descend(
+            alloc, automaton, grammar, risen, &known, &mut lists, &mut frame,
+        )? {
+            Some(spot) => {
+                frames.push(frame)?;
+                frame = begin(alloc, automaton, grammar, risen, spot, steps)?;
+            }
+            None => match frames.pop() {
+                None => {
+                    return Ok(FallTable {
+                        lists,
+                        whole: frame.outcome.told[0],
+                    });
+                }
+                Some(below) => {
+                    let done = frame;
+                    frame = below;
+                    enter_call(&mut frame.marks, &mut frame.here, &done.outcome)?;
+                    known.note(done.spot, done.outcome)?;
+                }
+            },
+        }
+    }
+}

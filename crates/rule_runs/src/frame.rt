@@ -1,0 +1,147 @@
+// Rule bodies that a run upward evaluates, label by label from their end.
+ghost use Rattle.std.specs.Prelude.{◌≡◌, ◌≢◌, ◌+◌, ◌*◌, ◌<◌, ◌≤◌, ℕ, [], ◌∷◌, length, take, drop, reverse, vec_len, IfOk, IfSome, IfNone, All};
+ghost use Rattle.slt_grammar.specs.Algebras.{Algebra, apply, all_meanings, ranks_of};
+ghost use Rattle.slt_grammar.specs.Bodies.{arity};
+ghost use Rattle.slt_grammar.specs.Grammars.{body_at, rank_at};
+ghost use Rattle.slt_grammar.specs.Keyed.{rules_of};
+ghost use Rattle.rule_runs.specs.Entries.{key_of};
+ghost use Rattle.rule_runs.specs.Risen.{IsPair, IsKnown, AreKnown, state_at};
+ghost use Rattle.rule_runs.specs.Frames.{Stands, Asks, Waits, AreKnownBut};
+
+use crate::body::read_body;
+use crate::memo::{Memo, Pair};
+use crate::stack::{copy_at, pop_pair, pop_two};
+use read_steps::Steps;
+use slt_grammar::{Grammar, Label, Rising, RunState};
+use std::alloc::{AllocError, Global};
+use std::sync::ledger::Ledger;
+
+// A rule's body that is being evaluated from its end.
+#[derive(Drop)]
+pub(crate) struct Frame<S: Drop> {
+    pub(crate) pair: Pair<S>,
+    pub(crate) labels: Vec<Label>,
+    // How many labels are left, and how many parameters among them.
+    pub(crate) left: usize,
+    pub(crate) waiting: usize,
+    pub(crate) stack: Vec<S>,
+}
+
+// What comes next of a body: its state, or the pair whose state it waits for.
+#[derive(Drop)]
+pub(crate) enum Next<S: Drop> {
+    Done(S),
+    Waits(Pair<S>),
+}
+
+// Begins a body. At most two steps for each of its nodes.
+pub(crate) fn begin<S: RunState, L: Ledger>(
+    alloc: Global,
+    grammar: &Grammar,
+    pair: Pair<S>,
+    steps: &mut Steps<L>,
+) -> Result<Frame<S>, AllocError>
+    requires { IsPair (rules_of grammar.now.rules) (key_of pair) }
+    ensures stands { (A : Algebra S) → IfOk result (λ frame. Stands A (rules_of grammar.now.rules) [] frame) }
+    ensures pair { IfOk result (λ frame. frame.pair ≡ pair) }
+    ensures cost { IfOk result (λ frame. frame.left ≡ length (body_at (rules_of grammar.now.rules) pair.rule)) }
+    ensures steps { steps.new ≤ steps.old + 2 * length (body_at (rules_of grammar.now.rules) pair.rule) }
+    ensures counted { steps.old ≤ steps.new }
+{
+    // The call tells that the rules are a grammar.
+    let _rules = grammar.rules();
+    let labels = read_body(alloc, grammar, pair.rule, steps)?;
+    Ok(Frame {
+        left: labels.len(),
+        waiting: pair.states.len(),
+        stack: Vec::new(alloc),
+        labels,
+        pair,
+    })
+}
+
+// Evaluates a body on to its root or to a call whose state is not known.
+pub(crate) fn advance<A: Rising>(
+    alloc: Global,
+    automaton: &A,
+    grammar: &Grammar,
+    known: &Memo<A::State>,
+    frame: &mut Frame<A::State>,
+) -> Result<Next<A::State>, AllocError>
+    requires right { All (λ e. e.1 ≡ state_at (A.algebra automaton.now) (rules_of grammar.now.rules) e.0) known.now }
+    requires stands { Stands (A.algebra automaton.now) (rules_of grammar.now.rules) [] frame.old }
+    requires closed { AreKnown (A.algebra automaton.now) (rules_of grammar.now.rules) known.now (key_of frame.old.pair) frame.old.left }
+    ensures same { frame.new.pair ≡ frame.old.pair }
+    ensures closed { IfOk result (λ next. (state : A.State) → next ≡ Next.Done state → AreKnown (A.algebra automaton.now) (rules_of grammar.now.rules) known.now (key_of frame.old.pair) 0) }
+    ensures awaiting { IfOk result (λ next. (pair : Pair A.State) → next ≡ Next.Waits pair → AreKnownBut (A.algebra automaton.now) (rules_of grammar.now.rules) known.now (key_of frame.new.pair) frame.new.left (key_of pair)) }
+    ensures done { IfOk result (λ next. (state : A.State) → next ≡ Next.Done state → state ≡ state_at (A.algebra automaton.now) (rules_of grammar.now.rules) (key_of frame.old.pair)) }
+    ensures waits { IfOk result (λ next. (pair : Pair A.State) → next ≡ Next.Waits pair → Waits (A.algebra automaton.now) (rules_of grammar.now.rules) frame.old pair frame.new) }
+    ensures new { IfOk result (λ next. (pair : Pair A.State) → next ≡ Next.Waits pair → All (λ e. e.0 ≢ key_of pair) known.now) }
+{
+    // The call tells that the rules are a grammar.
+    let _rules = grammar.rules();
+    'labels: while frame.left > 0 {
+        let label = frame.labels[frame.left - 1];
+        frame.left -= 1;
+        if let Label::Param = label {
+            frame.waiting -= 1;
+            frame
+                .stack
+                .push(copy_at(&frame.pair.states, frame.waiting)?)?;
+        } else if let Some(pair) = label_state(
+            alloc,
+            automaton,
+            grammar,
+            known,
+            label,
+            &mut frame.stack,
+        )? {
+            return Ok(Next::Waits(pair));
+        }
+    }
+    match frame.stack.pop() {
+        Some(state) => Ok(Next::Done(state)),
+        None => Ok(Next::Done(automaton.bottom()?)),
+    }
+}
+
+// Puts the state of a node that is no parameter in the place of its children's states; or answers the pair whose state is not known.
+fn label_state<A: Rising>(
+    alloc: Global,
+    automaton: &A,
+    grammar: &Grammar,
+    known: &Memo<A::State>,
+    label: Label,
+    stack: &mut Vec<A::State>,
+) -> Result<Option<Pair<A::State>>, AllocError>
+    requires right { All (λ e. e.1 ≡ state_at (A.algebra automaton.now) (rules_of grammar.now.rules) e.0) known.now }
+    requires there { (q : ℕ) → label ≡ Label.Call q → q < length grammar.now.rules }
+    requires enough { arity (ranks_of (rules_of grammar.now.rules)) label ≤ vec_len stack.old }
+    requires real { label ≢ Label.Param }
+    ensures done { IfOk result (λ asked. IfNone asked (reverse stack.new.items ≡ apply (A.algebra automaton.now) (all_meanings (A.algebra automaton.now) (rules_of grammar.now.rules)) label (take (arity (ranks_of (rules_of grammar.now.rules)) label) (reverse stack.old.items)) ∷ drop (arity (ranks_of (rules_of grammar.now.rules)) label) (reverse stack.old.items))) }
+    ensures asked { IfOk result (λ asked. IfSome asked (λ pair. Asks (rules_of grammar.now.rules) label (reverse stack.old.items) pair (reverse stack.new.items))) }
+    ensures new { IfOk result (λ asked. IfSome asked (λ pair. All (λ e. e.0 ≢ key_of pair) known.now)) }
+    ensures found { IfOk result (λ asked. IfNone asked ((q : ℕ) → label ≡ Label.Call q → IsKnown known.now (q, take (rank_at (rules_of grammar.now.rules) q) (reverse stack.old.items)))) }
+{
+    match label {
+        Label::Symbol(symbol) => {
+            let (kids, rest) = pop_two(stack);
+            stack.push(automaton.node(symbol, &kids, &rest)?)?;
+            Ok(None)
+        }
+        Label::Call(rule) => {
+            let pair = pop_pair(alloc, grammar, rule, stack)?;
+            match known.find(&pair) {
+                Some((_, state)) => {
+                    stack.push(state.copy()?)?;
+                    Ok(None)
+                }
+                None => Ok(Some(pair)),
+            }
+        }
+        _ => {
+            stack.push(automaton.bottom()?)?;
+            Ok(None)
+        }
+    }
+}

@@ -1,0 +1,82 @@
+// What a run upward knows of rules at states of their arguments.
+ghost use Rattle.std.specs.Prelude.{◌≡◌, ◌≢◌, ◌++◌, ◌<◌, [], ◌∷◌, length, slice_get, Some, IfSome, IfNone, IsSome, OnOk, All};
+ghost use Rattle.rule_runs.specs.Entries.{key_of};
+ghost use Rattle.rule_runs.specs.Risen.{keys, pair_at};
+
+use indexmap::IndexMap;
+use slt_grammar::RunState;
+use std::alloc::{AllocError, Global};
+use std::marker::Model;
+
+/// A rule at states of its arguments.
+#[derive(PartialEq, Eq, Hash, Drop)]
+pub(crate) struct Pair<S> {
+    pub(crate) rule: usize,
+    pub(crate) states: Vec<S>,
+}
+
+/// The states of pairs, in the order in which they were noted.
+#[derive(Drop)]
+pub(crate) struct Memo<S: RunState> {
+    known: IndexMap<Pair<S>, S>,
+}
+
+impl<S: RunState> Model for Memo<S> {
+    ghost use Rattle.std.specs.Prelude.{List};
+    ghost use Rattle.rule_runs.specs.Reached.{RuleStates};
+    ghost use Rattle.rule_runs.specs.Entries.{viewed, key_of};
+
+    ghost Value = { List (RuleStates S × S) };
+
+    ghost view = { λ m. viewed key_of m.known.entries };
+}
+
+impl<S: RunState> Memo<S> {
+    pub(crate) fn new(alloc: Global) -> Memo<S>
+        ensures { result ≡ [] }
+    {
+        Memo {
+            known: IndexMap::new(alloc),
+        }
+    }
+
+    // A pair's place and state.
+    pub(crate) fn find(&self, pair: &Pair<S>) -> Option<(usize, &S)>
+        ensures found { IfSome result (λ r. slice_get self.now r.0 ≡ Some (key_of pair.now, r.1.now)) }
+        ensures absent { IfNone result (All (λ e. e.0 ≢ key_of pair.now) self.now) }
+    {
+        match self.known.get_full(pair) {
+            Some((index, _, state)) => Some((index, state)),
+            None => None,
+        }
+    }
+
+    // How many pairs there are.
+    pub(crate) fn len(&self) -> usize
+        ensures { result ≡ length (keys self.now) }
+    {
+        self.known.len()
+    }
+
+    // The pair at a place.
+    pub(crate) fn pair(&self, index: usize) -> Option<&Pair<S>>
+        ensures there { index < length self.now → IsSome result }
+        ensures pair { IfSome result (λ p. key_of p.now ≡ pair_at (keys self.now) index) }
+    {
+        match self.known.get_index(index) {
+            Some((pair, _)) => Some(pair),
+            None => None,
+        }
+    }
+
+    // Notes the state of a pair that is not there yet.
+    pub(crate) fn note(&mut self, pair: Pair<S>, state: S) -> Result<(), AllocError>
+        requires { All (λ e. e.0 ≢ key_of pair) self.old }
+        ensures ok { OnOk result (self.new ≡ self.old ++ (key_of pair, state) ∷ []) }
+    {
+        match self.known.insert(pair, state) {
+            Ok(_) => Ok(()),
+            Err(_) => Err(AllocError),
+        }
+    }
+}

@@ -1,0 +1,99 @@
+// A body as a run downward reads it: its nodes with the states from below that each of them asks for.
+ghost use Rattle.std.specs.Prelude.{◌≡◌, ◌≢◌, ◌+◌, ◌*◌, ◌<◌, ◌≤◌, ◌∷◌, ℕ, Some, length, slice_get, take, drop, reverse, vec_len, IfOk, IfSome, All};
+ghost use Rattle.slt_grammar.specs.Algebras.{apply, all_meanings, ranks_of};
+ghost use Rattle.slt_grammar.specs.Bodies.{arity};
+ghost use Rattle.slt_grammar.specs.Grammars.{body_at, rank_at};
+ghost use Rattle.slt_grammar.specs.Keyed.{rules_of};
+ghost use Rattle.rule_runs.specs.Entries.{key_of};
+ghost use Rattle.rule_runs.specs.Risen.{IsPair, IsKnown, AreKnown, state_at, keys};
+ghost use Rattle.rule_runs.specs.Notes.{NoteIs, AreNotes};
+
+use crate::memo::{Memo, Pair};
+use crate::stack::{copy_at, pop_pair, pop_two};
+use slt_grammar::{Grammar, Label, Rising, RunState};
+use std::alloc::{AllocError, Global};
+
+// A node: a symbol with the states of its two children, a call with the place of its pair in the table.
+#[derive(Drop)]
+pub(crate) enum Note<S: Drop> {
+    Bottom,
+    Param,
+    Symbol(usize, S, S),
+    Call(usize),
+}
+
+// Puts the state of a node that is no parameter in the place of its children's states, and notes the node.
+fn note_label<A: Rising>(
+    alloc: Global,
+    automaton: &A,
+    grammar: &Grammar,
+    known: &Memo<A::State>,
+    label: Label,
+    stack: &mut Vec<A::State>,
+) -> Result<Note<A::State>, AllocError>
+    requires right { All (λ e. e.1 ≡ state_at (A.algebra automaton.now) (rules_of grammar.now.rules) e.0) known.now }
+    requires there { (q : ℕ) → label ≡ Label.Call q → q < length grammar.now.rules }
+    requires enough { arity (ranks_of (rules_of grammar.now.rules)) label ≤ vec_len stack.old }
+    requires real { label ≢ Label.Param }
+    requires called { (q : ℕ) → label ≡ Label.Call q → IsKnown known.now (q, take (rank_at (rules_of grammar.now.rules) q) (reverse stack.old.items)) }
+    ensures state { IfOk result (λ note. reverse stack.new.items ≡ apply (A.algebra automaton.now) (all_meanings (A.algebra automaton.now) (rules_of grammar.now.rules)) label (take (arity (ranks_of (rules_of grammar.now.rules)) label) (reverse stack.old.items)) ∷ drop (arity (ranks_of (rules_of grammar.now.rules)) label) (reverse stack.old.items)) }
+    ensures note { IfOk result (λ note. NoteIs (A.algebra automaton.now) (rules_of grammar.now.rules) (keys known.now) label (reverse stack.old.items) note) }
+{
+    match label {
+        Label::Symbol(symbol) => {
+            let (kids, rest) = pop_two(stack);
+            stack.push(automaton.node(symbol, &kids, &rest)?)?;
+            Ok(Note::Symbol(symbol, kids, rest))
+        }
+        Label::Call(rule) => {
+            let pair = pop_pair(alloc, grammar, rule, stack)?;
+            match known.find(&pair) {
+                Some((place, state)) => {
+                    stack.push(state.copy()?)?;
+                    Ok(Note::Call(place))
+                }
+                // The table knows each call.
+                None => unreachable!(),
+            }
+        }
+        _ => {
+            stack.push(automaton.bottom()?)?;
+            Ok(Note::Bottom)
+        }
+    }
+}
+
+// The notes of a pair's body, the last node first.
+pub(crate) fn note_labels<A: Rising>(
+    alloc: Global,
+    automaton: &A,
+    grammar: &Grammar,
+    known: &Memo<A::State>,
+    pair: &Pair<A::State>,
+    labels: &Vec<Label>,
+) -> Result<Vec<Note<A::State>>, AllocError>
+    requires right { All (λ e. e.1 ≡ state_at (A.algebra automaton.now) (rules_of grammar.now.rules) e.0) known.now }
+    requires pair { IsPair (rules_of grammar.now.rules) (key_of pair.now) }
+    requires closed { AreKnown (A.algebra automaton.now) (rules_of grammar.now.rules) known.now (key_of pair.now) 0 }
+    requires labels { labels.now.items ≡ body_at (rules_of grammar.now.rules) pair.now.rule }
+    ensures { IfOk result (λ notes. AreNotes (A.algebra automaton.now) (rules_of grammar.now.rules) (keys known.now) pair.now.states.items labels.now.items (reverse notes.items)) }
+{
+    // The call tells that the rules are a grammar.
+    let _rules = grammar.rules();
+    let mut notes = Vec::with_capacity(alloc, labels.len())?;
+    let mut stack = Vec::new(alloc);
+    let mut waiting = pair.states.len();
+    let mut left = labels.len();
+    'labels: while left > 0 {
+        left -= 1;
+        let label = labels[left];
+        if let Label::Param = label {
+            waiting -= 1;
+            stack.push(copy_at(&pair.states, waiting)?)?;
+            notes.push(Note::Param)?;
+        } else {
+            notes.push(note_label(alloc, automaton, grammar, known, label, &mut stack)?)?;
+        }
+    }
+    Ok(notes)
+}

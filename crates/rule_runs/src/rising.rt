@@ -1,0 +1,85 @@
+// Runs upward: each rule is evaluated once for each list of argument states that it is met with.
+ghost use Rattle.std.specs.Prelude.{◌≡◌, ◌-◌, ◌≤◌, List, [], IfOk};
+ghost use Rattle.slt_grammar.specs.Grammars.{value};
+ghost use Rattle.slt_grammar.specs.Keyed.{rules_of};
+ghost use Rattle.slt_grammar.specs.Terms.{up};
+ghost use Rattle.rule_runs.specs.Reached.{RuleStates, ReadsOnce};
+ghost use Rattle.rule_runs.specs.Risen.{IsRun};
+
+use crate::frame::{Next, advance, begin};
+use crate::memo::{Memo, Pair};
+use read_steps::Steps;
+use slt_grammar::{Grammar, Rising, RunState};
+use std::alloc::{AllocError, Global};
+use std::marker::Model;
+use std::sync::ledger::Ledger;
+
+/// What a run upward has found. It is seen as the states of the pairs that it met, a rule with the states of its arguments, and the
+/// state of the whole.
+#[derive(Drop)]
+pub struct RiseTable<A: Rising> {
+    pub(crate) known: Memo<A::State>,
+    pub(crate) top: A::State,
+}
+
+impl<A: Rising> Model for RiseTable<A> {
+    ghost use Rattle.rule_runs.specs.Risen.{Risen};
+
+    ghost Value = { Risen A.State };
+
+    ghost view = { λ t. record { known = t.known; top = t.top } };
+}
+
+impl<A: Rising> RiseTable<A> {
+    /// The state of the whole.
+    pub fn top(&self) -> &A::State
+        ensures { result.now ≡ self.now.top }
+    {
+        &self.top
+    }
+}
+
+/// Runs the automaton upward over the rules: its state at the root of what the grammar stands for, and what a run downward needs.
+///
+/// Each pair of a rule and states of its arguments that the run meets is read once, with at most two steps a node, whatever is
+/// answered. It fails where memory is refused.
+pub fn rise<A: Rising, L: Ledger>(
+    alloc: Global,
+    grammar: &Grammar,
+    automaton: &A,
+    steps: &mut Steps<L>,
+) -> Result<RiseTable<A>, AllocError>
+    ensures top { IfOk result (λ table. table.top ≡ up (A.algebra automaton.now) (value (rules_of grammar.now.rules)) []) }
+    ensures run { IfOk result (λ table. IsRun (A.algebra automaton.now) (rules_of grammar.now.rules) table.known) }
+    ensures steps { (pairs : List (RuleStates A.State)) × ReadsOnce (A.algebra automaton.now) (rules_of grammar.now.rules) pairs (steps.new - steps.old) }
+    ensures counted { steps.old ≤ steps.new }
+{
+    let mut known = Memo::new(alloc);
+    let mut frames = Vec::new(alloc);
+    let start = Pair {
+        rule: grammar.rules() - 1,
+        states: Vec::new(alloc),
+    };
+    let mut frame = begin(alloc, grammar, start, steps)?;
+    'bodies: loop {
+        match advance(alloc, automaton, grammar, &known, &mut frame)? {
+            Next::Waits(pair) => {
+                frames.push(frame)?;
+                frame = begin(alloc, grammar, pair, steps)?;
+            }
+            Next::Done(state) => match frames.pop() {
+                None => {
+                    let top = state.copy()?;
+                    known.note(frame.pair, state)?;
+                    return Ok(RiseTable { known, top });
+                }
+                Some(below) => {
+                    let done = frame;
+                    frame = below;
+                    frame.stack.push(state.copy()?)?;
+                    known.note(done.pair, state)?;
+                }
+            },
+        }
+    }
+}

@@ -1,0 +1,58 @@
+// States of terms on a stack, that of the last term at the bottom.
+ghost use Rattle.std.specs.Prelude.{◌≡◌, ◌++◌, ◌<◌, ◌≤◌, ◌∷◌, get_or, reverse, vec_len, length, IfOk};
+ghost use Rattle.slt_grammar.specs.Grammars.{rank_at};
+ghost use Rattle.slt_grammar.specs.Keyed.{rules_of};
+ghost use Rattle.rule_runs.specs.Frames.{Asks};
+
+use crate::memo::Pair;
+use slt_grammar::{Grammar, Label, RunState};
+use std::alloc::{AllocError, Global};
+
+// One of the states again.
+pub(crate) fn copy_at<S: RunState>(states: &Vec<S>, at: usize) -> Result<S, AllocError>
+    requires { at < vec_len states.now }
+    ensures { IfOk result (λ state. state ≡ get_or states.now.items at state) }
+{
+    states[at].copy()
+}
+
+// The two topmost states, which are taken off, the topmost first.
+pub(crate) fn pop_two<S: Drop>(stack: &mut Vec<S>) -> (S, S)
+    requires { 2 ≤ vec_len stack.old }
+    ensures { result.0 ∷ result.1 ∷ reverse stack.new.items ≡ reverse stack.old.items }
+{
+    let (Some(top), Some(next)) = (stack.pop(), stack.pop()) else {
+        unreachable!()
+    };
+    (top, next)
+}
+
+// Takes the topmost states off, the topmost first.
+fn pop_many<S: Drop>(alloc: Global, stack: &mut Vec<S>, count: usize) -> Result<Vec<S>, AllocError>
+    requires { count ≤ vec_len stack.old }
+    ensures taken { IfOk result (λ taken. taken.items ++ reverse stack.new.items ≡ reverse stack.old.items) }
+    ensures count { IfOk result (λ taken. vec_len taken ≡ count) }
+{
+    let mut taken = Vec::new(alloc);
+    for _i in 0..count {
+        if let Some(state) = stack.pop() {
+            taken.push(state)?;
+        }
+    }
+    Ok(taken)
+}
+
+// The pair of a call over the topmost states, which are taken off.
+pub(crate) fn pop_pair<S: Drop>(
+    alloc: Global,
+    grammar: &Grammar,
+    rule: usize,
+    stack: &mut Vec<S>,
+) -> Result<Pair<S>, AllocError>
+    requires there { rule < length grammar.now.rules }
+    requires enough { rank_at (rules_of grammar.now.rules) rule ≤ vec_len stack.old }
+    ensures { IfOk result (λ pair. Asks (rules_of grammar.now.rules) (Label.Call rule) (reverse stack.old.items) pair (reverse stack.new.items)) }
+{
+    let states = pop_many(alloc, stack, grammar.rank(rule))?;
+    Ok(Pair { rule, states })
+}

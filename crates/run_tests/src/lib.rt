@@ -1,0 +1,5 @@
+//! Tests of runs over shared rules.
+#![tactic(auto)]
+
+#[cfg(test)]
+mod runs;

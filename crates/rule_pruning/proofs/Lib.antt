@@ -2,8 +2,10 @@ pub mod Behind
 pub mod CallKeys
 pub mod CallLists
 pub mod CopyLinks
+pub mod CopyMoves
 pub mod CopyPlaces
 pub mod Inlined
+pub mod InlinedIndex
 pub mod InlineCalls
 pub mod NearInlines
 pub mod SavingLemmas

@@ -1,39 +1,35 @@
 -- What an inlining leaves: all nodes but the call, its arguments and the copies tell the same.
-use Rattle.std.proofs.Common.{◌≡◌, ◌≢◌, ◌⊎◌, inl, inr, ℕ, zero, suc, ◌+◌, ◌<◌, List, [], ◌∷◌, ◌++◌, length, get_or, take, drop, Option, Some, None, slice_get, refl, sym, ap, ◌∙◌, subst, arith}
+use Rattle.std.proofs.Common.{◌≡◌, ◌≢◌, ◌⊎◌, inl, inr, ℕ, zero, suc, ◌+◌, ◌<◌, List, [], ◌∷◌, ◌++◌, length, get_or, take, drop, Option, Some, slice_get, refl, sym, ap, ◌∙◌, arith}
 use Rattle.std.proofs.lemmas.Bool.{cases_eq}
 use Rattle.rule_arena.specs.Preorder.{AreTerms}
-use Rattle.rule_arena.specs.Terms.{Node, Apart, key_in, kids_in, kids_of, parent_in}
+use Rattle.rule_arena.specs.Terms.{Node, key_in, kids_in, kids_of, parent_in}
 use Rattle.rule_arena.specs.declared.key.Key.{Key}
 use Rattle.rule_arena.specs.declared.label.Label.{Label}
-use Rattle.rule_arena.specs.declared.label.Label.TheVariants.{Bottom, Symbol, Call, Param}
+use Rattle.rule_arena.specs.declared.label.Label.TheVariants.{Bottom, Call}
 use Rattle.rule_arena.proofs.NodeLemmas.{node_of, key_of_node, same_key}
 use Rattle.rule_arena.proofs.PathLemmas.{key_in-left, key_in-right}
 use Rattle.rule_arena.proofs.PreorderLemmas.{length-terms}
 use Rattle.slt_grammar.specs.Algebras.{ranks_of}
 use Rattle.slt_grammar.specs.Bodies.{arity}
-use Rattle.slt_grammar.specs.Copying.{args_at, back_at, copied, copied_node, hole, holes_in, inlined_nodes, kids_at}
+use Rattle.slt_grammar.specs.Copying.{args_at, back_at, copied, holes_in, inlined_nodes, kids_at}
 use Rattle.slt_grammar.specs.Detaching.{AreArgs}
 use Rattle.slt_grammar.specs.Holding.{IsLawful}
 use Rattle.slt_grammar.specs.Keyed.{Keyed, KeyedRule, IsKeyed, key_at, labels_of, nodes_at, rules_of}
-use Rattle.slt_grammar.specs.KeyedEdits.{IsInlined, Stands, StandsAsCall}
+use Rattle.slt_grammar.specs.KeyedEdits.{IsInlined, StandsAsCall}
 use Rattle.slt_grammar.proofs.Agreeing.{Agree, label-is}
 use Rattle.slt_grammar.proofs.FoldedRules.{flat}
 use Rattle.slt_grammar.proofs.InlinedRules.{agree, behind, callee-agree, inlined-ranks, kids-holes, kids-label}
 use Rattle.slt_grammar.proofs.Inlinings.{Cut, cut-at}
 use Rattle.slt_grammar.proofs.KeyedEdits.{nodes-with_nodes}
 use Rattle.slt_grammar.proofs.KeyedLemmas.{body_at-rules_of, key_at-within, key_in-within, nodes-are-term}
-use Rattle.digram_index.specs.Digrams.{occurrence_at}
-use Rattle.digram_index.specs.Keeping.{IsIndexBut, IsNear, TellsSame}
-use Rattle.digram_index.specs.Linked.{Linked, IsIndexOf, cell}
+use Rattle.digram_index.specs.Keeping.{IsNear, TellsSame}
 use Rattle.digram_index.proofs.Apartness.{one-key}
-use Rattle.digram_index.proofs.BuildLemmas.{none-left}
-use Rattle.digram_index.proofs.Kept.{near-kept}
 use Rattle.digram_index.proofs.LevelLemmas.{same_some}
-use Rattle.pair_replace.specs.Partly.{IsAmong, IsPartOf, IsRight}
-use Rattle.pair_replace.proofs.KidLinks.{not-among}
+use Rattle.pair_replace.specs.Partly.{IsAmong}
 use Rattle.pair_replace.proofs.Kids.{child-of}
-use Rattle.rule_pruning.specs.Copies.{AreEachTerms, IsCopyLinked, Meets, first_came}
-use Rattle.rule_pruning.proofs.CopyPlaces.{HasMoved, around, copied-leaves, holes-leaves, leaves, met-root, moves, root-met}
+use Rattle.rule_pruning.specs.Copies.{AreEachTerms, Meets}
+use Rattle.rule_pruning.proofs.CopyMoves.{HasMoved, around, moves}
+use Rattle.rule_pruning.proofs.CopyPlaces.{copied-leaves, holes-leaves, leaves, met-root, root-met}
 use Rattle.rule_pruning.proofs.Inlined.{callee-before, length-after, nodes-after, stays, there-in}
 
 pub each-args : (ks : List Key) (args : List (List Node)) → AreArgs ks args → AreEachTerms args
@@ -104,7 +100,7 @@ module _ (g h : Keyed) (K : IsKeyed g) (K' : IsKeyed h) (call : Key) (C : Stands
   earlier : q < r
   earlier = callee-before g K call C J.keys
 
-  cut : Cut ns p call
+  pub cut : Cut ns p call
   cut = cut-at ns p call (nodes-are-term g K r in-r) C.here.there
 
   label-ns : get_or (labels_of ns) p Bottom ≡ Call q
@@ -192,7 +188,7 @@ module _ (g h : Keyed) (K : IsKeyed g) (K' : IsKeyed h) (call : Key) (C : Stands
   abbrev IsOldMet : ℕ → Type 0
   IsOldMet t = (u : ℕ) × ((t ≡ p + u) × Meets pattern args u)
 
-  abbrev IsNewMet : ℕ → Type 0
+  abbrev pub IsNewMet : ℕ → Type 0
   IsNewMet t = (u : ℕ) × ((t ≡ p + u) × Meets callee args u)
 
   goes : (t : ℕ) → t < length ns → IsOldMet t ⊎ HasGone t
@@ -257,13 +253,13 @@ module _ (g h : Keyed) (K : IsKeyed g) (K' : IsKeyed h) (call : Key) (C : Stands
       )
 
   -- a node of the old grammar that is neither stays
-  record IsLeft (s t : ℕ) (key : Key) : Type 0 where
-    rule : ℕ
-    at : ℕ
-    there : key_at h.rules rule at ≡ Some key
-    unmet : rule ≡ r → (u : ℕ) → at ≡ p + u → Meets callee args u → ⊥
+  pub record IsLeft (s t : ℕ) (key : Key) : Type 0 where
+    pub rule : ℕ
+    pub at : ℕ
+    pub there : key_at h.rules rule at ≡ Some key
+    pub unmet : rule ≡ r → (u : ℕ) → at ≡ p + u → Meets callee args u → ⊥
 
-  left : (s t : ℕ) (key : Key) → key_at G s t ≡ Some key → ((key.number ≡ call.number) ⊎ IsAmong kids key.number) ⊎ IsLeft s t key
+  pub left : (s t : ℕ) (key : Key) → key_at G s t ≡ Some key → ((key.number ≡ call.number) ⊎ IsAmong kids key.number) ⊎ IsLeft s t key
   left s t key e = by (cases_eq s r)
     where
       by : (s ≡ r) ⊎ (s ≡ r → ⊥) → ((key.number ≡ call.number) ⊎ IsAmong kids key.number) ⊎ IsLeft s t key
@@ -278,15 +274,15 @@ module _ (g h : Keyed) (K : IsKeyed g) (K' : IsKeyed h) (call : Key) (C : Stands
           of (inr P) = inr (record { rule = r; at = P.at; there = same_key (nodes_at h.rules r) ns P.at t P.is_node ∙ e'; unmet = λ w. P.unmet })
 
   -- a node of the new grammar is met, or was there before and is not near
-  record WasThere (s t : ℕ) (key : Key) : Type 0 where
-    rule : ℕ
-    at : ℕ
-    there : key_at G rule at ≡ Some key
-    is_node : slice_get (nodes_at h.rules s) t ≡ slice_get (nodes_at G rule) at
-    is_parent : parent_in (nodes_at h.rules s) t ≡ parent_in (nodes_at G rule) at
-    far : near key.number → ⊥
+  pub record WasThere (s t : ℕ) (key : Key) : Type 0 where
+    pub rule : ℕ
+    pub at : ℕ
+    pub there : key_at G rule at ≡ Some key
+    pub is_node : slice_get (nodes_at h.rules s) t ≡ slice_get (nodes_at G rule) at
+    pub is_parent : parent_in (nodes_at h.rules s) t ≡ parent_in (nodes_at G rule) at
+    pub far : near key.number → ⊥
 
-  reached : (s t : ℕ) (key : Key) → key_at h.rules s t ≡ Some key → ((s ≡ r) × IsNewMet t) ⊎ WasThere s t key
+  pub reached : (s t : ℕ) (key : Key) → key_at h.rules s t ≡ Some key → ((s ≡ r) × IsNewMet t) ⊎ WasThere s t key
   reached s t key e = by (cases_eq s r)
     where
       by : (s ≡ r) ⊎ (s ≡ r → ⊥) → ((s ≡ r) × IsNewMet t) ⊎ WasThere s t key
@@ -404,138 +400,3 @@ module _ (g h : Keyed) (K : IsKeyed g) (K' : IsKeyed h) (call : Key) (C : Stands
       stay s t key e n (inl (inl z)) = absurd (n (inl z))
       stay s t key e n (inl (inr z)) = absurd (n (inr (inl z)))
       stay s t key e n (inr W) = (W.rule, (W.at, W.there))
-
-  module _ (I mid : Linked) (A : IsIndexOf g I) (free : (n : ℕ) → (n ≡ call.number) ⊎ IsAmong kids n → cell mid n ≡ None) (others : (n : ℕ) → n ≢ call.number → Apart kids n → cell mid n ≡ cell I n)
-      (keep : (n : ℕ) → cell I n ≡ None → cell mid n ≡ None) (rules : mid.rules ≡ I.rules) where
-    -- the cells of copies are free, since their numbers are those of no node before
-    met-free : (n : ℕ) → IsMet n → cell mid n ≡ None
-    met-free n (u, (key, (m, (e, z)))) = none-left (cell mid n) (λ x. no x (A.only n (λ y. x (keep n y))))
-      where
-        no : cell mid n ≢ None → (k : Key) × ((s : ℕ) × ((t : ℕ) × ((key_at g.rules s t ≡ Some k) × (k.number ≡ n)))) → ⊥
-        no x (k, (s, (t, (w, y)))) = by (left s t key w')
-          where
-            w' : key_at g.rules s t ≡ Some key
-            w' = w ∙ ap Some (one-key k key (y ∙ sym z))
-
-            by : ((key.number ≡ call.number) ⊎ IsAmong kids key.number) ⊎ IsLeft s t key → ⊥
-            by (inl v) = x (ap (cell mid) (sym z) ∙ free key.number v)
-            by (inr W) = let o = K'.once key W.rule W.at r (p + u) W.there e in W.unmet o.0 u o.1 m
-
-    before : IsIndexBut g mid near
-    before = record {
-      rules = rules ∙ A.rules;
-      all = λ s t key e n. others key.number (λ z. n (inl z)) (not-among kids key.number (λ z. n (inr (inl z)))) ∙ A.all s t key e;
-      free = near-free;
-      only = λ k x. A.only k (λ e. x (keep k e));
-    }
-      where
-        near-free : (k : ℕ) → near k → cell mid k ≡ None
-        near-free k (inl z) = free k (inl z)
-        near-free k (inr (inl z)) = free k (inr z)
-        near-free k (inr (inr z)) = met-free k z
-
-    after : IsIndexBut h mid near
-    after = near-kept g h mid near before near-inlined
-
-    met-near : (s t : ℕ) (key : Key) → key_at h.rules s t ≡ Some key → s ≡ r → IsNewMet t → near key.number
-    met-near s t key e z (u, (y, m)) = inr (inr (u, (key, (m, (ap (λ (j : ℕ). key_at h.rules r j) (sym y) ∙ ap (λ (x : ℕ). key_at h.rules x t) (sym z) ∙ e, refl)))))
-
-    part : IsPartOf h mid
-    part = record {
-      rules = after.rules;
-      part = λ s t key e. by s t key e (reached s t key e);
-      only = λ k x. let w = after.only k x in (w.0, (record { rule = w.1.0; place = w.1.1.0; there = w.1.1.1.0 }, w.1.1.1.1));
-    }
-      where
-        by : (s t : ℕ) (key : Key) → key_at h.rules s t ≡ Some key → ((s ≡ r) × IsNewMet t) ⊎ WasThere s t key → (cell mid key.number ≡ None) ⊎ (cell mid key.number ≡ occurrence_at h.rules s t)
-        by s t key e (inl w) = inl (after.free key.number (met-near s t key e w.0 w.1))
-        by s t key e (inr W) = inr (after.all s t key e W.far)
-
-    drop-front : (xs ys : List Node) → drop (length xs) (xs ++ ys) ≡ ys
-    drop-front [] ys = refl
-    drop-front (x ∷ xs) ys = drop-front xs ys
-
-    -- what is met is left to link
-    pub copy-begins : (root : Key) (first : Option Key) → key_at h.rules q 0 ≡ Some root → key_at h.rules r p ≡ first → IsCopyLinked h mid q (Some root) first
-    copy-begins root first e f = record {
-      at = 0;
-      rule = r;
-      place = p;
-      given = args;
-      keys = J.keys;
-      back = back;
-      model_at = e;
-      copy_at = f;
-      within = omega arith;
-      rest = ap (λ (xs : List Node). drop p xs) news ∙ ap (λ (j : ℕ). drop j (around front callee args J.keys back)) (sym cut.place) ∙ drop-front front (copied callee args J.keys ++ back)
-          ∙ ap (λ (xs : List Node). copied xs args J.keys ++ back) (sym callee-same);
-      terms = terms;
-      many = many ∙ ap holes_in (sym callee-same);
-      part = part;
-      todo = λ key S. by key S (reached S.rule S.place key S.there);
-    }
-      where
-        by : (key : Key) (S : Stands h.rules key) → ((S.rule ≡ r) × IsNewMet S.place) ⊎ WasThere S.rule S.place key
-            → IsRight h.rules mid key ⊎ ((t : ℕ) × (Meets (drop 0 (nodes_at h.rules q)) args t × (key_at h.rules r (p + t) ≡ Some key)))
-        by key S (inl (z, (u, (y, m)))) =
-            inr (u, (subst (λ (xs : List Node). Meets xs args u) (sym callee-same) m, ap (λ (j : ℕ). key_at h.rules r j) (sym y) ∙ ap (λ (x : ℕ). key_at h.rules x S.place) (sym z) ∙ S.there))
-        by key S (inr W) = inl (λ s t e. after.all s t key e W.far)
-
-  -- what came in the place of the call: the copy of the body's root, or the argument where the body is a parameter
-  pub first-came : (n : Node) → slice_get callee 0 ≡ Some n → n.key ≡ follow → key_at h.rules r p ≡ first_came n.label moved kids
-  first-came n e f =
-      ap (λ (xs : List Node). key_in xs p) news ∙ ap (λ (j : ℕ). key_in (around front callee args J.keys back) j) (sym cut.place) ∙ in-front front (copied callee args J.keys ++ back) ∙ of callee kids args J.keys cut.args many e J.follows
-    where
-      in-front : (xs ys : List Node) → key_in (xs ++ ys) (length xs) ≡ key_in ys 0
-      in-front [] ys = refl
-      in-front (x ∷ xs) ys = in-front xs ys
-
-      root-key : (g : List Node) (k : Key) (zs : List Node) → key_in g 0 ≡ Some k → key_in (g ++ zs) 0 ≡ Some k
-      root-key [] k zs e = absurd (let z : None ≡ Some k = e in cc)
-      root-key (x ∷ g) k zs e = e
-
-      head-key : (ks : List Key) (d : Key) → slice_get ks 0 ≡ Some moved → get_or ks 0 d ≡ moved
-      head-key [] d e = absurd (let z : None ≡ Some moved = e in cc)
-      head-key (k ∷ ks) d e = let z : Some k ≡ Some moved = e in cc
-
-      of : (cs : List Node) (ks : List Key) (gs : List (List Node)) (keys : List Key) → AreArgs ks gs → length gs ≡ holes_in cs → slice_get cs 0 ≡ Some n → ((j : ℕ) → key_in cs j ≡ Some follow → slice_get keys j ≡ Some moved)
-          → key_in (copied cs gs keys ++ back) 0 ≡ first_came n.label moved ks
-      of [] ks gs keys A h e w = absurd (let z : None ≡ Some n = e in cc)
-      of (c ∷ cs) ks gs keys A h e w = at n.label refl
-        where
-          same : c ≡ n
-          same = let z : Some c ≡ Some n = e in cc
-
-          key : slice_get keys 0 ≡ Some moved
-          key = w 0 (ap (λ (x : Node). Some x.key) same ∙ ap Some f)
-
-          label : c.label ≡ n.label
-          label = ap (λ (x : Node). x.label) same
-
-          at : (l : Label) → n.label ≡ l → key_in (copied_node c.label c (get_or keys 0 c.key) gs (copied cs (drop (hole c.label) gs) (drop 1 keys)) ++ back) 0 ≡ first_came n.label moved ks
-          at Bottom z = let y = label ∙ z in rw (y, z) (ap Some (head-key keys c.key key))
-          at (Symbol s) z = let y = label ∙ z in rw (y, z) (ap Some (head-key keys c.key key))
-          at (Call s) z = let y = label ∙ z in rw (y, z) (ap Some (head-key keys c.key key))
-          at Param z = let y = label ∙ z in rw (y, z) (argument ks gs A h)
-            where
-              argument : (ks : List Key) (gs : List (List Node)) → AreArgs ks gs → length gs ≡ holes_in (c ∷ cs) → key_in ((get_or gs 0 [] ++ copied cs (drop 1 gs) (drop 1 keys)) ++ back) 0 ≡ slice_get ks 0
-              argument [] [] A h = absurd (omega (arith, h, ap hole (label ∙ z)))
-              argument [] (a ∷ gs) A h = absurd A
-              argument (k ∷ ks) [] A h = absurd A
-              argument (k ∷ ks) (a ∷ gs) A h = root-key (a ++ copied cs gs (drop 1 keys)) k back (root-key a k (copied cs gs (drop 1 keys)) A.1)
-
-  pub root-stays : key_at g.rules q 0 ≡ Some follow → key_at h.rules q 0 ≡ Some follow
-  root-stays e = ap (λ (xs : List Node). key_in xs 0) callee-same ∙ e
-
-  -- the same by what the calls tell
-  pub copy-ready : (arguments : List Key) → kids ≡ arguments → (I mid : Linked) → IsIndexOf g I → ((n : ℕ) → (n ≡ call.number) ⊎ IsAmong arguments n → cell mid n ≡ None)
-      → ((n : ℕ) → n ≢ call.number → Apart arguments n → cell mid n ≡ cell I n) → ((n : ℕ) → cell I n ≡ None → cell mid n ≡ None) → mid.rules ≡ I.rules
-      → (first : Option Key) → key_at g.rules q 0 ≡ Some follow → ((s t : ℕ) (n : Node) → slice_get (nodes_at h.rules s) t ≡ Some n → n.key ≡ follow → first ≡ first_came n.label moved arguments)
-      → IsCopyLinked h mid q (Some follow) first
-  copy-ready arguments same I mid A free others keep rules first root came =
-      let free' = subst (λ (ks : List Key). (n : ℕ) → (n ≡ call.number) ⊎ IsAmong ks n → cell mid n ≡ None) (sym same) free in
-      let others' = subst (λ (ks : List Key). (n : ℕ) → n ≢ call.number → Apart ks n → cell mid n ≡ cell I n) (sym same) others in
-      let n = node_of callee 0 follow root in
-      let e : key_at h.rules r p ≡ first =
-      first-came n.0 n.1.0 n.1.1 ∙ ap (first_came n.0.label moved) same ∙ sym (came q 0 n.0 (ap (λ (xs : List Node). slice_get xs 0) callee-same ∙ n.1.0) n.1.1) in
-      copy-begins I mid A free' others' keep rules follow first (root-stays root) e

@@ -1,7 +1,8 @@
 use Rattle.std.proofs.Common.{List, length, ap, arith}
 use Rattle.rule_arena.specs.Terms.{Node}
 use Rattle.rule_pruning.proofs.InlineCalls.{as-call}
-use Rattle.rule_pruning.proofs.NearInlines.{callee-same, copy-ready, in-new, root-stays}
+use Rattle.rule_pruning.proofs.InlinedIndex.{copy-ready, root-stays}
+use Rattle.rule_pruning.proofs.NearInlines.{callee-same, in-new}
 use Rattle.rule_pruning.proofs.inlining.inline_call.Goals as goal
 
 pub kids_of-arguments-requires : goal.kids_of-arguments-requires

@@ -6,7 +6,7 @@ use Rattle.rule_runs.specs.declared.descent.Mark.TheVariants.{Term as MarkTerm, 
 use Rattle.rule_runs.specs.declared.listing.Part.{Part}
 use Rattle.rule_runs.specs.declared.told.Here.{Here}
 use Rattle.rule_runs.specs.declared.told.Told.{Told}
-use Rattle.rule_runs.specs.Cuts.{Stretch, nothing, one, beside}
+use Rattle.rule_runs.specs.Cuts.{Stretch, nothing, beside}
 use Rattle.rule_runs.specs.Tellings.{Tells, IsTelling, AreTold}
 use Rattle.rule_runs.specs.Walks.{Open, Place, Piece, absorbed, after, down_at, places, downs_of, woven_marks}
 use Rattle.rule_runs.specs.Descents.{AreOpen, IsNext, IsAbsorbing}

@@ -1,11 +1,11 @@
 -- What a run downward adds up stays within the value of the rule that it reads.
-use Rattle.std.proofs.Common.{◌≡◌, ℕ, zero, suc, ◌+◌, ◌^◌, ◌<◌, ◌≤◌, List, [], ◌∷◌, ◌++◌, length, get_or, drop, map, sum_by, All, Bool, true, false, if◌then◌else◌, Vec, Global, refl, sym, ap, ◌∙◌, arith, length-append}
+use Rattle.std.proofs.Common.{◌≡◌, ℕ, suc, ◌+◌, ◌^◌, ◌<◌, ◌≤◌, List, [], ◌∷◌, ◌++◌, length, get_or, drop, map, sum_by, All, Bool, true, false, if◌then◌else◌, Vec, Global, refl, ap, ◌∙◌, arith, length-append}
 use Rattle.std.proofs.lemmas.List.{length-map}
 use Rattle.std.proofs.lemmas.List.Elements.{All-append, All-cons, All-nil, All-weaker}
 use Rattle.std.proofs.lemmas.List.Sums.{sum_by-append}
 use Rattle.rule_arena.specs.declared.label.Label.{Label}
 use Rattle.rule_arena.specs.declared.label.Label.TheVariants.{Bottom, Symbol, Call, Param}
-use Rattle.slt_grammar.specs.Algebras.{Algebra, ranks_of}
+use Rattle.slt_grammar.specs.Algebras.{Algebra}
 use Rattle.slt_grammar.specs.Automata.{Downward, handed, hits, hits_from, nodes_in}
 use Rattle.slt_grammar.specs.Grammars.{value_at}
 use Rattle.slt_grammar.specs.Terms.{Term, Leaf, Node, Hole, up}
@@ -22,7 +22,7 @@ use Rattle.rule_runs.specs.declared.told.Told.{Told}
 use Rattle.rule_runs.specs.Cuts.{Stretch, nothing, one, beside, before, joined, cut}
 use Rattle.rule_runs.specs.Descents.{AreOpen, HasRoomAhead, Walks, HasOutcome, ahead}
 use Rattle.rule_runs.specs.Risen.{pair_at}
-use Rattle.rule_runs.specs.Tellings.{HasRoom, Tells, IsTelling}
+use Rattle.rule_runs.specs.Tellings.{HasRoom, Tells}
 use Rattle.rule_runs.specs.Walks.{Open, Place, Piece, absorbed, after, down_at, woven_marks, kids_of, told}
 use Rattle.rule_runs.proofs.Marks.{open-term}
 use Rattle.rule_runs.proofs.NoteLemmas.{note-call}

@@ -10,7 +10,7 @@ use Rattle.slt_grammar.specs.Automata.{Downward, nodes_in}
 use Rattle.slt_grammar.specs.Bodies.{arity, CallsBelow}
 use Rattle.slt_grammar.specs.Grammars.{IsGrammar, body_at, rank_at, value, value_at}
 use Rattle.slt_grammar.specs.Segments.{listed}
-use Rattle.slt_grammar.specs.Terms.{Term, Leaf, Node, Hole, holes, holes_of, up}
+use Rattle.slt_grammar.specs.Terms.{Term, Leaf, Node, Hole, holes_of, up}
 use Rattle.slt_grammar.specs.declared.rules.Rule.{Rule}
 use Rattle.slt_grammar.proofs.Carrying.{up-holes, up-value_at}
 use Rattle.slt_grammar.proofs.Linear.{value_at-linear}

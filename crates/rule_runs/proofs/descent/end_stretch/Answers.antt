@@ -1,4 +1,4 @@
-use Rattle.std.proofs.Common.{◌≡◌, ◌∙◌, ◌++◌, ◌∷◌, [], ap, subst, sym}
+use Rattle.std.proofs.Common.{subst, sym}
 use Rattle.rule_runs.specs.Tellings.{AreTold}
 use Rattle.rule_runs.proofs.Tellings.{told-more, told-push}
 use Rattle.rule_runs.proofs.descent.end_stretch.Goals as goal

@@ -1,7 +1,6 @@
 use Rattle.std.proofs.Common.{◌≡◌, ◌∙◌, ◌∷◌, ap, reverse, length, arith}
 use Rattle.rule_runs.proofs.Lists.{reverse-push, empty_reverse, no_more}
 use Rattle.rule_runs.proofs.Marks.{absorbing-start, absorbing-piece, absorbing-term, absorbing-end}
-use Rattle.rule_runs.specs.Descents.{HasRoomAhead}
 use Rattle.rule_runs.proofs.descent.next_term.Goals as goal
 
 pub marks-init : goal.marks-init

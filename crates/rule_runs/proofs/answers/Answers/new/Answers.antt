@@ -1,4 +1,4 @@
-use Rattle.std.proofs.Common.{◌≡◌, ◌∙◌, ◌∷◌, Vec, sym, ap, reverse, subst}
+use Rattle.std.proofs.Common.{◌≡◌, ◌∙◌, ◌∷◌, sym, ap, reverse, subst}
 use Rattle.rule_runs.specs.Listing.{IsComing, coming}
 use Rattle.rule_runs.proofs.Answering.{coming-first, first-coming, first_levels}
 use Rattle.rule_runs.proofs.Lists.{reverse-push, no_more}

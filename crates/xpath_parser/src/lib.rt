@@ -1,0 +1,6 @@
+//! Queries.
+#![tactic(auto)]
+
+mod error;
+
+pub use error::QueryError;

@@ -2,5 +2,10 @@
 #![tactic(auto)]
 
 mod error;
+mod query;
+mod spelling;
+mod token;
+mod tokens;
 
 pub use error::QueryError;
+pub use query::{Axis, Filter, Filters, Path, Paths, Query, QueryStep, QuerySteps, Test};

@@ -1,0 +1,8 @@
+use Rattle.std.proofs.Common.{rules}
+use Rattle.std.proofs.lemmas.Option.{slice_get-map}
+use Rattle.xpath_parser.proofs.Rows.{steps_rolled, step_list_map}
+use Rattle.xpath_parser.specs.declared.query.Filter.TheViews.{the_lemmas}
+use Rattle.xpath_parser.proofs.query.QuerySteps.get.Goals as goal
+
+pub returns : goal.returns
+returns c = search (rules, the_lemmas, steps_rolled, step_list_map, slice_get-map)

@@ -3,3 +3,8 @@ pub mod Queries
 pub mod Shown
 pub mod Names
 pub mod Tokens
+pub mod Trees
+pub mod Grammar
+pub mod Limits
+pub mod Run
+pub mod Spelled

@@ -2,6 +2,8 @@
 #![tactic(auto)]
 
 mod error;
+mod machine;
+mod postfix;
 mod query;
 mod spelling;
 mod token;

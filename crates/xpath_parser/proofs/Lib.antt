@@ -1,2 +1,4 @@
 pub mod NameLemmas
 pub mod Rows
+pub mod ListRun
+pub mod Complete

@@ -22,15 +22,15 @@ pub data IsTest : Asked → List Token → List Token → Type 0 where
 mutual
   -- the steps before a step (2, 2.5): none, those for which a front '/' or '//' stands, or some with '/' or '//' behind them
   pub data Leads : Side → Steps → List Token → List Token → Type 0 where
-    at_front : (s : Side) (a : List Token) → Leads s no_steps a a
+    at_front : (side : Side) (a : List Token) → Leads side no_steps a a
     at_root : (a : List Token) → Leads Outer no_steps (tokens.Slash ∷ a) a
     below_root : (a : List Token) → Leads Outer (then_below no_steps) (tokens.Slashes ∷ a) a
-    after_slash : (s : Side) (ss : Steps) (a b : List Token) → IsSteps s ss a (tokens.Slash ∷ b) → Leads s ss a b
-    after_slashes : (s : Side) (ss : Steps) (a b : List Token) → IsSteps s ss a (tokens.Slashes ∷ b) → Leads s (then_below ss) a b
+    after_slash : (side : Side) (ss : Steps) (a b : List Token) → IsSteps side ss a (tokens.Slash ∷ b) → Leads side ss a b
+    after_slashes : (side : Side) (ss : Steps) (a b : List Token) → IsSteps side ss a (tokens.Slashes ∷ b) → Leads side (then_below ss) a b
 
   -- RelativeLocationPath (2), behind what leads to it: one step or more
   pub data IsSteps : Side → Steps → List Token → List Token → Type 0 where
-    steps_of : (s : Side) (ss : Steps) (x : Axis) (t : Asked) (fs : Filters) (a b c : List Token) → Leads s ss a b → IsStep x t fs b c → IsSteps s (then_step ss x t fs) a c
+    steps_of : (side : Side) (ss : Steps) (x : Axis) (t : Asked) (fs : Filters) (a b c : List Token) → Leads side ss a b → IsStep x t fs b c → IsSteps side (then_step ss x t fs) a c
 
   -- Step (2.1, 2.5): step = '.' | (axis '::' | '@')? test filter*
   pub data IsStep : Axis → Asked → Filters → List Token → List Token → Type 0 where
@@ -63,10 +63,10 @@ mutual
 
   -- LocationPath (2): path = '/' | '/' steps | '//' steps | steps at the top, and steps inside filters
   pub data IsPath : Side → Steps → List Token → List Token → Type 0 where
-    path_of : (s : Side) (ss : Steps) (a b : List Token) → IsSteps s ss a b → IsPath s ss a b
+    path_of : (side : Side) (ss : Steps) (a b : List Token) → IsSteps side ss a b → IsPath side ss a b
     the_root : (a : List Token) → IsPath Outer no_steps (tokens.Slash ∷ a) a
 
   -- UnionExpr (3.3): path ('|' path)*
   pub data IsPaths : Side → Paths → List Token → List Token → Type 0 where
-    one_path : (s : Side) (ss : Steps) (a b : List Token) → IsPath s ss a b → IsPaths s (first_path ss) a b
-    more_paths : (s : Side) (ps : Paths) (ss : Steps) (a b c : List Token) → IsPaths s ps a (tokens.Bar ∷ b) → IsPath s ss b c → IsPaths s (then_path ps ss) a c
+    one_path : (side : Side) (ss : Steps) (a b : List Token) → IsPath side ss a b → IsPaths side (first_path ss) a b
+    more_paths : (side : Side) (ps : Paths) (ss : Steps) (a b c : List Token) → IsPaths side ps a (tokens.Bar ∷ b) → IsPath side ss b c → IsPaths side (then_path ps ss) a c

@@ -5,3 +5,4 @@ pub mod Complete
 pub mod Sound
 pub mod Kept
 pub mod Counting
+pub mod Built

@@ -8,3 +8,6 @@ pub mod Grammar
 pub mod Limits
 pub mod Run
 pub mod Spelled
+pub mod Meant
+pub mod Work
+pub mod Laws

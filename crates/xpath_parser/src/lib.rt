@@ -1,6 +1,7 @@
 //! Queries.
 #![tactic(auto)]
 
+mod building;
 mod error;
 mod machine;
 mod postfix;

@@ -6,3 +6,5 @@ pub mod Sound
 pub mod Kept
 pub mod Counting
 pub mod Built
+pub mod Lexing
+pub mod Feeding

@@ -5,7 +5,7 @@ use Rattle.xpath_parser.specs.declared.postfix.Op.{Op}
 use Rattle.xpath_parser.specs.declared.postfix.Op.TheVariants as ops
 use Rattle.xpath_parser.specs.declared.postfix.Counts.{Counts}
 use Rattle.xpath_parser.specs.declared.postfix.Postfix.{Postfix}
-use Rattle.xpath_parser.specs.Trees.{Steps, no_steps, then_step, Filters, no_filters, then_filter, Filter, Either, Both, Never, Told, Found, Paths, first_path, then_path}
+use Rattle.xpath_parser.specs.Trees.{Steps, no_steps, then_step, Filters, no_filters, then_filter, Filter, Either, Both, Never, Told, Found, Paths, first_path, then_path, code_of}
 
 -- the steps of paths, those in their filters aside
 abbrev pub steps_outside : Steps → ℕ
@@ -73,6 +73,7 @@ pub record Noted : Type 0 where
   pub counts : Counts
   pub ops : List Op
 
+-- with these counts
 abbrev pub within : Counts → List Op → Option Noted
 within c o = if is_past c then None else Some (record { counts = c; ops = o })
 
@@ -81,8 +82,14 @@ unfoldable pub noted : Op → Option Noted → Option Noted
 noted op None = None
 noted op (Some n) = within (counted op n.counts) (op ∷ n.ops)
 
+-- what is noted of a query
+abbrev pub noted_query : Paths → Option Noted
+noted_query ps = within (record { outer = outside ps; inner = inside ps }) (code_of ps)
+
+-- of nothing yet
 abbrev pub none_noted : Option Noted
 none_noted = Some (record { counts = record { outer = 0; inner = 0 }; ops = [] })
 
+-- what the program has noted
 abbrev pub noted_of : Postfix → Option Noted
 noted_of p = if p.past then None else Some (record { counts = p.counts; ops = reverse p.ops.items })

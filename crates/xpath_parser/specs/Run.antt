@@ -1,6 +1,8 @@
 -- The machine that reads tokens. It has a stack of its own and writes postfix code, which it never reads: so the code may be kept in any form.
-use Rattle.std.specs.Prelude.{List, [], ◌∷◌, Bool, true, false, Option, Some, None, reverse}
-use Rattle.xpath_parser.specs.Limits.{Noted, noted_of}
+use Rattle.std.specs.Prelude.{◌≡◌, ℕ, List, [], ◌∷◌, Bool, true, false, Option, Some, None, reverse}
+use Rattle.plain_tree.specs.XmlNames.{is_space}
+use Rattle.xml_tokens.specs.Cutting.{back}
+use Rattle.xpath_parser.specs.Limits.{Noted, noted, noted_of}
 use Rattle.xpath_parser.specs.declared.query.Axis.{Axis}
 use Rattle.xpath_parser.specs.declared.query.Axis.TheVariants as axes
 use Rattle.xpath_parser.specs.declared.token.Asked.TheVariants as tests
@@ -167,3 +169,16 @@ module _ {Code : Type 0} (write : Op → Code → Code) where
 -- before the first token
 abbrev pub start : {Code : Type 0} → Code → Option (At Code)
 start o = moved modes.PathWanted [] o
+
+-- no token stands at the front of the bytes, or the machine refuses it
+abbrev pub Refuses : At (Option Noted) → Option (Token × List ℕ) → Type 0
+Refuses m None = Unit {0}
+Refuses m (Some p) = step noted m p.0 ≡ None
+
+-- the machine has read the token at the front of the bytes, and this follows it
+pub record Takes (old new : At (Option Noted)) (found : Option (Token × List ℕ)) (rest : List ℕ) : Type 0 where
+  pub token : Token
+  pub after : List ℕ
+  pub is : found ≡ Some (token, after)
+  pub skipped : rest ≡ back is_space after
+  pub read : step noted old token ≡ Some new

@@ -11,3 +11,5 @@ pub mod Spelled
 pub mod Meant
 pub mod Work
 pub mod Laws
+pub mod Numbering
+pub mod Meaning

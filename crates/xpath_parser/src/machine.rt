@@ -11,14 +11,14 @@ use std::alloc::{AllocError, Global};
 
 /// Whether operands of `or` and of `and` stand before.
 #[derive(Clone, Copy, Debug, PartialEq, Eq)]
-pub struct Level {
+pub(crate) struct Level {
     pub ors: bool,
     pub ands: bool,
 }
 
 /// Where a path stands.
 #[derive(Clone, Copy, Debug, PartialEq, Eq)]
-pub enum Place {
+pub(crate) enum Place {
     Top,
     Inside(Level),
 }
@@ -46,7 +46,7 @@ impl Place {
 
 /// What is open.
 #[derive(Clone, Copy, Debug, PartialEq, Eq)]
-pub enum Frame {
+pub(crate) enum Frame {
     Bracket(Place),
     Parens(Level),
     NotParens(Level),
@@ -54,7 +54,7 @@ pub enum Frame {
 
 /// What is to come, or has just ended.
 #[derive(Clone, Copy, Debug, PartialEq, Eq)]
-pub enum Mode {
+pub(crate) enum Mode {
     PathWanted,
     Rooted,
     StepWanted(Place),
@@ -67,7 +67,7 @@ pub enum Mode {
 
 /// The machine that reads tokens.
 #[derive(Drop)]
-pub struct Machine {
+pub(crate) struct Machine {
     pub mode: Mode,
     pub frames: Vec<Frame>,
     pub postfix: Postfix,

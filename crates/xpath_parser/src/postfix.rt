@@ -11,14 +11,14 @@ const LIMIT: usize = 64;
 
 /// Whether a path stands outside filters or inside.
 #[derive(Clone, Copy, Debug, PartialEq, Eq)]
-pub enum Side {
+pub(crate) enum Side {
     Outer,
     Inner,
 }
 
 /// One operation of the postfix code.
 #[derive(Clone, Copy, Debug, PartialEq, Eq)]
-pub enum Op {
+pub(crate) enum Op {
     /// A step with no filters is added to the path.
     Step(Side, Axis, Asked),
     /// The last truth filters the path's last step.
@@ -37,7 +37,7 @@ pub enum Op {
 
 /// The steps outside filters, and the parts inside.
 #[derive(Clone, Copy, Debug, PartialEq, Eq)]
-pub struct Counts {
+pub(crate) struct Counts {
     pub outer: usize,
     pub inner: usize,
 }
@@ -95,7 +95,7 @@ impl Counts {
 
 /// The code that was written. Once it is past the limits no more of it is kept.
 #[derive(Drop)]
-pub struct Postfix {
+pub(crate) struct Postfix {
     pub ops: Vec<Op>,
     pub counts: Counts,
     pub past: bool,

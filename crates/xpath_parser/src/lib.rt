@@ -2,6 +2,7 @@
 #![tactic(auto)]
 
 mod building;
+mod display;
 mod error;
 mod laws;
 mod machine;

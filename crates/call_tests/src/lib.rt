@@ -11,6 +11,8 @@ mod nodes;
 #[cfg(test)]
 mod outside;
 #[cfg(test)]
+mod queries;
+#[cfg(test)]
 mod scripts;
 #[cfg(test)]
 mod texts;

@@ -1,4 +1,9 @@
-//! Queries.
+//! Queries: a profile of XPath 1.0, from bytes to a query with its abbreviations written out.
+//!
+//! `parse` answers a `Query`, or says why there is none. Names and white space (`spelling`) are cut into tokens (`token`,
+//! `tokens`). A machine with a stack of its own (`machine`) is fed one token after another (`reading`) and writes postfix code
+//! (`postfix`), which is kept within the limits only: so whatever is bad or large makes no tree and takes no stack. From the code
+//! the query is built (`building`, `query`), and `display` writes it out.
 #![tactic(auto)]
 
 mod building;

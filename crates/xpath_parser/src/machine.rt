@@ -98,6 +98,15 @@ impl Machine {
         self.postfix.write(op)
     }
 
+    /// Writes the step for which `//` stands.
+    fn write_below(&mut self, side: Side) -> Result<(), AllocError>
+        ensures code { OnOk result (noted_of self.new.postfix ≡ noted (Op.Step side Axis.DescendantOrSelf Asked.AnyNode) (noted_of self.old.postfix)) }
+        ensures frames { OnOk result (self.new.frames ≡ self.old.frames) }
+    {
+        self.write(Op::Step(side, Axis::DescendantOrSelf, Asked::AnyNode))
+    }
+
+    /// Writes the operations of the operands that wait.
     fn write_level(&mut self, level: Level) -> Result<(), AllocError>
         ensures code { OnOk result (noted_of self.new.postfix ≡ level_on noted level (noted_of self.old.postfix)) }
         ensures frames { OnOk result (self.new.frames ≡ self.old.frames) }
@@ -215,11 +224,7 @@ impl Machine {
                 Ok(())
             }
             Token::Slashes => {
-                self.write(Op::Step(
-                    place.side(),
-                    Axis::DescendantOrSelf,
-                    Asked::AnyNode,
-                ))?;
+                self.write_below(place.side())?;
                 self.mode = Mode::StepWanted(place);
                 Ok(())
             }
@@ -315,11 +320,7 @@ impl Machine {
                 Ok(())
             }
             Token::Slashes => {
-                self.write(Op::Step(
-                    Side::Outer,
-                    Axis::DescendantOrSelf,
-                    Asked::AnyNode,
-                ))?;
+                self.write_below(Side::Outer)?;
                 self.mode = Mode::StepWanted(Place::Top);
                 Ok(())
             }

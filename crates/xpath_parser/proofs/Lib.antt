@@ -8,3 +8,4 @@ pub mod Counting
 pub mod Built
 pub mod Lexing
 pub mod Feeding
+pub mod NameLaws

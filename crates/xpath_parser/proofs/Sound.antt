@@ -18,7 +18,7 @@ use Rattle.xpath_parser.specs.declared.machine.Frame.{Frame}
 use Rattle.xpath_parser.specs.declared.machine.Frame.TheVariants as frames
 use Rattle.xpath_parser.specs.declared.machine.Mode.{Mode}
 use Rattle.xpath_parser.specs.declared.machine.Mode.TheVariants as modes
-use Rattle.xpath_parser.specs.Trees.{Steps, no_steps, then_step, Filters, no_filters, then_filter, Filter, Either, Both, Never, Told, Found, Paths, first_path, then_path, then_below, steps_on, filters_on, filter_on, paths_on, code_of}
+use Rattle.xpath_parser.specs.Trees.{Steps, no_steps, then_step, Filters, no_filters, then_filter, Filter, Either, Both, Negated, Told, Found, Paths, first_path, then_path, then_below, steps_on, filters_on, filter_on, paths_on, code_of}
 use Rattle.xpath_parser.specs.Grammar.{a_kind, a_name, a_name_and, a_name_or, Leads, at_front, at_root, below_root, after_slash, after_slashes, steps_of, IsStep, a_dot, a_tested, IsTested, with_axis, without_axis, with_filter, IsOr, or_of, or_more, IsAnd, and_of, and_more, IsUnit, a_truth, in_parens, negated, a_search, IsPath, path_of, the_root, IsPaths, one_path, more_paths}
 use Rattle.xpath_parser.specs.Run.{first_level, path_wanted, side_of}
 use Rattle.xpath_parser.proofs.ListRun.{At, ands_on, ors_on, level_on, closed_parens, closed_filter, after_unit, after_paths, after_step, after_test, test_wanted, step_wanted, unit_wanted, first_wanted, after_root, step, ended_path, ended, run, start}
@@ -119,7 +119,7 @@ IsSound all (Some s) ts = Sound all s.mode s.frames s.code ts
 or-closed : (all : List Token) (fs : List Frame) (o : List Op) (ts : List Token) → OrDoneAt all fs (tokens.Close ∷ ts) o → IsSound all (closed_parens fs o) ts
 or-closed _ _ _ ts (or_done_at _ _ f _ _ _ (in_bracket all p fs d t gs a b o s i) r) = tt
 or-closed _ _ _ ts (or_done_at _ _ f _ _ _ (in_paren all l fs a o u) r) = done_at all l fs f (tokens.Open ∷ a) ts o u (in_parens f a ts r)
-or-closed _ _ _ ts (or_done_at _ _ f _ _ _ (in_not all l fs a o u) r) = done_at all l fs (Never f) (tokens.NotOpen ∷ a) ts o u (negated f a ts r)
+or-closed _ _ _ ts (or_done_at _ _ f _ _ _ (in_not all l fs a o u) r) = done_at all l fs (Negated f) (tokens.NotOpen ∷ a) ts o u (negated f a ts r)
 
 filter-closed : (all : List Token) (fs : List Frame) (o : List Op) (ts : List Token) → OrDoneAt all fs (tokens.CloseFilter ∷ ts) o → IsSound all (closed_filter fs o) ts
 filter-closed _ _ _ ts (or_done_at _ _ f _ _ _ (in_bracket all p fs d t gs a b o s i) r) = tested_at all p fs d t (then_filter gs f) a ts o s (with_filter d t gs f a b ts i r)

@@ -10,7 +10,7 @@ use Rattle.xpath_parser.specs.declared.token.Asked.TheVariants as tests
 use Rattle.xpath_parser.specs.declared.token.Span.{Span}
 use Rattle.xpath_parser.specs.declared.token.Token.{Token}
 use Rattle.xpath_parser.specs.declared.token.Token.TheVariants as tokens
-use Rattle.xpath_parser.specs.Trees.{Steps, no_steps, then_step, Filters, no_filters, then_filter, Filter, Either, Both, Never, Told, Found, Paths, first_path, then_path, then_below}
+use Rattle.xpath_parser.specs.Trees.{Steps, no_steps, then_step, Filters, no_filters, then_filter, Filter, Either, Both, Negated, Told, Found, Paths, first_path, then_path, then_below}
 
 -- NodeTest (2.3): test = '*' | qname | ('node' | 'text' | 'comment' | 'processing-instruction') '(' ')'
 pub data IsTest : Asked → List Token → List Token → Type 0 where
@@ -58,7 +58,7 @@ mutual
   pub data IsUnit : Filter → List Token → List Token → Type 0 where
     a_truth : (t : Bool) (a : List Token) → IsUnit (Told t) (tokens.Truth t ∷ a) a
     in_parens : (f : Filter) (a b : List Token) → IsOr f a (tokens.Close ∷ b) → IsUnit f (tokens.Open ∷ a) b
-    negated : (f : Filter) (a b : List Token) → IsOr f a (tokens.Close ∷ b) → IsUnit (Never f) (tokens.NotOpen ∷ a) b
+    negated : (f : Filter) (a b : List Token) → IsOr f a (tokens.Close ∷ b) → IsUnit (Negated f) (tokens.NotOpen ∷ a) b
     a_search : (ps : Paths) (a b : List Token) → IsPaths Inner ps a b → IsUnit (Found ps) a b
 
   -- LocationPath (2): path = '/' | '/' steps | '//' steps | steps at the top, and steps inside filters

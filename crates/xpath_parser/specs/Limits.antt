@@ -5,7 +5,7 @@ use Rattle.xpath_parser.specs.declared.postfix.Op.{Op}
 use Rattle.xpath_parser.specs.declared.postfix.Op.TheVariants as ops
 use Rattle.xpath_parser.specs.declared.postfix.Counts.{Counts}
 use Rattle.xpath_parser.specs.declared.postfix.Postfix.{Postfix}
-use Rattle.xpath_parser.specs.Trees.{Steps, no_steps, then_step, Filters, no_filters, then_filter, Filter, Either, Both, Never, Told, Found, Paths, first_path, then_path, code_of}
+use Rattle.xpath_parser.specs.Trees.{Steps, no_steps, then_step, Filters, no_filters, then_filter, Filter, Either, Both, Negated, Told, Found, Paths, first_path, then_path, code_of}
 
 -- the steps of paths, those in their filters aside
 abbrev pub steps_outside : Steps → ℕ
@@ -25,7 +25,7 @@ abbrev mutual
   pub parts_of_filter : Filter → ℕ
   parts_of_filter (Either f g) = (parts_of_filter f + parts_of_filter g) + 1
   parts_of_filter (Both f g) = (parts_of_filter f + parts_of_filter g) + 1
-  parts_of_filter (Never f) = parts_of_filter f + 1
+  parts_of_filter (Negated f) = parts_of_filter f + 1
   parts_of_filter (Told b) = 1
   parts_of_filter (Found ps) = parts_of_paths ps
 

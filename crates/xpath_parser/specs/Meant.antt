@@ -6,7 +6,7 @@ use Rattle.xpath_parser.specs.declared.token.Asked.TheVariants as tests
 use Rattle.xpath_parser.specs.declared.token.Span.{Span}
 use Rattle.xpath_parser.specs.declared.postfix.Op.{Op}
 use Rattle.xpath_parser.specs.declared.postfix.Op.TheVariants as ops
-use Rattle.xpath_parser.specs.Trees.{Steps, no_steps, then_step, Filters, no_filters, then_filter, Filter, Either, Both, Never, Told, Found, Paths, first_path, then_path}
+use Rattle.xpath_parser.specs.Trees.{Steps, no_steps, then_step, Filters, no_filters, then_filter, Filter, Either, Both, Negated, Told, Found, Paths, first_path, then_path}
 use Rattle.xpath_parser.specs.Queries as queries
 use Rattle.xpath_parser.specs.Queries.{with_step, with_filter, with_path, filtered}
 
@@ -41,7 +41,7 @@ abbrev mutual
   pub meant_filter : List ℕ → Filter → queries.Filter
   meant_filter b (Either f g) = queries.Or (meant_filter b f) (meant_filter b g)
   meant_filter b (Both f g) = queries.And (meant_filter b f) (meant_filter b g)
-  meant_filter b (Never f) = queries.Not (meant_filter b f)
+  meant_filter b (Negated f) = queries.Not (meant_filter b f)
   meant_filter b (Told t) = told t
   meant_filter b (Found ps) = queries.Exists (meant_paths b ps)
 

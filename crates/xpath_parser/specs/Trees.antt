@@ -10,26 +10,30 @@ use Rattle.xpath_parser.specs.declared.postfix.Op.{Op}
 use Rattle.xpath_parser.specs.declared.postfix.Op.TheVariants as ops
 
 mutual
+  -- the steps of a path
   pub data Steps : Type 0 where
     no_steps : Steps
     then_step : Steps → Axis → Asked → Filters → Steps
 
+  -- the filters of a step
   pub data Filters : Type 0 where
     no_filters : Filters
     then_filter : Filters → Filter → Filters
 
+  -- one filter: `or`, `and`, `not`, a truth, or paths that lead somewhere
   pub data Filter : Type 0 where
     Either : Filter → Filter → Filter
     Both : Filter → Filter → Filter
-    Never : Filter → Filter
+    Negated : Filter → Filter
     Told : Bool → Filter
     Found : Paths → Filter
 
+  -- the paths with `|` between them
   pub data Paths : Type 0 where
     first_path : Steps → Paths
     then_path : Paths → Steps → Paths
 
--- the steps with the one for which `//` stands
+-- the steps with the one for which `//` stands (XPath 1.0, 2.5)
 abbrev pub then_below : Steps → Steps
 then_below ss = then_step ss axes.DescendantOrSelf tests.AnyNode no_filters
 
@@ -46,7 +50,7 @@ abbrev mutual
   pub filter_on : Filter → List Op → List Op
   filter_on (Either f g) o = ops.Or ∷ filter_on g (filter_on f o)
   filter_on (Both f g) o = ops.And ∷ filter_on g (filter_on f o)
-  filter_on (Never f) o = ops.Not ∷ filter_on f o
+  filter_on (Negated f) o = ops.Not ∷ filter_on f o
   filter_on (Told b) o = ops.Truth b ∷ o
   filter_on (Found ps) o = ops.Exists ∷ paths_on sides.Inner ps (ops.Begin ∷ o)
 

@@ -20,6 +20,6 @@ mod token;
 mod tokens;
 
 pub use error::QueryError;
-pub use laws::spells_one;
+pub use laws::{names_are_qnames, spells_one};
 pub use parsing::parse;
 pub use query::{Axis, Filter, Filters, Path, Paths, Query, QueryStep, QuerySteps, Test};

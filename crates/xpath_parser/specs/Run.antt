@@ -27,8 +27,15 @@ pub record At (Code : Type 0) : Type 0 where
   pub frames : List Frame
   pub code : Code
 
+abbrev pub frames_of : Machine → List Frame
+frames_of m = reverse m.frames.items
+
+abbrev pub code_in : Machine → Option Noted
+code_in m = noted_of m.postfix
+
+-- where the program's machine is
 abbrev pub at_of : Machine → At (Option Noted)
-at_of m = record { mode = m.mode; frames = reverse m.frames.items; code = noted_of m.postfix }
+at_of m = record { mode = m.mode; frames = frames_of m; code = code_in m }
 
 abbrev pub moved : {Code : Type 0} → Mode → List Frame → Code → Option (At Code)
 moved m fs o = Some (record { mode = m; frames = fs; code = o })

@@ -1,7 +1,7 @@
 // The machine that reads a query's tokens. It keeps a stack of its own, and holds no tree.
-ghost use Rattle.std.specs.Prelude.{◌≡◌, ◌∷◌, reverse, OnOk, Some, None, if◌then◌else◌};
-ghost use Rattle.xpath_parser.specs.Limits.{noted, noted_of, none_noted};
-ghost use Rattle.xpath_parser.specs.Run.{step, at_of, start, ended, side_of, path_wanted, level_on, closed_parens, closed_filter, after_unit, after_paths, after_step, after_test, test_wanted, step_wanted, unit_wanted, first_wanted, after_root};
+ghost use Rattle.std.specs.Prelude.{◌≡◌, ◌∷◌, OnOk, Some, None, if◌then◌else◌};
+ghost use Rattle.xpath_parser.specs.Limits.{noted, none_noted};
+ghost use Rattle.xpath_parser.specs.Run.{step, at_of, frames_of, code_in, start, ended, side_of, path_wanted, level_on, closed_parens, closed_filter, after_unit, after_paths, after_step, after_test, test_wanted, step_wanted, unit_wanted, first_wanted, after_root};
 
 use crate::error::ReadError;
 use crate::postfix::{Op, Postfix, Side};
@@ -92,7 +92,7 @@ impl Machine {
     }
 
     fn write(&mut self, op: Op) -> Result<(), AllocError>
-        ensures code { OnOk result (noted_of self.new.postfix ≡ noted op (noted_of self.old.postfix)) }
+        ensures code { OnOk result (code_in self.new ≡ noted op (code_in self.old)) }
         ensures frames { OnOk result (self.new.frames ≡ self.old.frames) }
     {
         self.postfix.write(op)
@@ -100,7 +100,7 @@ impl Machine {
 
     /// Writes the step for which `//` stands.
     fn write_below(&mut self, side: Side) -> Result<(), AllocError>
-        ensures code { OnOk result (noted_of self.new.postfix ≡ noted (Op.Step side Axis.DescendantOrSelf Asked.AnyNode) (noted_of self.old.postfix)) }
+        ensures code { OnOk result (code_in self.new ≡ noted (Op.Step side Axis.DescendantOrSelf Asked.AnyNode) (code_in self.old)) }
         ensures frames { OnOk result (self.new.frames ≡ self.old.frames) }
     {
         self.write(Op::Step(side, Axis::DescendantOrSelf, Asked::AnyNode))
@@ -108,7 +108,7 @@ impl Machine {
 
     /// Writes the operations of the operands that wait.
     fn write_level(&mut self, level: Level) -> Result<(), AllocError>
-        ensures code { OnOk result (noted_of self.new.postfix ≡ level_on noted level (noted_of self.old.postfix)) }
+        ensures code { OnOk result (code_in self.new ≡ level_on noted level (code_in self.old)) }
         ensures frames { OnOk result (self.new.frames ≡ self.old.frames) }
     {
         if level.ands {
@@ -121,7 +121,7 @@ impl Machine {
     }
 
     fn open(&mut self, frame: Frame) -> Result<(), AllocError>
-        ensures moved { OnOk result (at_of self.new ≡ record { mode = Mode.UnitWanted FIRST; frames = frame ∷ reverse self.old.frames.items; code = noted_of self.old.postfix }) }
+        ensures moved { OnOk result (at_of self.new ≡ record { mode = Mode.UnitWanted FIRST; frames = frame ∷ frames_of self.old; code = code_in self.old }) }
     {
         self.frames.push(frame)?;
         self.mode = Mode::UnitWanted(FIRST);
@@ -129,8 +129,8 @@ impl Machine {
     }
 
     fn close_parens(&mut self) -> Result<(), ReadError>
-        ensures read { OnOk result (closed_parens noted (reverse self.old.frames.items) (noted_of self.old.postfix) ≡ Some (at_of self.new)) }
-        ensures bad { result ≡ Err ReadError.Bad → closed_parens noted (reverse self.old.frames.items) (noted_of self.old.postfix) ≡ None }
+        ensures read { OnOk result (closed_parens noted (frames_of self.old) (code_in self.old) ≡ Some (at_of self.new)) }
+        ensures bad { result ≡ Err ReadError.Bad → closed_parens noted (frames_of self.old) (code_in self.old) ≡ None }
     {
         match self.frames.pop() {
             Some(Frame::Parens(level)) => {
@@ -148,8 +148,8 @@ impl Machine {
     }
 
     fn close_filter(&mut self) -> Result<(), ReadError>
-        ensures read { OnOk result (closed_filter noted (reverse self.old.frames.items) (noted_of self.old.postfix) ≡ Some (at_of self.new)) }
-        ensures bad { result ≡ Err ReadError.Bad → closed_filter noted (reverse self.old.frames.items) (noted_of self.old.postfix) ≡ None }
+        ensures read { OnOk result (closed_filter noted (frames_of self.old) (code_in self.old) ≡ Some (at_of self.new)) }
+        ensures bad { result ≡ Err ReadError.Bad → closed_filter noted (frames_of self.old) (code_in self.old) ≡ None }
     {
         match self.frames.pop() {
             Some(Frame::Bracket(place)) => {
@@ -165,8 +165,8 @@ impl Machine {
 
     /// A unit has ended.
     fn after_unit(&mut self, level: Level, token: Token) -> Result<(), ReadError>
-        ensures read { OnOk result (after_unit noted level (reverse self.old.frames.items) (noted_of self.old.postfix) token ≡ Some (at_of self.new)) }
-        ensures bad { result ≡ Err ReadError.Bad → after_unit noted level (reverse self.old.frames.items) (noted_of self.old.postfix) token ≡ None }
+        ensures read { OnOk result (after_unit noted level (frames_of self.old) (code_in self.old) token ≡ Some (at_of self.new)) }
+        ensures bad { result ≡ Err ReadError.Bad → after_unit noted level (frames_of self.old) (code_in self.old) token ≡ None }
     {
         match token {
             Token::AndWord(_) => {
@@ -201,8 +201,8 @@ impl Machine {
 
     /// The paths of a filter have ended, or the token doesn't belong there.
     fn after_paths(&mut self, place: Place, token: Token) -> Result<(), ReadError>
-        ensures read { OnOk result (after_paths noted place (reverse self.old.frames.items) (noted_of self.old.postfix) token ≡ Some (at_of self.new)) }
-        ensures bad { result ≡ Err ReadError.Bad → after_paths noted place (reverse self.old.frames.items) (noted_of self.old.postfix) token ≡ None }
+        ensures read { OnOk result (after_paths noted place (frames_of self.old) (code_in self.old) token ≡ Some (at_of self.new)) }
+        ensures bad { result ≡ Err ReadError.Bad → after_paths noted place (frames_of self.old) (code_in self.old) token ≡ None }
     {
         match place {
             Place::Top => Err(ReadError::Bad),
@@ -215,8 +215,8 @@ impl Machine {
 
     /// A step has ended, and can take no filter.
     fn after_step(&mut self, place: Place, token: Token) -> Result<(), ReadError>
-        ensures read { OnOk result (after_step noted place (reverse self.old.frames.items) (noted_of self.old.postfix) token ≡ Some (at_of self.new)) }
-        ensures bad { result ≡ Err ReadError.Bad → after_step noted place (reverse self.old.frames.items) (noted_of self.old.postfix) token ≡ None }
+        ensures read { OnOk result (after_step noted place (frames_of self.old) (code_in self.old) token ≡ Some (at_of self.new)) }
+        ensures bad { result ≡ Err ReadError.Bad → after_step noted place (frames_of self.old) (code_in self.old) token ≡ None }
     {
         match token {
             Token::Slash => {
@@ -239,8 +239,8 @@ impl Machine {
 
     /// A test has ended, or a filter of its step.
     fn after_test(&mut self, place: Place, token: Token) -> Result<(), ReadError>
-        ensures read { OnOk result (after_test noted place (reverse self.old.frames.items) (noted_of self.old.postfix) token ≡ Some (at_of self.new)) }
-        ensures bad { result ≡ Err ReadError.Bad → after_test noted place (reverse self.old.frames.items) (noted_of self.old.postfix) token ≡ None }
+        ensures read { OnOk result (after_test noted place (frames_of self.old) (code_in self.old) token ≡ Some (at_of self.new)) }
+        ensures bad { result ≡ Err ReadError.Bad → after_test noted place (frames_of self.old) (code_in self.old) token ≡ None }
     {
         match token {
             Token::OpenFilter => Ok(self.open(Frame::Bracket(place))?),
@@ -249,7 +249,7 @@ impl Machine {
     }
 
     fn take_test(&mut self, place: Place, axis: Axis, asked: Asked) -> Result<(), AllocError>
-        ensures moved { OnOk result (at_of self.new ≡ record { mode = Mode.Tested place; frames = (reverse self.old.frames.items); code = noted (Op.Step (side_of place) axis asked) (noted_of self.old.postfix) }) }
+        ensures moved { OnOk result (at_of self.new ≡ record { mode = Mode.Tested place; frames = frames_of self.old; code = noted (Op.Step (side_of place) axis asked) (code_in self.old) }) }
     {
         self.write(Op::Step(place.side(), axis, asked))?;
         self.mode = Mode::Tested(place);
@@ -258,8 +258,8 @@ impl Machine {
 
     /// A test is to come.
     fn test_wanted(&mut self, place: Place, axis: Axis, token: Token) -> Result<(), ReadError>
-        ensures read { OnOk result (test_wanted noted place axis (reverse self.old.frames.items) (noted_of self.old.postfix) token ≡ Some (at_of self.new)) }
-        ensures bad { result ≡ Err ReadError.Bad → test_wanted noted place axis (reverse self.old.frames.items) (noted_of self.old.postfix) token ≡ None }
+        ensures read { OnOk result (test_wanted noted place axis (frames_of self.old) (code_in self.old) token ≡ Some (at_of self.new)) }
+        ensures bad { result ≡ Err ReadError.Bad → test_wanted noted place axis (frames_of self.old) (code_in self.old) token ≡ None }
     {
         match token {
             Token::Asks(asked) => Ok(self.take_test(place, axis, asked)?),
@@ -272,8 +272,8 @@ impl Machine {
 
     /// A step is to come.
     fn step_wanted(&mut self, place: Place, token: Token) -> Result<(), ReadError>
-        ensures read { OnOk result (step_wanted noted place (reverse self.old.frames.items) (noted_of self.old.postfix) token ≡ Some (at_of self.new)) }
-        ensures bad { result ≡ Err ReadError.Bad → step_wanted noted place (reverse self.old.frames.items) (noted_of self.old.postfix) token ≡ None }
+        ensures read { OnOk result (step_wanted noted place (frames_of self.old) (code_in self.old) token ≡ Some (at_of self.new)) }
+        ensures bad { result ≡ Err ReadError.Bad → step_wanted noted place (frames_of self.old) (code_in self.old) token ≡ None }
     {
         match token {
             Token::Along(axis) => {
@@ -291,8 +291,8 @@ impl Machine {
 
     /// A unit is to come.
     fn unit_wanted(&mut self, level: Level, token: Token) -> Result<(), ReadError>
-        ensures read { OnOk result (unit_wanted noted level (reverse self.old.frames.items) (noted_of self.old.postfix) token ≡ Some (at_of self.new)) }
-        ensures bad { result ≡ Err ReadError.Bad → unit_wanted noted level (reverse self.old.frames.items) (noted_of self.old.postfix) token ≡ None }
+        ensures read { OnOk result (unit_wanted noted level (frames_of self.old) (code_in self.old) token ≡ Some (at_of self.new)) }
+        ensures bad { result ≡ Err ReadError.Bad → unit_wanted noted level (frames_of self.old) (code_in self.old) token ≡ None }
     {
         match token {
             Token::Open => Ok(self.open(Frame::Parens(level))?),
@@ -311,8 +311,8 @@ impl Machine {
 
     /// A path at the top is to come.
     fn first_wanted(&mut self, token: Token) -> Result<(), ReadError>
-        ensures read { OnOk result (first_wanted noted (reverse self.old.frames.items) (noted_of self.old.postfix) token ≡ Some (at_of self.new)) }
-        ensures bad { result ≡ Err ReadError.Bad → first_wanted noted (reverse self.old.frames.items) (noted_of self.old.postfix) token ≡ None }
+        ensures read { OnOk result (first_wanted noted (frames_of self.old) (code_in self.old) token ≡ Some (at_of self.new)) }
+        ensures bad { result ≡ Err ReadError.Bad → first_wanted noted (frames_of self.old) (code_in self.old) token ≡ None }
     {
         match token {
             Token::Slash => {
@@ -330,8 +330,8 @@ impl Machine {
 
     /// A slash stands at the front of the path.
     fn after_root(&mut self, token: Token) -> Result<(), ReadError>
-        ensures read { OnOk result (after_root noted (reverse self.old.frames.items) (noted_of self.old.postfix) token ≡ Some (at_of self.new)) }
-        ensures bad { result ≡ Err ReadError.Bad → after_root noted (reverse self.old.frames.items) (noted_of self.old.postfix) token ≡ None }
+        ensures read { OnOk result (after_root noted (frames_of self.old) (code_in self.old) token ≡ Some (at_of self.new)) }
+        ensures bad { result ≡ Err ReadError.Bad → after_root noted (frames_of self.old) (code_in self.old) token ≡ None }
     {
         match token {
             Token::Bar => {
@@ -362,7 +362,7 @@ impl Machine {
 
     /// Whether a query has ended.
     pub(crate) fn is_whole(&self) -> bool
-        ensures { ended noted (at_of self.now) ≡ (if result then Some (noted_of self.now.postfix) else None) }
+        ensures { ended noted (at_of self.now) ≡ (if result then Some (code_in self.now) else None) }
     {
         matches!(
             self.mode,

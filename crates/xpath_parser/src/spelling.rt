@@ -1,7 +1,8 @@
 // White space and names at the front of a query's bytes.
-ghost use Rattle.std.specs.Prelude.{◌≡◌, ◌≤◌, ◌<◌, ◌-◌, length, take, true, MatchOption, None, Some};
+ghost use Rattle.std.specs.Prelude.{◌≡◌, ◌≤◌, ◌<◌, ◌-◌, length, take, true, IfSome, None, Some};
 ghost use Rattle.plain_tree.specs.XmlNames.{is_space, is_name};
 ghost use Rattle.xml_tokens.specs.Cutting.{back};
+ghost use Rattle.xml_tokens.specs.Seen.{seen_part};
 ghost use Rattle.xpath_parser.specs.Names.{is_part_byte, is_start_byte, begins_part, behind_byte, behind_part, behind_colon, behind_name};
 
 use xml_tokens::{is_name, is_name_char, is_name_start};
@@ -57,7 +58,8 @@ fn skip_part_bytes(bytes: &[u8]) -> &[u8]
 
 /// What follows a byte, if it stands at the front.
 pub(crate) fn behind_byte(byte: u8, bytes: &[u8]) -> Option<&[u8]>
-    ensures { MatchOption result (behind_byte byte bytes.now ≡ None) (λ r. (behind_byte byte bytes.now ≡ Some r.now) × (length r.now < length bytes.now)) }
+    ensures found { seen_part result ≡ behind_byte byte bytes.now }
+    ensures shorter { IfSome result (λ rest. length rest.now < length bytes.now) }
 {
     match bytes {
         [first, rest @ ..] if *first == byte => Some(rest),
@@ -77,7 +79,8 @@ fn begins_part(bytes: &[u8]) -> bool
 /// What follows the name without colon at the front, if one stands there.
 #[tactic(auto, using(crate::proofs::NameLemmas::part_found, crate::proofs::NameLemmas::part_missing, crate::proofs::NameLemmas::part_shorter))]
 fn behind_part(bytes: &[u8]) -> Option<&[u8]>
-    ensures { MatchOption result (behind_part bytes.now ≡ None) (λ r. (behind_part bytes.now ≡ Some r.now) × (length r.now < length bytes.now)) }
+    ensures found { seen_part result ≡ behind_part bytes.now }
+    ensures shorter { IfSome result (λ rest. length rest.now < length bytes.now) }
 {
     let rest = skip_part_bytes(bytes);
     if is_name(&bytes[..bytes.len() - rest.len()]) {
@@ -88,7 +91,8 @@ fn behind_part(bytes: &[u8]) -> Option<&[u8]>
 }
 
 fn behind_colon(rest: &[u8]) -> Option<&[u8]>
-    ensures { MatchOption result (behind_colon rest.now (behind_byte 58 rest.now) ≡ None) (λ r. (behind_colon rest.now (behind_byte 58 rest.now) ≡ Some r.now) × (length r.now ≤ length rest.now)) }
+    ensures found { seen_part result ≡ behind_colon rest.now (behind_byte 58 rest.now) }
+    ensures not_longer { IfSome result (λ more. length more.now ≤ length rest.now) }
 {
     match behind_byte(b':', rest) {
         Some(more) => {
@@ -105,7 +109,8 @@ fn behind_colon(rest: &[u8]) -> Option<&[u8]>
 /// What follows the name at the front, if one stands there; one colon may stand in it.
 #[tactic(auto, unfolding(crate::specs::Names::behind_name))]
 pub(crate) fn behind_name(bytes: &[u8]) -> Option<&[u8]>
-    ensures { MatchOption result (behind_name bytes.now ≡ None) (λ r. (behind_name bytes.now ≡ Some r.now) × (length r.now < length bytes.now)) }
+    ensures found { seen_part result ≡ behind_name bytes.now }
+    ensures shorter { IfSome result (λ rest. length rest.now < length bytes.now) }
 {
     match behind_part(bytes) {
         Some(rest) => behind_colon(rest),

@@ -1,6 +1,7 @@
 // The token at the front of a query's bytes.
-ghost use Rattle.std.specs.Prelude.{◌≡◌, ◌≤◌, ◌<◌, ◌-◌, length, take, codes, IfSome, MatchOption, Some, None};
+ghost use Rattle.std.specs.Prelude.{◌≡◌, ◌≤◌, ◌<◌, ◌-◌, length, take, codes, IfSome, Some, None};
 ghost use Rattle.std.specs.Str.{bytes_eq};
+ghost use Rattle.xml_tokens.specs.Seen.{seen_part};
 ghost use Rattle.xpath_parser.specs.Names.{is_start_byte, behind_byte, behind_name};
 ghost use Rattle.xpath_parser.specs.Tokens.{behind_again, axis_of, call_of, word_of, call_closed, called, along, named, named_at, slash, sign, token_at, seen};
 
@@ -110,7 +111,8 @@ fn along<'a>(axis: Option<Axis>, more: &'a [u8]) -> Found<'a>
 
 /// What follows two colons.
 fn behind_colons(bytes: &[u8]) -> Option<&[u8]>
-    ensures { MatchOption result (behind_again (behind_byte 58 bytes.now) ≡ None) (λ r. (behind_again (behind_byte 58 bytes.now) ≡ Some r.now) × (length r.now ≤ length bytes.now)) }
+    ensures found { seen_part result ≡ behind_again (behind_byte 58 bytes.now) }
+    ensures not_longer { IfSome result (λ rest. length rest.now ≤ length bytes.now) }
 {
     match behind_byte(b':', bytes) {
         Some(more) => behind_byte(b':', more),

@@ -11,7 +11,7 @@ use Rattle.xpath_parser.specs.Trees.{Paths, code_of}
 use Rattle.xpath_parser.specs.Grammar.{IsPaths}
 use Rattle.xpath_parser.specs.Tokens.{token_at, AreTokens}
 use Rattle.xpath_parser.specs.Limits.{Noted, within, noted, none_noted, noted_query}
-use Rattle.xpath_parser.specs.Run.{At, step, ended, run, start, Refuses, Takes}
+use Rattle.xpath_parser.specs.Run.{At, ended, run, start, Refuses, Takes}
 use Rattle.xpath_parser.specs.Spelled.{Spells}
 use Rattle.xpath_parser.proofs.ListRun as plain
 use Rattle.xpath_parser.proofs.Complete.{query-read}
@@ -100,5 +100,5 @@ pub codes-same : (bytes : List ℕ) (ps qs : Paths) → Spells bytes ps → Spel
 codes-same bytes ps qs s t =
     some_code (code_of ps) (code_of qs)
     (sym (query-read ps s.tokens s.parsed) ∙ ap (plain.run plain.start) (tokens-one (length bytes) bytes s.tokens t.tokens s.lexed t.lexed) ∙ query-read qs t.tokens t.parsed) where
-  some_code : (x y : List Op) → Some x ≡ Some y → x ≡ y
-  some_code x y e = cc
+      some_code : (x y : List Op) → Some x ≡ Some y → x ≡ y
+      some_code x y e = cc

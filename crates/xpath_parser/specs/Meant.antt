@@ -1,6 +1,5 @@
 -- The query for which a tree that was read stands, in the bytes in which its names are; and the run of its postfix code.
 use Rattle.std.specs.Prelude.{ℕ, ◌-◌, Bool, true, false, List, [], ◌∷◌, take, drop, get_or}
-use Rattle.xpath_parser.specs.declared.query.Axis.{Axis}
 use Rattle.xpath_parser.specs.declared.token.Asked.{Asked}
 use Rattle.xpath_parser.specs.declared.token.Asked.TheVariants as tests
 use Rattle.xpath_parser.specs.declared.token.Span.{Span}

@@ -1,5 +1,5 @@
 -- Queries, written out: the paths, the steps of a path and the filters of a step are lists from the front.
-use Rattle.std.specs.Prelude.{ℕ, List, [], ◌∷◌}
+use Rattle.std.specs.Prelude.{ℕ, List}
 use Rattle.xpath_parser.specs.declared.query.Axis.{Axis}
 
 -- NodeTest (XPath 1.0, 2.3)

@@ -1,5 +1,5 @@
 -- The tokens of a query (XPath 1.0, 3.7), a function of its bytes: the longest token is taken each time.
-use Rattle.std.specs.Prelude.{ℕ, ◌==◌, ◌-◌, ◌≡◌, Bool, true, false, List, [], ◌∷◌, Option, Some, None, if◌then◌else◌, length, take, codes}
+use Rattle.std.specs.Prelude.{ℕ, ◌==◌, ◌-◌, ◌≡◌, true, false, List, [], ◌∷◌, Option, Some, None, if◌then◌else◌, length, take, codes}
 use Rattle.std.specs.Borrow.{Bor}
 use Rattle.std.specs.Str.{bytes_eq}
 use Rattle.xpath_parser.specs.declared.query.Axis.{Axis}

@@ -1,4 +1,4 @@
-use Rattle.std.proofs.Common.{◌≡◌, length, refl, arith, ◌∙◌, ap, Some, None, if◌then◌else◌}
+use Rattle.std.proofs.Common.{length, refl, arith, ◌∙◌, ap, Some, None, if◌then◌else◌}
 use Rattle.xpath_parser.specs.Limits.{noted_of}
 use Rattle.xpath_parser.specs.Tokens.{token_at}
 use Rattle.xpath_parser.specs.Run.{at_of}
@@ -30,7 +30,7 @@ pub returns-then-is_whole-clause-spelled : goal.returns-then-is_whole-clause-spe
 returns-then-is_whole-clause-spelled c =
     let left = none-left c.loop-rest.rest.now (let t = c.loop-rest-test.false in let i = c.is_empty.ensures in grind (arith)) in
     let n = fed-ends (length c.args.bytes.now) c.args.bytes.now c.loop-rest.rest.now (at_of c.loop-rest.machine) (noted_of c.loop-rest.machine.postfix) left refl
-        (c.is_whole.ensures ∙ ap (λ b. if b then Some (noted_of c.loop-rest.machine.postfix) else None) c.if-is_whole.true) c.loop-rest.invariant.fed in
+    (c.is_whole.ensures ∙ ap (λ b. if b then Some (noted_of c.loop-rest.machine.postfix) else None) c.if-is_whole.true) c.loop-rest.invariant.fed in
     (n.query, n.spelled, n.noted)
 
 pub returns-else-is_whole-clause-bad : goal.returns-else-is_whole-clause-bad

@@ -1,0 +1,17 @@
+-- Equal states of the tests' automaton are identical.
+use Rattle.std.proofs.Common.{◌≡◌, Bool, true, false, refl, sym, ap}
+use Rattle.std.proofs.Math.Bool.{beq, true≢false}
+use Rattle.query_tests.specs.declared.runs.automaton.Seen.{Seen}
+use Rattle.query_tests.specs.declared.runs.automaton.Below.{Below}
+
+same_bool : (b c : Bool) → beq b c ≡ true → b ≡ c
+same_bool true true e = refl
+same_bool true false e = absurd (true≢false (sym e))
+same_bool false true e = absurd (true≢false (sym e))
+same_bool false false e = refl
+
+pub same_seen : (a b : Seen) → beq a.has_b b.has_b ≡ true → a ≡ b
+same_seen a b e = ap (λ (x : Bool). record { has_b = x }) (same_bool a.has_b b.has_b e)
+
+pub same_below : (a b : Below) → beq a.an_a b.an_a ≡ true → a ≡ b
+same_below a b e = ap (λ (x : Bool). record { an_a = x }) (same_bool a.an_a b.an_a e)

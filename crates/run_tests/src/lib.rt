@@ -1,5 +1,0 @@
-//! Tests of runs over shared rules.
-#![tactic(auto)]
-
-#[cfg(test)]
-mod runs;

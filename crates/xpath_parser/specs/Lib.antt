@@ -1,0 +1,15 @@
+pub mod Errors
+pub mod Queries
+pub mod Shown
+pub mod Names
+pub mod Tokens
+pub mod Trees
+pub mod Grammar
+pub mod Limits
+pub mod Run
+pub mod Spelled
+pub mod Meant
+pub mod Work
+pub mod Laws
+pub mod Numbering
+pub mod Meaning

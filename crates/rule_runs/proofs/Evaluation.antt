@@ -178,3 +178,11 @@ module _ {S : Type 0} (A : Algebra S) (G : List Rule) (g : IsGrammar G) (k : Rul
       let m = memo-at A G g k.0 pair.there k.1 in
       let b : states ≡ states_of A G k.1 (body_at G k.0) = rw (← is_body) ev.are in
       sym (m ∙ ap (λ xs. get_or xs 0 A.bottom) (sym b ∙ e))
+
+  -- and it has one
+  pub state-there : (waiting : ℕ) (states : List S) → IsEvaluated A G k.1 body 0 waiting states → length states ≡ 0 → ⊥
+  state-there waiting states ev none =
+      let m = meanings-whole A (ranks_of G) (all_meanings A G) 1 k.1 (body_at G k.0) [] (g.each k.0 pair.there).shaped.term in
+      let b : states ≡ states_of A G k.1 (body_at G k.0) = rw (← is_body) ev.are in
+      let n : length states ≡ length (states_of A G k.1 (body_at G k.0)) = ap length b in
+      absurd (omega (arith, m.1, n))

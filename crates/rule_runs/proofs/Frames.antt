@@ -102,6 +102,11 @@ stands-state A G f s rest g stands z e =
     let l : f.left ≡ 0 = omega arith in
     evaluation.state-at A G g (key_of f.pair) stands.pair f.labels.items stands.labels f.waiting (reverse f.stack.items) s (reverse rest) (rw l at stands.evaluated) (ap reverse e ∙ reverse-push rest s)
 
+pub stands-there : {S : Type 0} (A : Algebra S) (G : List Rule) (f : Frame S) → IsGrammar G → Stands A G [] f → f.left ≤ 0 → length f.stack.items ≡ 0 → ⊥
+stands-there A G f g stands z none =
+    let l : f.left ≡ 0 = omega arith in
+    evaluation.state-there A G g (key_of f.pair) stands.pair f.labels.items stands.labels f.waiting (reverse f.stack.items) (rw l at stands.evaluated) (omega (arith, none, length-reverse f.stack.items))
+
 pub waits-since : {S : Type 0} (A : Algebra S) (G : List Rule) (f g : Frame S) (pair : Pair S) (new : Frame S) → Waits A G f pair new → f.pair ≡ g.pair → f.left ≤ g.left → Waits A G g pair new
 waits-since A G f g pair new w e h = record {
   stands = w.stands;

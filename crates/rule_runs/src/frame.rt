@@ -101,7 +101,7 @@ pub(crate) fn advance<A: Rising>(
     }
     match frame.stack.pop() {
         Some(state) => Ok(Next::Done(state)),
-        None => Ok(Next::Done(automaton.bottom()?)),
+        None => unreachable!(),
     }
 }
 

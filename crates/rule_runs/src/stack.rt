@@ -35,9 +35,10 @@ fn pop_many<S: Drop>(alloc: Global, stack: &mut Vec<S>, count: usize) -> Result<
 {
     let mut taken = Vec::new(alloc);
     for _i in 0..count {
-        if let Some(state) = stack.pop() {
-            taken.push(state)?;
-        }
+        let Some(state) = stack.pop() else {
+            unreachable!()
+        };
+        taken.push(state)?;
     }
     Ok(taken)
 }

@@ -3,7 +3,7 @@ use Rattle.slt_grammar.specs.Keyed.{rules_of}
 use Rattle.slt_grammar.proofs.KeyedLemmas.{length-rules_of}
 use Rattle.rule_runs.specs.Entries.{key_of}
 use Rattle.rule_runs.specs.Risen.{state_at, AreKnown}
-use Rattle.rule_runs.proofs.Frames.{param-left, param-stands, other-enough, other-stands, call-there, call-waits, stands-state, waits-since, frame-front, frame-stops}
+use Rattle.rule_runs.proofs.Frames.{param-left, param-stands, other-enough, other-stands, call-there, call-waits, stands-state, stands-there, waits-since, frame-front, frame-stops}
 use Rattle.rule_runs.proofs.frame.advance.Goals as goal
 
 pub overflow_sub-frame-in-Param : goal.overflow_sub-frame-in-Param
@@ -54,16 +54,22 @@ returns-in-Some g c =
       new = λ pair e. let k : c.in-Some.pair ≡ pair = cc in rw (← k) (rw c.in-Some.is at c.in_ok-pair.ensures.new);
     }
 
-pub returns-in-Some-pop-clause-done : goal.returns-in-Some-pop-clause-done
-returns-in-Some-pop-clause-done g c =
+pub returns-clause-done : goal.returns-clause-done
+returns-clause-done g c =
     let A = g.A.Rising.algebra c.args.automaton.now in
     let G = rules_of c.args.grammar.now.rules in
     let s = stands-state A G c.labels.frame c.in-Some-pop.state c.pop.new.self.items c.rules-rules.ensures.grammar c.labels.invariant.stands (omega arith) c.in-Some-pop.ensures.items in
     λ state e. let k : c.in-Some-pop.state ≡ state = cc in sym k ∙ s ∙ ap (λ p. state_at A G (key_of p)) c.labels.invariant.same
 
-pub returns-in-Some-pop-clause-closed : goal.returns-in-Some-pop-clause-closed
-returns-in-Some-pop-clause-closed g c =
+pub returns-clause-closed : goal.returns-clause-closed
+returns-clause-closed g c =
     let A = g.A.Rising.algebra c.args.automaton.now in
     let G = rules_of c.args.grammar.now.rules in
     let z : c.labels.frame.left ≡ 0 = omega arith in
     λ state e. subst (λ p. AreKnown A G c.args.known.now (key_of p) 0) c.labels.invariant.same (subst (λ n. AreKnown A G c.args.known.now (key_of c.labels.frame.pair) n) z c.labels.invariant.closed)
+
+pub unreachable-requires : goal.unreachable-requires
+unreachable-requires g c =
+    let A = g.A.Rising.algebra c.args.automaton.now in
+    let G = rules_of c.args.grammar.now.rules in
+    stands-there A G c.labels.frame c.rules-rules.ensures.grammar c.labels.invariant.stands (omega arith) (omega (arith, c.in-None.ensures.cases.0, c.labels.frame.stack.ok.0))

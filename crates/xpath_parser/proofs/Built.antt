@@ -8,7 +8,8 @@ use Rattle.xpath_parser.specs.declared.postfix.Op.TheVariants as ops
 use Rattle.xpath_parser.specs.Trees.{Steps, no_steps, then_step, Filters, no_filters, then_filter, Filter, Either, Both, Negated, Told, Found, Paths, first_path, then_path, steps_on, filters_on, filter_on, paths_on, code_of}
 use Rattle.xpath_parser.specs.Queries as queries
 use Rattle.xpath_parser.specs.Queries.{with_step, with_filter, with_path, filtered}
-use Rattle.xpath_parser.specs.Meant.{named, meant_steps, meant_filters, meant_filter, meant_paths, whole, Building, applied, built}
+use Rattle.xpath_parser.specs.Meant.{named, meant_steps, meant_filters, meant_filter, meant_paths}
+use Rattle.xpath_parser.specs.Building.{whole, Building, applied, built}
 use Rattle.xpath_parser.proofs.Rows.{filtered-last}
 
 abbrev truth_on : queries.Filter → Building → Building

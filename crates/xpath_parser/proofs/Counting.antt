@@ -5,7 +5,8 @@ use Rattle.xpath_parser.specs.declared.postfix.Op.{Op}
 use Rattle.xpath_parser.specs.declared.postfix.Op.TheVariants as ops
 use Rattle.xpath_parser.specs.declared.postfix.Counts.{Counts}
 use Rattle.xpath_parser.specs.Trees.{Steps, no_steps, then_step, Filters, no_filters, then_filter, Filter, Either, Both, Negated, Told, Found, Paths, first_path, then_path, steps_on, filters_on, filter_on, paths_on, code_of}
-use Rattle.xpath_parser.specs.Limits.{steps_outside, outside, parts_of_filters, parts_of_filter, parts_of_paths, parts_of_steps, steps_inside, inside, counted}
+use Rattle.xpath_parser.specs.Limits.{steps_outside, outside, parts_of_filters, parts_of_filter, parts_of_paths, parts_of_steps, steps_inside, inside}
+use Rattle.xpath_parser.specs.Noting.{counted}
 use Rattle.xpath_parser.proofs.Kept.{counts}
 
 -- so many more of each

@@ -10,7 +10,7 @@ use Rattle.xpath_parser.specs.declared.postfix.Side.TheVariants.{Outer}
 use Rattle.xpath_parser.specs.Trees.{Paths, code_of}
 use Rattle.xpath_parser.specs.Grammar.{IsPaths}
 use Rattle.xpath_parser.specs.Tokens.{token_at, AreTokens}
-use Rattle.xpath_parser.specs.Limits.{Noted, within, noted, none_noted, noted_query}
+use Rattle.xpath_parser.specs.Noting.{Noted, within, noted, none_noted, noted_query}
 use Rattle.xpath_parser.specs.Run.{At, ended, run, start, Refuses, Takes}
 use Rattle.xpath_parser.specs.Spelled.{Spells}
 use Rattle.xpath_parser.proofs.ListRun as plain

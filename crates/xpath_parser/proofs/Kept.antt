@@ -16,7 +16,7 @@ use Rattle.xpath_parser.specs.declared.machine.Frame.{Frame}
 use Rattle.xpath_parser.specs.declared.machine.Frame.TheVariants as frames
 use Rattle.xpath_parser.specs.declared.machine.Mode.{Mode}
 use Rattle.xpath_parser.specs.declared.machine.Mode.TheVariants as modes
-use Rattle.xpath_parser.specs.Limits.{counted, is_past, Noted, within, noted, none_noted}
+use Rattle.xpath_parser.specs.Noting.{counted, is_past, Noted, within, noted, none_noted}
 use Rattle.xpath_parser.specs.Run as machine
 use Rattle.xpath_parser.proofs.ListRun as plain
 

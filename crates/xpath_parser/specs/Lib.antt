@@ -6,10 +6,11 @@ pub mod Tokens
 pub mod Trees
 pub mod Grammar
 pub mod Limits
+pub mod Noting
 pub mod Run
 pub mod Spelled
 pub mod Meant
-pub mod Work
+pub mod Building
 pub mod Laws
 pub mod Numbering
 pub mod Meaning

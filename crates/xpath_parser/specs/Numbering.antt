@@ -10,6 +10,7 @@ use Rattle.xpath_parser.specs.declared.query.Axis.{Axis}
 use Rattle.xpath_parser.specs.declared.query.Axis.TheVariants as axes
 use Rattle.xpath_parser.specs.Queries.{Test, Star, Name, AnyNode, TextNode, CommentNode, InstructionNode}
 
+-- whether a node is of a kind, and has a name
 abbrev pub is_kind : Kind → Tree → Bool
 is_kind k t = kind_code (kind_of t) == kind_code k
 

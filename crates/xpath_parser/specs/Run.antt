@@ -2,7 +2,7 @@
 use Rattle.std.specs.Prelude.{◌≡◌, ℕ, List, [], ◌∷◌, Bool, true, false, Option, Some, None, reverse}
 use Rattle.plain_tree.specs.XmlNames.{is_space}
 use Rattle.xml_tokens.specs.Cutting.{back}
-use Rattle.xpath_parser.specs.Limits.{Noted, noted, noted_of}
+use Rattle.xpath_parser.specs.Noting.{Noted, noted, noted_of}
 use Rattle.xpath_parser.specs.declared.query.Axis.{Axis}
 use Rattle.xpath_parser.specs.declared.query.Axis.TheVariants as axes
 use Rattle.xpath_parser.specs.declared.token.Asked.TheVariants as tests
@@ -27,6 +27,7 @@ pub record At (Code : Type 0) : Type 0 where
   pub frames : List Frame
   pub code : Code
 
+-- what the program's machine holds
 abbrev pub frames_of : Machine → List Frame
 frames_of m = reverse m.frames.items
 
@@ -37,6 +38,7 @@ code_in m = noted_of m.postfix
 abbrev pub at_of : Machine → At (Option Noted)
 at_of m = record { mode = m.mode; frames = frames_of m; code = code_in m }
 
+-- it comes to this
 abbrev pub moved : {Code : Type 0} → Mode → List Frame → Code → Option (At Code)
 moved m fs o = Some (record { mode = m; frames = fs; code = o })
 

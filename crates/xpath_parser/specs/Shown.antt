@@ -13,6 +13,7 @@ use Rattle.std.specs.Borrow.{Bor}
 use Rattle.xpath_parser.specs.declared.query.Axis.{Axis}
 use Rattle.xpath_parser.specs.declared.query.QueryStep.{QueryStep}
 
+-- of a test
 abbrev pub test_of : Test → queries.Test
 test_of tests.Star = queries.Star
 test_of (tests.Name n) = queries.Name n
@@ -21,6 +22,7 @@ test_of tests.TextNode = queries.TextNode
 test_of tests.CommentNode = queries.CommentNode
 test_of tests.InstructionNode = queries.InstructionNode
 
+-- of filters, paths and steps; a row is a list of the program's as it lies in its type
 abbrev mutual
   pub filter_of : Filter → queries.Filter
   filter_of (Or' p f q g) = queries.Or (filter_of f) (filter_of g)
@@ -51,6 +53,7 @@ abbrev mutual
   filter_row end_of-Filter = queries.no_filters
   filter_row (more_of-Filter f rest) = queries.filter_and (filter_of f) (filter_row rest)
 
+-- of the filters of a step
 abbrev pub filters_list : List Filter → queries.Filters
 filters_list [] = queries.no_filters
 filters_list (f ∷ fs) = queries.filter_and (filter_of f) (filters_list fs)
@@ -58,7 +61,7 @@ filters_list (f ∷ fs) = queries.filter_and (filter_of f) (filters_list fs)
 abbrev pub filters_of : Filters → queries.Filters
 filters_of fs = filters_list fs.filters.items
 
--- the paths, steps and filters one by one
+-- the paths, the steps and the filters one by one
 abbrev pub path_list : queries.Paths → List queries.Steps
 path_list queries.no_paths = []
 path_list (queries.path_or ss ps) = ss ∷ path_list ps

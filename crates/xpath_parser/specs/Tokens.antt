@@ -42,6 +42,7 @@ word_of name s = if bytes_eq name (codes "and") then tokens.AndWord s else (if b
 abbrev pub Found : Type 0
 Found = Option (Token × List ℕ)
 
+-- with what follows it
 abbrev pub found : Token → Option (List ℕ) → Found
 found token None = None
 found token (Some rest) = Some (token, rest)

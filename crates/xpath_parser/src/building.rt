@@ -2,8 +2,9 @@
 ghost use Rattle.std.specs.Prelude.{◌≡◌, ◌-◌, ◌∷◌, [], IfOk, OnOk, reverse, map, take, drop, get_or};
 ghost use Rattle.xpath_parser.specs.Queries as queries;
 ghost use Rattle.xpath_parser.specs.Shown.{test_of, filter_of, paths_of, steps_of};
-ghost use Rattle.xpath_parser.specs.Meant.{part, named, told, top, no_search, whole, applied, built};
-ghost use Rattle.xpath_parser.specs.Work.{truths_of, searches_of, search_of, building_of};
+ghost use Rattle.xpath_parser.specs.Meant.{part, named, told};
+ghost use Rattle.xpath_parser.specs.Building.{top, no_search, whole, applied, built};
+ghost use Rattle.xpath_parser.specs.Building.{truths_of, searches_of, search_of, building_of};
 
 use crate::postfix::{Op, Side};
 use crate::query::{Axis, Filter, Paths, QuerySteps, Test};
@@ -20,7 +21,7 @@ pub(crate) struct OpenSearch {
 }
 
 impl OpenSearch {
-    ghost use Rattle.xpath_parser.specs.Work.{search_of};
+    ghost use Rattle.xpath_parser.specs.Building.{search_of};
 
     /// The paths with the last one.
     fn whole(self) -> Result<Paths, AllocError>

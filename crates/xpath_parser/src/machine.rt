@@ -1,6 +1,6 @@
 // The machine that reads a query's tokens. It keeps a stack of its own, and holds no tree.
 ghost use Rattle.std.specs.Prelude.{◌≡◌, ◌∷◌, OnOk, Some, None, if◌then◌else◌};
-ghost use Rattle.xpath_parser.specs.Limits.{noted, none_noted};
+ghost use Rattle.xpath_parser.specs.Noting.{noted, none_noted};
 ghost use Rattle.xpath_parser.specs.Run.{step, at_of, frames_of, code_in, start, ended, side_of, path_wanted, level_on, closed_parens, closed_filter, after_unit, after_paths, after_step, after_test, test_wanted, step_wanted, unit_wanted, first_wanted, after_root};
 
 use crate::error::ReadError;

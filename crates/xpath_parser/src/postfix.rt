@@ -43,7 +43,7 @@ pub(crate) struct Counts {
 }
 
 impl Counts {
-    ghost use Rattle.xpath_parser.specs.Limits.{counted, is_past};
+    ghost use Rattle.xpath_parser.specs.Noting.{counted, is_past};
 
     fn with_outer(self) -> Counts
         requires { self.outer ≤ 64 }
@@ -104,7 +104,7 @@ pub(crate) struct Postfix {
 }
 
 impl Postfix {
-    ghost use Rattle.xpath_parser.specs.Limits.{none_noted, noted, noted_of};
+    ghost use Rattle.xpath_parser.specs.Noting.{none_noted, noted, noted_of};
 
     /// No code.
     pub(crate) fn new(alloc: Global) -> Postfix
@@ -118,7 +118,7 @@ impl Postfix {
     }
 
     /// Adds an operation at the end, or nothing once the limits are passed.
-    #[tactic(auto, unfolding(crate::specs::Limits::noted))]
+    #[tactic(auto, unfolding(crate::specs::Noting::noted))]
     pub(crate) fn write(&mut self, op: Op) -> Result<(), AllocError>
         ensures { OnOk result (noted_of self.new ≡ noted op (noted_of self.old)) }
     {

@@ -1,5 +1,5 @@
 use Rattle.std.proofs.Common.{sym, ap, ◌∙◌}
-use Rattle.xpath_parser.specs.Meant.{built, whole}
+use Rattle.xpath_parser.specs.Building.{built, whole}
 use Rattle.xpath_parser.proofs.Built.{query-built}
 use Rattle.xpath_parser.proofs.Feeding.{codes-same}
 use Rattle.xpath_parser.proofs.laws.spells_one.Goals as goal

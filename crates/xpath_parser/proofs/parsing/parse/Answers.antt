@@ -1,5 +1,5 @@
 use Rattle.std.proofs.Common.{ap, ◌∙◌, reverse}
-use Rattle.xpath_parser.specs.Meant.{built, whole}
+use Rattle.xpath_parser.specs.Building.{built, whole}
 use Rattle.xpath_parser.proofs.Built.{query-built}
 use Rattle.xpath_parser.proofs.parsing.parse.Goals as goal
 

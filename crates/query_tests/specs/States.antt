@@ -1,8 +1,8 @@
 -- Equal states of the tests' automaton are identical.
 use Rattle.std.proofs.Common.{◌≡◌, Bool, true, false, refl, sym, ap}
 use Rattle.std.proofs.Math.Bool.{beq, true≢false}
-use Rattle.query_tests.specs.declared.runs.automaton.Seen.{Seen}
-use Rattle.query_tests.specs.declared.runs.automaton.Below.{Below}
+use Rattle.query_tests.specs.declared.automaton.Seen.{Seen}
+use Rattle.query_tests.specs.declared.automaton.Below.{Below}
 
 same_bool : (b c : Bool) → beq b c ≡ true → b ≡ c
 same_bool true true e = refl

@@ -3,11 +3,10 @@ ghost use Rattle.slt_grammar.specs.Grammars.{IsSwept};
 ghost use Rattle.slt_grammar.specs.Keyed.{rules_of};
 ghost use Rattle.std.specs.Prelude.{◌≡◌, ◌<◌};
 
-mod automaton;
 mod plain;
 mod rows;
 
-use automaton::{A, B, C, Marks};
+use crate::automaton::{A, B, C, Marks};
 use plain::{hits_of, holds_b, value_of};
 use plain_tree::Names;
 use read_steps::Steps;

@@ -1,8 +1,8 @@
 // What the automaton of the tests finds, by plain looks at a term that is written out.
 ghost use Rattle.std.specs.Prelude.{◌≤◌, length};
 
-use super::automaton::{A, B, C};
 use super::rows::Row;
+use crate::automaton::{A, B, C};
 use slt_grammar::Label::{self, Bottom, Call, Param, Symbol};
 use std::alloc::{AllocError, Global};
 

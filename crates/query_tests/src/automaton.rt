@@ -5,16 +5,16 @@ ghost use Rattle.query_tests.specs.States.{same_seen, same_below};
 use slt_grammar::{Falling, Fell, Rising, RunState};
 use std::alloc::AllocError;
 
-pub(super) const A: usize = 1;
+pub const A: usize = 1;
 
-pub(super) const B: usize = 2;
+pub const B: usize = 2;
 
-pub(super) const C: usize = 3;
+pub const C: usize = 3;
 
 // Whether some node here is `b`.
 #[derive(Clone, Copy, PartialEq, Eq, Hash, Drop)]
-pub(super) struct Seen {
-    pub(super) has_b: bool,
+pub struct Seen {
+    pub has_b: bool,
 }
 
 impl RunState for Seen {
@@ -27,8 +27,8 @@ impl RunState for Seen {
 
 // Whether an `a` is above.
 #[derive(Clone, Copy, PartialEq, Eq, Hash, Drop)]
-pub(super) struct Below {
-    an_a: bool,
+pub struct Below {
+    pub an_a: bool,
 }
 
 impl RunState for Below {
@@ -39,7 +39,7 @@ impl RunState for Below {
     ghost identical = { same_below };
 }
 
-pub(super) struct Marks;
+pub struct Marks;
 
 impl Rising for Marks {
     type State = Seen;

@@ -111,7 +111,7 @@ static ROWS: [Row; 68] = [
     (
         "XMLDecl (23)",
         b"<?xml version='1.0' encoding=\"Utf-8\" standalone='no' ?><?xml version = \"1.10\"?><?xml version='1.0' encoding='us-ascii'?>",
-        b"XXX",
+        b"VVV",
         Whole,
     ),
     (
@@ -274,7 +274,7 @@ impl Log {
                 self.write_between(b"?", target, b" ")?;
                 self.write_between(b"", value, b"?")
             }
-            Found::Declaration => self.write(b"X"),
+            Found::Declaration => self.write(b"V"),
             Found::Doctype => self.write(b"D"),
         }
     }

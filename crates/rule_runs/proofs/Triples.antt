@@ -27,9 +27,10 @@ use Rattle.rule_runs.specs.Tellings.{Lists, Tells, IsTelling, AreTold}
 use Rattle.rule_runs.specs.Walks.{Open, woven_marks}
 use Rattle.rule_runs.proofs.Cutting.{cut-whole}
 use Rattle.rule_runs.proofs.Sizes.{met-within}
-use Rattle.rule_runs.proofs.Lists.{cost-lt, all-at, all-split, all-insert, all-one, all-unmap, distinct-one, distinct-insert, distinct-apart, one-place, sum-insert}
+use Rattle.rule_runs.proofs.Lists.{empty_reverse, cost-lt, all-at, all-split, all-insert, all-one, all-unmap, distinct-one, distinct-insert, distinct-apart, one-place, sum-insert}
 use Rattle.rule_runs.proofs.Descents.{walk-call, outcome-more, waiting-more}
 use Rattle.rule_runs.proofs.Marks.{open-term}
+use Rattle.rule_runs.proofs.Tellings.{told-at, length-told}
 
 -- nothing is read
 pub falls-none : {S D : Type 0} (A : Algebra S) (W : Downward S D) (G : List Rule) (n : ℕ) → n ≤ 0 → FallsOnce A W G [] n
@@ -150,6 +151,15 @@ module _ {S D : Type 0} (A : Algebra S) (W : Downward S D) (G : List Rule) (know
       let none : holes_of (value G) ≡ [] = value_at-linear G (length G - 1) g (omega arith) ∙ ap (λ n. holes 0 n) ((g.each (length G - 1) (omega arith)).shaped.start (omega arith)) in
       let c : cut A W (value_at G (pair_at (keys known) spot.pair).0) (pair_at (keys known) spot.pair).1 spot.down ≡ cut A W (value G) [] W.start = ap (λ (x : RuleStates S). cut A W (value_at G x.0) x.1 spot.down) k ∙ ap (cut A W (value G) []) d in
       rw (c, cut-whole A W (value G) [] W.start none) at h.finished
+
+  -- what is told of the outermost body, on which no other waits, is told of the whole
+  pub whole-told : IsGrammar G → (earlier lists : List (Vec Part Global)) (first spot : Spot D) (frames : List (Descent S D)) (outcome : Outcome D) (t : Told) → length frames ≡ 0 → AreWaiting A W G (keys known) earlier first (reverse frames)
+      → spot ≡ first → HasOutcome A W G (keys known) lists spot outcome → t ≡ get_or outcome.told.items 0 t → Tells lists t (record { nodes = nodes_in (value G); hits = hits A W (value G) })
+  whole-told g earlier lists first spot frames outcome t none waiting same h e =
+      let w : AreWaiting A W G (keys known) earlier first [] = rw (empty_reverse frames none) at waiting in
+      let whole : Stretch = record { nodes = nodes_in (value G); hits = hits A W (value G) } in
+      let o = outcome-whole g lists spot outcome h (same ∙ w) in
+      told-at lists outcome.told.items (whole ∷ []) 0 t o (omega (arith, length-told lists outcome.told.items (whole ∷ []) o)) e
 
 -- the answers that a stretch's words have
 pub told-answers : (lists : List (Vec Part Global)) (t : Told) (s : Stretch) → Tells lists t s → all_of lists t.list ≡ s.hits

@@ -1,16 +1,13 @@
 use Rattle.std.proofs.Common.{◌≡◌, ◌-◌, ◌∙◌, ◌++◌, ◌∷◌, [], sym, ap, subst, arith, reverse, length, All}
 use Rattle.std.proofs.lemmas.List.Elements.{All-append, All-nil}
-use Rattle.slt_grammar.specs.Automata.{hits, nodes_in}
 use Rattle.slt_grammar.specs.Grammars.{value}
 use Rattle.slt_grammar.specs.Keyed.{rules_of}
 use Rattle.rule_runs.specs.Reached.{FallsOnce}
-use Rattle.rule_runs.specs.Cuts.{Stretch}
 use Rattle.rule_runs.specs.Descents.{HasOutcome, Asks, AreWaiting, triple_at}
 use Rattle.rule_runs.specs.Risen.{keys, pair_at}
-use Rattle.rule_runs.proofs.Lists.{reverse-push, empty_reverse, all-one}
+use Rattle.rule_runs.proofs.Lists.{reverse-push, all-one}
 use Rattle.rule_runs.proofs.Descents.{outcome-lengths, waiting-more}
-use Rattle.rule_runs.proofs.Tellings.{told-at, length-told}
-use Rattle.rule_runs.proofs.Triples.{known_triples, open_triples, start-last, start-falls, falls-none, falls-start, falls-more, pair-of, waiting-begin, triples-return, stands-again, frame-small, outer-small, fall-cost-begin, outcome-whole, told-answers, told-answered, outcomes-more, spot-apart}
+use Rattle.rule_runs.proofs.Triples.{known_triples, open_triples, start-last, start-falls, falls-none, falls-start, falls-more, pair-of, waiting-begin, triples-return, stands-again, frame-small, outer-small, fall-cost-begin, whole-told, told-answers, told-answered, outcomes-more, spot-apart}
 use Rattle.rule_runs.proofs.Rooms.{hits-small, walk-room-call}
 use Rattle.rule_runs.proofs.falling.fall.Goals as goal
 
@@ -129,32 +126,20 @@ invariant_of-result g c =
     let A = g.A.Rising.algebra c.args.automaton.now in
     let W = g.A.Falling.downward c.args.automaton.now in
     let G = rules_of c.args.grammar.now.rules in
-    let es = c.args.risen.now.known in
-    let ls = c.descend.new.lists.items in
-    let f' = c.descend.new.descent in
     let h = rw c.in-None.is at c.in_ok-spot.ensures.done in
-    let z : length c.bodies.frames.items ≡ 0 = omega (arith, c.in-None-pop.ensures.cases.0, c.bodies.frames.ok.0) in
-    let w : AreWaiting A W G (keys es) c.bodies.lists.items c.bodies.frame.spot [] = rw (empty_reverse c.bodies.frames.items z) at c.bodies.invariant.waiting in
-    let s : Stretch = record { nodes = nodes_in (value G); hits = hits A W (value G) } in
-    let o = outcome-whole A W G es c.requires.run c.rules-rules.ensures.grammar ls f'.spot f'.outcome h (c.in_ok-spot.ensures.same ∙ w) in
-    let t = told-at ls f'.outcome.told.items (s ∷ []) 0 c.index.result.now o (omega (arith, length-told ls f'.outcome.told.items (s ∷ []) o)) c.index.ensures in
-    told-answered ls c.index.result.now s t c.in_ok-spot.ensures.earlier (hits-small A W (value G) c.requires.small)
+    let t = whole-told A W G c.args.risen.now.known c.requires.run c.rules-rules.ensures.grammar c.bodies.lists.items c.descend.new.lists.items c.bodies.frame.spot c.descend.new.descent.spot c.bodies.frames.items c.descend.new.descent.outcome c.index.result.now
+    (omega (arith, c.in-None-pop.ensures.cases.0, c.bodies.frames.ok.0)) c.bodies.invariant.waiting c.in_ok-spot.ensures.same h c.index.ensures in
+    told-answered c.descend.new.lists.items c.index.result.now _ t c.in_ok-spot.ensures.earlier (hits-small A W (value G) c.requires.small)
 
 pub returns-in-None-pop-clause-hits : goal.returns-in-None-pop-clause-hits
 returns-in-None-pop-clause-hits g c =
     let A = g.A.Rising.algebra c.args.automaton.now in
     let W = g.A.Falling.downward c.args.automaton.now in
     let G = rules_of c.args.grammar.now.rules in
-    let es = c.args.risen.now.known in
-    let ls = c.descend.new.lists.items in
-    let f' = c.descend.new.descent in
     let h = rw c.in-None.is at c.in_ok-spot.ensures.done in
-    let z : length c.bodies.frames.items ≡ 0 = omega (arith, c.in-None-pop.ensures.cases.0, c.bodies.frames.ok.0) in
-    let w : AreWaiting A W G (keys es) c.bodies.lists.items c.bodies.frame.spot [] = rw (empty_reverse c.bodies.frames.items z) at c.bodies.invariant.waiting in
-    let s : Stretch = record { nodes = nodes_in (value G); hits = hits A W (value G) } in
-    let o = outcome-whole A W G es c.requires.run c.rules-rules.ensures.grammar ls f'.spot f'.outcome h (c.in_ok-spot.ensures.same ∙ w) in
-    let t = told-at ls f'.outcome.told.items (s ∷ []) 0 c.index.result.now o (omega (arith, length-told ls f'.outcome.told.items (s ∷ []) o)) c.index.ensures in
-    told-answers ls c.index.result.now s t
+    let t = whole-told A W G c.args.risen.now.known c.requires.run c.rules-rules.ensures.grammar c.bodies.lists.items c.descend.new.lists.items c.bodies.frame.spot c.descend.new.descent.spot c.bodies.frames.items c.descend.new.descent.outcome c.index.result.now
+    (omega (arith, c.in-None-pop.ensures.cases.0, c.bodies.frames.ok.0)) c.bodies.invariant.waiting c.in_ok-spot.ensures.same h c.index.ensures in
+    told-answers c.descend.new.lists.items c.index.result.now _ t
 
 pub descend-requires-clause-small : goal.descend-requires-clause-small
 descend-requires-clause-small g c =

@@ -79,9 +79,9 @@ impl Arena {
         if len > MOST_NODES || more > MOST_NODES - len {
             return Err(AllocError);
         }
-        // By the double at least, so that many small calls copy each node a few times in all.
+        // By an eighth at least, so that many small calls copy each node some nine times in all.
         self.slots
-            .reserve_exact(more.max(len).min(MOST_NODES - len))?;
+            .reserve_exact(more.max(len / 8).min(MOST_NODES - len))?;
         if more <= room_in(&self.slots) {
             Ok(())
         } else {

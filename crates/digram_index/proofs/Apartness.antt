@@ -1,5 +1,5 @@
 -- Which occurrences share no node.
-use Rattle.std.proofs.Common.{◌≡◌, ◌≢◌, ◌<◌, ◌≤◌, ◌+◌, ◌⊎◌, inl, inr, ℕ, zero, suc, List, [], ◌∷◌, Option, Some, None, slice_get, Bool, true, false, not, refl, ap, sym, ◌∙◌, subst, arith}
+use Rattle.std.proofs.Common.{◌≡◌, ◌≢◌, ◌+◌, ◌⊎◌, inl, inr, ℕ, zero, suc, List, [], ◌∷◌, Option, Some, None, slice_get, Bool, true, false, not, refl, ap, sym, ◌∙◌, subst, arith}
 use Rattle.rule_arena.specs.Terms.{Node}
 use Rattle.rule_arena.specs.declared.key.Key.{Key}
 use Rattle.rule_arena.specs.declared.label.Label.{Label}
@@ -137,52 +137,6 @@ module _ (g : Keyed) (K : IsKeyed g) where
     high = S.high;
     digram = S.digram;
   }
-
--- three of those that are named
-pub record AreThreeOf (ks : List (Option ℕ)) (a b c : ℕ) : Type 0 where
-  pub first : IsAmong a ks
-  pub second : IsAmong b ks
-  pub third : IsAmong c ks
-  pub ab : a ≢ b
-  pub ac : a ≢ c
-  pub bc : b ≢ c
-
--- one of those that are named, and the others
-pub record Taken (ks : List (Option ℕ)) : Type 0 where
-  pub item : ℕ
-  pub rest : List (Option ℕ)
-  pub there : IsAmong item ks
-  pub others : (k : ℕ) → IsAmong k rest → IsAmong k ks
-  pub gone : IsAmong item rest → ⊥
-  pub different : AreDifferent rest
-  pub count : named_count ks ≡ suc (named_count rest)
-
-pub taken : (ks : List (Option ℕ)) → AreDifferent ks → 0 < named_count ks → Taken ks
-taken [] D h = absurd (omega arith)
-taken (None ∷ ks) D h = let T = taken ks D h in record { item = T.item; rest = T.rest; there = T.there; others = T.others; gone = T.gone; different = T.different; count = T.count }
-taken (Some k ∷ ks) D h = record { item = k; rest = ks; there = inl refl; others = λ j i. inr i; gone = D.0; different = D.1; count = refl }
-
-pub three-of : (ks : List (Option ℕ)) → AreDifferent ks → 3 ≤ named_count ks → (a : ℕ) × ((b : ℕ) × ((c : ℕ) × AreThreeOf ks a b c))
-three-of ks D h =
-    let A = taken ks D (omega arith) in
-    let B = taken A.rest A.different (let n = A.count in omega arith) in
-    let C = taken B.rest B.different (let n = A.count in let m = B.count in omega arith) in (
-      A.item,
-      (
-        B.item,
-        (
-          C.item,
-          record {
-            first = A.there;
-            second = A.others B.item B.there;
-            third = A.others C.item (B.others C.item C.there);
-            ab = λ z. A.gone (subst (λ k. IsAmong k A.rest) (sym z) B.there);
-            ac = λ z. A.gone (subst (λ k. IsAmong k A.rest) (sym z) (B.others C.item C.there));
-            bc = λ z. B.gone (subst (λ k. IsAmong k B.rest) (sym z) C.there);
-          },
-        ),
-      ),
-    )
 
 -- those that pass a test, and those that fail it
 pub record Side (ks : List (Option ℕ)) (F : (k : ℕ) → Bool → Type 0) (b : Bool) : Type 0 where

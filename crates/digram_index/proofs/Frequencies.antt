@@ -14,11 +14,11 @@ use Rattle.digram_index.proofs.SpotLemmas.{S, Ranked, ranked, often-ranked, ofte
 
 module _ (ps : List Pattern) (counts : List ℕ) (occ : Grouped) (us : List ℕ) (ranking : Grouped) (A : AreEntries ps counts occ us ranking) (few : length occ.held ≤ 2 ^ 31) where
   -- the rate of a pattern that is often is its entry's key
-  rate-key : (p : Pattern) (R : Ranked ps counts occ us ranking A p) → IsOften p (S ps counts occ us ranking A) → (f : ℕ) → IsRate p (spot_count p (S ps counts occ us ranking A)) f → (f ≡ R.placed.key) × (R.placed.key < 2 ^ 32)
+  rate-key : (p : Pattern) (R : Ranked ps counts occ us ranking A p) → IsOften 3 p (S ps counts occ us ranking A) → (f : ℕ) → IsRate p (spot_count p (S ps counts occ us ranking A)) f → (f ≡ R.placed.key) × (R.placed.key < 2 ^ 32)
   rate-key p R O f F = at (mark_cases p.upper p.lower)
     where
       three : 3 ≤ R.placed.key
-      three = often-key ps counts occ us ranking A p R.entry R.bucket R.there O R.placed
+      three = often-key ps counts occ us ranking A 3 p R.entry R.bucket (omega arith) R.there O R.placed
 
       counted : get_or counts R.entry 0 ≡ spot_count p (S ps counts occ us ranking A)
       counted = count-of ps counts occ us ranking A R.entry p R.there
@@ -50,10 +50,10 @@ module _ (ps : List Pattern) (counts : List ℕ) (occ : Grouped) (us : List ℕ)
           (omega arith, omega arith)
 
   -- a pattern in the highest bucket is as frequent as any, but for a sixteenth
-  pub best-most : (bound : ℕ) → bound ≤ 8 → (e : ℕ) (p : Pattern) → slice_get ps e ≡ Some p → IsOften p (S ps counts occ us ranking A) → IsHighest (group_at ranking) bound e → IsBest (S ps counts occ us ranking A) bound p
+  pub best-most : (bound : ℕ) → bound ≤ 8 → (e : ℕ) (p : Pattern) → slice_get ps e ≡ Some p → IsOften 3 p (S ps counts occ us ranking A) → IsHighest (group_at ranking) bound e → IsBest (S ps counts occ us ranking A) bound p
   best-most bound hb e p s O H = λ q m n r Q M N.
       let R = ranked ps counts occ us ranking A e (H.rank * 464 + H.level) p s H.here in
-      let T = often-ranked ps counts occ us ranking A q Q in
+      let T = often-ranked ps counts occ us ranking A 3 q (omega arith) Q in
       let x = rate-key p R O m M in
       let y = rate-key q T Q n N in
       let h = T.placed.bucket.here in

@@ -58,10 +58,10 @@ halved-level key rest d H k = at (cases_lt rest 32)
         let l = subst (λ n. rest * 2 ^ n ≤ key) (H.full x) H.low in
         absurd (omega arith)
 
-pub halved-three : (key rest doublings : ℕ) → IsHalved key rest doublings 27 → (3 ≤ 16 * doublings + min rest 31 → 3 ≤ key) × (3 ≤ key → 3 ≤ 16 * doublings + min rest 31)
-halved-three key rest d H = at (cases_lt 0 d)
+pub halved-exact : (key rest doublings : ℕ) → IsHalved key rest doublings 27 → (least : ℕ) → least ≤ 3 → (least ≤ 16 * doublings + min rest 31 → least ≤ key) × (least ≤ key → least ≤ 16 * doublings + min rest 31)
+halved-exact key rest d H least m = at (cases_lt 0 d)
   where
-    at : (0 < d) ⊎ (d ≤ 0) → (3 ≤ 16 * d + min rest 31 → 3 ≤ key) × (3 ≤ key → 3 ≤ 16 * d + min rest 31)
+    at : (0 < d) ⊎ (d ≤ 0) → (least ≤ 16 * d + min rest 31 → least ≤ key) × (least ≤ key → least ≤ 16 * d + min rest 31)
     at (inl x) =
         let g = H.great x in
         let l = H.low in

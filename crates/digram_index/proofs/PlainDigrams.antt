@@ -1,5 +1,5 @@
 -- Occurrences in rules without keys, and the same ones in rules with keys.
-use Rattle.std.proofs.Common.{◌≡◌, ◌≢◌, ◌+◌, ℕ, zero, suc, List, [], ◌∷◌, ◌++◌, get_or, drop, Option, Some, None, slice_get, refl, ap, sym, ◌∙◌, subst, arith}
+use Rattle.std.proofs.Common.{◌≡◌, ◌≢◌, ◌≤◌, ◌+◌, length, ℕ, zero, suc, List, [], ◌∷◌, ◌++◌, get_or, drop, Option, Some, None, IfSome, IfNone, slice_get, refl, ap, sym, ◌∙◌, subst, arith}
 use Rattle.rule_arena.specs.Preorder.{parents, places}
 use Rattle.rule_arena.specs.Terms.{Node, kids_of}
 use Rattle.rule_arena.specs.declared.key.Key.{Key}
@@ -12,9 +12,10 @@ use Rattle.slt_grammar.specs.Grammars.{body_at}
 use Rattle.slt_grammar.specs.Digrams.{Occurrence, Occurs, AreDisjoint, HasThreeDisjoint, numbered, parent_place}
 use Rattle.slt_grammar.specs.Keyed.{Keyed, KeyedRule, IsKeyed, HasArities, rules_of, labels_of, nodes_at, key_at}
 use Rattle.slt_grammar.specs.declared.digram.Digram.{Digram}
+use Rattle.slt_grammar.specs.declared.rules.Rule.{Rule}
 use Rattle.slt_grammar.proofs.KeyedLemmas.{body_at-rules_of, label-there}
 use Rattle.digram_index.specs.Digrams.{Cell, parent_node, joint_rank, occurrence_under, occurrence_below, occurrence_at}
-use Rattle.digram_index.specs.Settled.{NodePair, OccursBetween, PairsShareNone, HasThreeApart}
+use Rattle.digram_index.specs.Settled.{NodePair, OccursBetween, PairsShareNone, OccurApart, HasApart, HasTwoDisjoint}
 use Rattle.digram_index.proofs.LevelLemmas.{same_some}
 use Rattle.digram_index.proofs.Apartness.{Stands, stands, one-key}
 
@@ -200,36 +201,67 @@ keyed-occurs g K d o O = at (parent_node ns o.lower) refl (subst (λ q. StandsFo
           ),
         )
 
-pub three-disjoint : (g : Keyed) → IsKeyed g → (d : Digram) → HasThreeApart g.rules d → HasThreeDisjoint (rules_of g.rules) d
-three-disjoint g K d H =
-    let A = plain-occurs g K d H.first H.a in
-    let B = plain-occurs g K d H.second H.b in
-    let C = plain-occurs g K d H.third H.c in
-    record {
-      first = A.0;
-      second = B.0;
-      third = C.0;
-      occurs_first = A.1.0;
-      occurs_second = B.1.0;
-      occurs_third = C.1.0;
-      first_second = apart-disjoint g.rules A.0 B.0 H.first H.second A.1.1 B.1.1 H.ab;
-      first_third = apart-disjoint g.rules A.0 C.0 H.first H.third A.1.1 C.1.1 H.ac;
-      second_third = apart-disjoint g.rules B.0 C.0 H.second H.third B.1.1 C.1.1 H.bc;
-    }
+module _ (g : Keyed) (K : IsKeyed g) (d : Digram) where
+  pub two-disjoint : HasApart g.rules d 2 → HasTwoDisjoint (rules_of g.rules) d
+  two-disjoint H = at H.0 H.1.0 H.1.1
+    where
+      at : (ns : List NodePair) → OccurApart g.rules d ns → 2 ≤ length ns → HasTwoDisjoint (rules_of g.rules) d
+      at [] O l = absurd (omega arith)
+      at (m ∷ []) O l = absurd (omega arith)
+      at (m ∷ n ∷ ns) O l =
+          let A = plain-occurs g K d m O.0 in
+          let B = plain-occurs g K d n O.1.1.0 in
+          record { first = A.0; second = B.0; occurs_first = A.1.0; occurs_second = B.1.0; first_second = apart-disjoint g.rules A.0 B.0 m n A.1.1 B.1.1 O.1.0.0 }
 
-pub three-apart : (g : Keyed) → IsKeyed g → (d : Digram) → HasThreeDisjoint (rules_of g.rules) d → HasThreeApart g.rules d
-three-apart g K d H =
-    let A = keyed-occurs g K d H.first H.occurs_first in
-    let B = keyed-occurs g K d H.second H.occurs_second in
-    let C = keyed-occurs g K d H.third H.occurs_third in
-    record {
-      first = A.0;
-      second = B.0;
-      third = C.0;
-      a = A.1.0;
-      b = B.1.0;
-      c = C.1.0;
-      ab = disjoint-apart g K H.first H.second A.0 B.0 A.1.1 B.1.1 H.first_second;
-      ac = disjoint-apart g K H.first H.third A.0 C.0 A.1.1 C.1.1 H.first_third;
-      bc = disjoint-apart g K H.second H.third B.0 C.0 B.1.1 C.1.1 H.second_third;
-    }
+  pub two-apart : HasTwoDisjoint (rules_of g.rules) d → HasApart g.rules d 2
+  two-apart H =
+      let A = keyed-occurs g K d H.first H.occurs_first in
+      let B = keyed-occurs g K d H.second H.occurs_second in
+      let ab = disjoint-apart g K H.first H.second A.0 B.0 A.1.1 B.1.1 H.first_second in
+      (A.0 ∷ B.0 ∷ [], ((A.1.0, ((ab, tt), (B.1.0, (tt, tt)))), omega arith))
+
+  pub three-disjoint : HasApart g.rules d 3 → HasThreeDisjoint (rules_of g.rules) d
+  three-disjoint H = at H.0 H.1.0 H.1.1
+    where
+      at : (ns : List NodePair) → OccurApart g.rules d ns → 3 ≤ length ns → HasThreeDisjoint (rules_of g.rules) d
+      at [] O l = absurd (omega arith)
+      at (m ∷ []) O l = absurd (omega arith)
+      at (m ∷ n ∷ []) O l = absurd (omega arith)
+      at (m ∷ n ∷ o ∷ ns) O l =
+          let A = plain-occurs g K d m O.0 in
+          let B = plain-occurs g K d n O.1.1.0 in
+          let C = plain-occurs g K d o O.1.1.1.1.0 in
+          record {
+            first = A.0;
+            second = B.0;
+            third = C.0;
+            occurs_first = A.1.0;
+            occurs_second = B.1.0;
+            occurs_third = C.1.0;
+            first_second = apart-disjoint g.rules A.0 B.0 m n A.1.1 B.1.1 O.1.0.0;
+            first_third = apart-disjoint g.rules A.0 C.0 m o A.1.1 C.1.1 O.1.0.1.0;
+            second_third = apart-disjoint g.rules B.0 C.0 n o B.1.1 C.1.1 O.1.1.1.0.0;
+          }
+
+  pub three-apart : HasThreeDisjoint (rules_of g.rules) d → HasApart g.rules d 3
+  three-apart H =
+      let A = keyed-occurs g K d H.first H.occurs_first in
+      let B = keyed-occurs g K d H.second H.occurs_second in
+      let C = keyed-occurs g K d H.third H.occurs_third in
+      let ab = disjoint-apart g K H.first H.second A.0 B.0 A.1.1 B.1.1 H.first_second in
+      let ac = disjoint-apart g K H.first H.third A.0 C.0 A.1.1 C.1.1 H.first_third in
+      let bc = disjoint-apart g K H.second H.third B.0 C.0 B.1.1 C.1.1 H.second_third in
+      (A.0 ∷ B.0 ∷ C.0 ∷ [], ((A.1.0, ((ab, (ac, tt)), (B.1.0, ((bc, tt), (C.1.0, (tt, tt)))))), omega arith))
+
+-- of three occurrences that share no node, two share none
+pub two-of-three : (G : List Rule) (d : Digram) → HasThreeDisjoint G d → HasTwoDisjoint G d
+two-of-three G d H = record { first = H.first; second = H.second; occurs_first = H.occurs_first; occurs_second = H.occurs_second; first_second = H.first_second }
+
+-- what is said of an answer in other words
+pub some-then : (P Q : Digram → Type 0) (o : Option Digram) → ((d : Digram) → P d → Q d) → IfSome o P → IfSome o Q
+some-then P Q None f h = tt
+some-then P Q (Some d) f h = f d h
+
+pub none-then : (P Q : Type 0) (o : Option Digram) → (P → Q) → IfNone o P → IfNone o Q
+none-then P Q None f h = f h
+none-then P Q (Some d) f h = tt

@@ -9,11 +9,11 @@ use Rattle.digram_index.specs.Digrams.{joint_rank}
 use Rattle.digram_index.specs.Frequency.{IsFrequency, IsRate, IsBest}
 use Rattle.digram_index.specs.Linked.{label_of, digram_of, cell_of, cell_count, AreKnown}
 use Rattle.digram_index.specs.Numbers.{Numbering}
-use Rattle.digram_index.specs.Settled.{HasThreeApart, IsWithin}
+use Rattle.digram_index.specs.Settled.{HasApart, IsWithin}
 use Rattle.digram_index.specs.Spots.{Spot, Entered, spot_count, IsOften}
 use Rattle.digram_index.proofs.RankLemmas.{digram-sound, digram-same}
 use Rattle.digram_index.proofs.SpotCounts.{one_of, one-spot, one-spot-same, one-spot-other, spot-cons}
-use Rattle.digram_index.proofs.Tops.{label-injective, fields, AreCells, AreAllCells, Member, member, often-member, apart-often}
+use Rattle.digram_index.proofs.Tops.{label-injective, fields, AreCells, AreAllCells, Member, member, often-member, apart-pattern}
 
 -- the occurrences of a pattern are the cells of its digram, where no other pattern has it
 count-cells : (ns : List ℕ) (p : Pattern) (ss : List (Option Spot)) → ((k : ℕ) (s : Spot) → get_or ss k None ≡ Some s → digram_of ns s.pattern ≡ digram_of ns p → s.pattern ≡ p) → spot_count p ss ≡ cell_count (digram_of ns p) (map (cell_of ns) ss)
@@ -40,13 +40,13 @@ module _ (g : Keyed) (K : IsKeyed g) (n : Numbering) (e : Entered) (N : AreKnown
       fields p q u c l r
 
   -- the occurrences of a pattern are those of its digram
-  pub often-count : (p : Pattern) → IsOften p e.spots → spot_count p e.spots ≡ cell_count (digram_of n.numbers p) (map (cell_of n.numbers) e.spots)
-  often-count p O = count-cells n.numbers p e.spots (λ k s h z. let M = often-member g K n e N C p O in member-same s.pattern p k M.0 (member g K n e N C s.pattern k (s.upper, h)) M.1 z)
+  pub often-count : (p : Pattern) → IsOften 3 p e.spots → spot_count p e.spots ≡ cell_count (digram_of n.numbers p) (map (cell_of n.numbers) e.spots)
+  often-count p O = count-cells n.numbers p e.spots (λ k s h z. let M = often-member g K n e N C 3 (omega arith) p O in member-same s.pattern p k M.0 (member g K n e N C s.pattern k (s.upper, h)) M.1 z)
 
   -- and it is as frequent as its digram
-  pub often-rate : (p : Pattern) (f : ℕ) → IsOften p e.spots → IsFrequency (digram_of n.numbers p) (cell_count (digram_of n.numbers p) (map (cell_of n.numbers) e.spots)) f → IsRate p (spot_count p e.spots) f
+  pub often-rate : (p : Pattern) (f : ℕ) → IsOften 3 p e.spots → IsFrequency (digram_of n.numbers p) (cell_count (digram_of n.numbers p) (map (cell_of n.numbers) e.spots)) f → IsRate p (spot_count p e.spots) f
   often-rate p f O F =
-      let M = (often-member g K n e N C p O).1 in
+      let M = (often-member g K n e N C 3 (omega arith) p O).1 in
       let c = often-count p O in
       record {
         differ = λ d. F.differ (λ z. d (label-injective n.numbers p.upper p.lower M.upper M.lower z)) ∙ sym c;
@@ -54,8 +54,8 @@ module _ (g : Keyed) (K : IsKeyed g) (n : Numbering) (e : Entered) (N : AreKnown
       }
 
   -- the digram of the best pattern is the most frequent
-  pub best-digram : AreAllCells g n e → (bound : ℕ) (p : Pattern) → IsOften p e.spots → IsBest e.spots bound p → (d : Digram) → HasThreeApart g.rules d → IsWithin g.rules bound d
+  pub best-digram : AreAllCells g n e → (bound : ℕ) (p : Pattern) → IsOften 3 p e.spots → IsBest e.spots bound p → (d : Digram) → HasApart g.rules d 3 → IsWithin g.rules bound d
       → (a b : ℕ) → IsFrequency (digram_of n.numbers p) (cell_count (digram_of n.numbers p) (map (cell_of n.numbers) e.spots)) a → IsFrequency d (cell_count d (map (cell_of n.numbers) e.spots)) b → 16 * b ≤ 17 * a
   best-digram all bound p O B d H w a b F G =
-      let q = apart-often g K n e N C all d bound w H in
+      let q = apart-pattern g K n e N C all d bound 3 (omega arith) w H in
       B q.0 a b q.1.0 q.1.1.0 (often-rate p a O F) (often-rate q.0 b q.1.1.0 (subst (λ x. IsFrequency x (cell_count x (map (cell_of n.numbers) e.spots)) b) (sym q.1.1.1) G))

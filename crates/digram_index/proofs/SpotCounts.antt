@@ -1,5 +1,5 @@
 -- Occurrences as they are kept by entries, and how many of a pattern there are.
-use Rattle.std.proofs.Common.{◌≡◌, ◌≢◌, ◌<◌, ◌≤◌, ◌+◌, ◌⊎◌, inl, inr, ℕ, zero, suc, List, [], ◌∷◌, length, get_or, drop, Option, Some, None, slice_get, Bool, true, false, if◌then◌else◌, refl, ap, sym, ◌∙◌, arith}
+use Rattle.std.proofs.Common.{◌≡◌, ◌≢◌, ◌<◌, ◌≤◌, ◌+◌, ◌⊎◌, inl, inr, ℕ, zero, suc, List, [], ◌∷◌, length, get_or, drop, Option, Some, None, slice_get, Bool, true, false, if◌then◌else◌, refl, ap, sym, ◌∙◌, subst, arith}
 use Rattle.std.proofs.lemmas.Bool.{cases_eq}
 use Rattle.std.proofs.lemmas.Option.{get_or_from_slice_get}
 use Rattle.digram_index.specs.declared.patterns.Pattern.{Pattern}
@@ -7,8 +7,8 @@ use Rattle.digram_index.specs.declared.patterns.Mark.{Mark}
 use Rattle.digram_index.specs.declared.patterns.Mark.TheVariants.{Bottom, Symbol, Call, Param}
 use Rattle.digram_index.specs.contracts.patterns.PatternPartialEq.TheImpl as eqs
 use Rattle.digram_index.specs.Patterns.{ArePatterns}
-use Rattle.digram_index.specs.Grouped.{IsAmong, named_count}
-use Rattle.digram_index.specs.Spots.{Spot, held_count, spot_count}
+use Rattle.digram_index.specs.Grouped.{IsAmong, AreDifferent, named_count}
+use Rattle.digram_index.specs.Spots.{Spot, held_count, spot_count, upper_in, IsApartFrom, IsSpotOf, AreApartSpots, HasApartSpots, HasMembers, IsOften}
 use Rattle.digram_index.specs.Entries.{no_pattern, pattern_at, spots_of, spot_from}
 use Rattle.digram_index.proofs.Counting.{one_if, one-held, one-not, held-cons}
 use Rattle.digram_index.proofs.PatternLemmas.{eq-sound, eq-same}
@@ -145,3 +145,52 @@ pub some-among : (os : List (Option ℕ)) → 0 < named_count os → (k : ℕ) �
 some-among [] h = absurd (omega arith)
 some-among (None ∷ os) h = some-among os h
 some-among (Some k ∷ os) h = (k, inl refl)
+
+-- an occurrence of a pattern that is often
+pub often-spot : (ss : List (Option Spot)) (least : ℕ) (p : Pattern) → 1 ≤ least → IsOften least p ss → (k : ℕ) × IsSpotOf ss p k
+often-spot ss least p one O = at (mark_cases p.upper p.lower)
+  where
+    one-of : (n : ℕ) → 1 ≤ n → HasMembers ss p n → (k : ℕ) × IsSpotOf ss p k
+    one-of n l H = let i = some-among H.0 (let h = H.1.1 in omega arith) in (i.0, H.1.0.members i.0 i.1)
+
+    first-of : (ks : List ℕ) → AreApartSpots ss p ks → least ≤ length ks → (k : ℕ) × IsSpotOf ss p k
+    first-of [] H l = absurd (omega arith)
+    first-of (k ∷ ks) H l = (k, H.0)
+
+    equal : HasMembers ss p 5 ⊎ HasApartSpots ss p least → (k : ℕ) × IsSpotOf ss p k
+    equal (inl m) = one-of 5 (omega arith) m
+    equal (inr T) = first-of T.0 T.1.0 T.1.1
+
+    at : (p.upper ≡ p.lower) ⊎ (p.upper ≢ p.lower) → (k : ℕ) × IsSpotOf ss p k
+    at (inl q) = equal (O.1 q)
+    at (inr q) = one-of least one (O.0 q)
+
+abbrev named : List ℕ → List (Option ℕ)
+named [] = []
+named (k ∷ ks) = Some k ∷ named ks
+
+named-many : (ks : List ℕ) → named_count (named ks) ≡ length ks
+named-many [] = refl
+named-many (k ∷ ks) = ap suc (named-many ks)
+
+not-named : (up : ℕ → ℕ) (a : ℕ) (ks : List ℕ) → IsApartFrom up a ks → IsAmong a (named ks) → ⊥
+not-named up a [] A i = i
+not-named up a (k ∷ ks) A (inl z) = A.0.lows z
+not-named up a (k ∷ ks) A (inr i) = not-named up a ks A.1 i
+
+-- occurrences of a pattern that share no node are different
+apart-different : (ss : List (Option Spot)) (p : Pattern) (ks : List ℕ) → AreApartSpots ss p ks → AreDifferent (named ks)
+apart-different ss p [] A = tt
+apart-different ss p (k ∷ ks) A = (not-named (upper_in ss) k ks A.1.0, apart-different ss p ks A.1.1)
+
+apart-spot : (ss : List (Option Spot)) (p : Pattern) (ks : List ℕ) → AreApartSpots ss p ks → (k : ℕ) → IsAmong k (named ks) → IsSpotOf ss p k
+apart-spot ss p [] A k i = absurd i
+apart-spot ss p (j ∷ ks) A k (inl z) = subst (λ m. IsSpotOf ss p m) (sym z) A.0
+apart-spot ss p (j ∷ ks) A k (inr i) = apart-spot ss p ks A.1.1 k i
+
+-- where so many share no node, a pattern is often
+pub apart-often : (ss : List (Option Spot)) (least : ℕ) (p : Pattern) → HasApartSpots ss p least → IsOften least p ss
+apart-often ss least p H = (
+  λ _. (named H.0, (record { different = apart-different ss p H.0 H.1.0; members = apart-spot ss p H.0 H.1.0 }, let n = named-many H.0 in let m = H.1.1 in omega arith)),
+  λ _. inr H,
+)

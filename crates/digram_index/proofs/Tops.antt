@@ -1,6 +1,7 @@
 -- What the best entry says of the grammar.
-use Rattle.std.proofs.Common.{◌≡◌, ◌≢◌, ◌<◌, ◌≤◌, ◌⊎◌, inl, inr, ℕ, suc, List, [], ◌∷◌, map, get_or, Option, Some, None, Bool, true, false, refl, ap, sym, ◌∙◌, subst, arith}
+use Rattle.std.proofs.Common.{◌≡◌, ◌≢◌, ◌<◌, ◌≤◌, ◌⊎◌, inl, inr, ℕ, suc, List, [], ◌∷◌, map, length, get_or, Option, Some, None, Bool, true, false, refl, ap, sym, ◌∙◌, arith}
 use Rattle.std.proofs.lemmas.Bool.{cases_lt}
+use Rattle.std.proofs.lemmas.List.{length-map}
 use Rattle.rule_arena.specs.declared.key.Key.{Key}
 use Rattle.rule_arena.specs.declared.label.Label.{Label}
 use Rattle.slt_grammar.specs.Names.{Bottom as BottomLabel, Symbol as SymbolLabel, Call as CallLabel, Param as ParamLabel}
@@ -12,16 +13,16 @@ use Rattle.digram_index.specs.declared.patterns.Mark.TheVariants.{Bottom, Symbol
 use Rattle.digram_index.specs.declared.patterns.Pattern.{Pattern}
 use Rattle.digram_index.specs.Numbers.{Numbering, place_of}
 use Rattle.digram_index.specs.Grouped.{IsAmong, AreDifferent, named_count}
-use Rattle.digram_index.specs.Spots.{Spot, Entered, spot_at, upper_from, upper_in, AreApart, IsSpotOf, AreThreeSpots, HasMembers, IsOften}
+use Rattle.digram_index.specs.Spots.{Spot, Entered, spot_at, upper_from, upper_in, AreApart, IsApartFrom, IsSpotOf, AreApartSpots, HasApartSpots, HasMembers, IsOften}
 use Rattle.digram_index.specs.Digrams.{Cell, OccursAt, joint_rank, occurrence_at}
 use Rattle.digram_index.specs.Keeping.{AreOccurrences}
 use Rattle.digram_index.specs.Linked.{Linked, IsIndexOf, label_of, IsKnown, digram_of, cell_of, AreKnown}
-use Rattle.digram_index.specs.Settled.{NodePair, OccursBetween, PairsShareNone, HasThreeApart, IsWithin}
+use Rattle.digram_index.specs.Settled.{NodePair, OccursBetween, PairsShareNone, SharesNone, OccurApart, HasApart, IsWithin}
 use Rattle.digram_index.proofs.NumberLemmas.{number-back}
-use Rattle.digram_index.proofs.SpotCounts.{mark_cases, some-among}
+use Rattle.digram_index.proofs.SpotCounts.{mark_cases, often-spot, apart-often}
 use Rattle.digram_index.proofs.CellLemmas.{cell-at}
 use Rattle.digram_index.proofs.LevelLemmas.{same_some}
-use Rattle.digram_index.proofs.Apartness.{stands, Stood, depth, odd, even-apart, differ-apart, occurs, three-of, Side, Sides, sides}
+use Rattle.digram_index.proofs.Apartness.{stands, Stood, depth, odd, even-apart, differ-apart, occurs, Side, Sides, sides}
 
 pub call-same : (a b : ℕ) → CallLabel a ≡ CallLabel b → a ≡ b
 call-same a b e = cc
@@ -86,18 +87,30 @@ module _ (g : Keyed) (K : IsKeyed g) (n : Numbering) (e : Entered) (N : AreKnown
         lower = N.lower k (record { pattern = p; upper = s.0 }) s.1;
       }
 
-  three : (p : Pattern) (a b c : ℕ) → Member p a → Member p b → Member p c → PairsShareNone (pair a) (pair b) → PairsShareNone (pair a) (pair c) → PairsShareNone (pair b) (pair c) → HasThreeApart g.rules (digram_of n.numbers p)
-  three p a b c A B D x y z = record {
-    first = pair a;
-    second = pair b;
-    third = pair c;
-    a = occurs g K (digram_of n.numbers p) (pair a) A.stood A.here;
-    b = occurs g K (digram_of n.numbers p) (pair b) B.stood B.here;
-    c = occurs g K (digram_of n.numbers p) (pair c) D.stood D.here;
-    ab = x;
-    ac = y;
-    bc = z;
-  }
+  -- those that are named, by the numbers of their nodes
+  abbrev pairs : List (Option ℕ) → List NodePair
+  pairs [] = []
+  pairs (None ∷ ks) = pairs ks
+  pairs (Some k ∷ ks) = pair k ∷ pairs ks
+
+  length-pairs : (ks : List (Option ℕ)) → length (pairs ks) ≡ named_count ks
+  length-pairs [] = refl
+  length-pairs (None ∷ ks) = length-pairs ks
+  length-pairs (Some k ∷ ks) = ap suc (length-pairs ks)
+
+  -- named ones share no node, where different ones of their kind do not
+  named-from : (F : ℕ → Type 0) → ((a b : ℕ) → F a → F b → a ≢ b → PairsShareNone (pair a) (pair b)) → (a : ℕ) → F a → (ks : List (Option ℕ)) → ((k : ℕ) → IsAmong k ks → F k) → (IsAmong a ks → ⊥) → SharesNone (pair a) (pairs ks)
+  named-from F apart a x [] f n = tt
+  named-from F apart a x (None ∷ ks) f n = named-from F apart a x ks f n
+  named-from F apart a x (Some k ∷ ks) f n = (apart a k x (f k (inl refl)) (λ z. n (inl z)), named-from F apart a x ks (λ j i. f j (inr i)) (λ i. n (inr i)))
+
+  named-apart : (p : Pattern) (F : ℕ → Type 0) → ((k : ℕ) → F k → Member p k) → ((a b : ℕ) → F a → F b → a ≢ b → PairsShareNone (pair a) (pair b)) → (ks : List (Option ℕ)) → AreDifferent ks → ((k : ℕ) → IsAmong k ks → F k)
+      → OccurApart g.rules (digram_of n.numbers p) (pairs ks)
+  named-apart p F m apart [] D f = tt
+  named-apart p F m apart (None ∷ ks) D f = named-apart p F m apart ks D f
+  named-apart p F m apart (Some k ∷ ks) D f =
+      let M = m k (f k (inl refl)) in
+      (occurs g K (digram_of n.numbers p) (pair k) M.stood M.here, (named-from F apart k (f k (inl refl)) ks (λ j i. f j (inr i)) D.0, named-apart p F m apart ks D.1 (λ j i. f j (inr i))))
 
   share : (a b : ℕ) → AreApart (upper_in e.spots) a b → PairsShareNone (pair a) (pair b)
   share a b A = record { lows = A.lows; highs = A.highs; down = A.down; back = A.back }
@@ -106,75 +119,54 @@ module _ (g : Keyed) (K : IsKeyed g) (n : Numbering) (e : Entered) (N : AreKnown
   abbrev pub Even : Pattern → ℕ → Bool → Type 0
   Even p k b = (M : Member p k) × (odd g K (depth g K (digram_of n.numbers p) (pair k) M.stood) ≡ b)
 
-  from-side : (p : Pattern) (ks : List (Option ℕ)) (b : Bool) (S : Side ks (Even p) b) → 3 ≤ named_count S.items → HasThreeApart g.rules (digram_of n.numbers p)
-  from-side p ks b S h =
-      let T = three-of S.items S.different h in
-      let a = S.facts T.0 T.1.1.1.first in
-      let c = S.facts T.1.0 T.1.1.1.second in
-      let d = S.facts T.1.1.0 T.1.1.1.third in
-      let even = even-apart g K (digram_of n.numbers p) in
-      three p T.0 T.1.0 T.1.1.0 a.0 c.0 d.0
-      (even (pair T.0) (pair T.1.0) a.0.stood c.0.stood T.1.1.1.ab (a.1 ∙ sym c.1))
-      (even (pair T.0) (pair T.1.1.0) a.0.stood d.0.stood T.1.1.1.ac (a.1 ∙ sym d.1))
-      (even (pair T.1.0) (pair T.1.1.0) c.0.stood d.0.stood T.1.1.1.bc (c.1 ∙ sym d.1))
+  from-side : (p : Pattern) (ks : List (Option ℕ)) (b : Bool) (S : Side ks (Even p) b) (least : ℕ) → least ≤ named_count S.items → HasApart g.rules (digram_of n.numbers p) least
+  from-side p ks b S least h =
+      let even = λ (j k : ℕ) (x : Even p j b) (y : Even p k b) (d : j ≢ k). even-apart g K (digram_of n.numbers p) (pair j) (pair k) x.0.stood y.0.stood d (x.1 ∙ sym y.1) in
+      (pairs S.items, (named-apart p (λ k. Even p k b) (λ k x. x.0) even S.items S.different S.facts, let l = length-pairs S.items in omega arith))
 
   -- of five occurrences three stand at depths of one parity, and share no node
-  five : (p : Pattern) → HasMembers e.spots p 5 → HasThreeApart g.rules (digram_of n.numbers p)
-  five p H = at (sides H.0 (Even p) H.1.0.different (λ k i. let M = member p k (H.1.0.members k i) in (odd g K (depth g K (digram_of n.numbers p) (pair k) M.stood), (M, refl))))
+  five : (p : Pattern) → HasMembers e.spots p 5 → (least : ℕ) → least ≤ 3 → HasApart g.rules (digram_of n.numbers p) least
+  five p H least three = at (sides H.0 (Even p) H.1.0.different (λ k i. let M = member p k (H.1.0.members k i) in (odd g K (depth g K (digram_of n.numbers p) (pair k) M.stood), (M, refl))))
     where
-      at : Sides H.0 (Even p) → HasThreeApart g.rules (digram_of n.numbers p)
-      at S = by (cases_lt (named_count S.yes.items) 3)
+      at : Sides H.0 (Even p) → HasApart g.rules (digram_of n.numbers p) least
+      at S = by (cases_lt (named_count S.yes.items) least)
         where
-          by : (named_count S.yes.items < 3) ⊎ (3 ≤ named_count S.yes.items) → HasThreeApart g.rules (digram_of n.numbers p)
-          by (inl x) = from-side p H.0 false S.no_ (let c = S.counts in let h = H.1.1 in omega arith)
-          by (inr x) = from-side p H.0 true S.yes x
+          by : (named_count S.yes.items < least) ⊎ (least ≤ named_count S.yes.items) → HasApart g.rules (digram_of n.numbers p) least
+          by (inl x) = from-side p H.0 false S.no_ least (let c = S.counts in let h = H.1.1 in omega arith)
+          by (inr x) = from-side p H.0 true S.yes least x
 
-  differing : (p : Pattern) → p.upper ≢ p.lower → HasMembers e.spots p 3 → HasThreeApart g.rules (digram_of n.numbers p)
-  differing p x H =
-      let T = three-of H.0 H.1.0.different H.1.1 in
-      let a = member p T.0 (H.1.0.members T.0 T.1.1.1.first) in
-      let c = member p T.1.0 (H.1.0.members T.1.0 T.1.1.1.second) in
-      let d = member p T.1.1.0 (H.1.0.members T.1.1.0 T.1.1.1.third) in
-      let l : (digram_of n.numbers p).upper ≢ (digram_of n.numbers p).lower = λ z. x (label-injective n.numbers p.upper p.lower a.upper a.lower z) in
-      let apart = differ-apart g K (digram_of n.numbers p) in
-      three p T.0 T.1.0 T.1.1.0 a c d
-      (apart (pair T.0) (pair T.1.0) a.stood c.stood T.1.1.1.ab l)
-      (apart (pair T.0) (pair T.1.1.0) a.stood d.stood T.1.1.1.ac l)
-      (apart (pair T.1.0) (pair T.1.1.0) c.stood d.stood T.1.1.1.bc l)
+  differing : (p : Pattern) → p.upper ≢ p.lower → (least : ℕ) → HasMembers e.spots p least → HasApart g.rules (digram_of n.numbers p) least
+  differing p x least H =
+      let apart = λ (j k : ℕ) (M : Member p j) (L : Member p k) (d : j ≢ k). differ-apart g K (digram_of n.numbers p) (pair j) (pair k) M.stood L.stood d (λ z. x (label-injective n.numbers p.upper p.lower M.upper M.lower z)) in
+      (pairs H.0, (named-apart p (Member p) (λ k M. M) apart H.0 H.1.0.different (λ k i. member p k (H.1.0.members k i)), let l = length-pairs H.0 in let h = H.1.1 in omega arith))
 
-  same-spots : (p : Pattern) → (a : ℕ) × ((b : ℕ) × ((c : ℕ) × AreThreeSpots e.spots p a b c)) → HasThreeApart g.rules (digram_of n.numbers p)
-  same-spots p (a, (b, (c, T))) = three p a b c (member p a T.first) (member p b T.second) (member p c T.third) (share a b T.ab) (share a c T.ac) (share b c T.bc)
+  spots-from : (a : ℕ) (ks : List ℕ) → IsApartFrom (upper_in e.spots) a ks → SharesNone (pair a) (map pair ks)
+  spots-from a [] A = tt
+  spots-from a (k ∷ ks) A = (share a k A.0, spots-from a ks A.1)
 
-  -- a pattern that is often has three occurrences that share no node
-  pub often-apart : (p : Pattern) → IsOften p e.spots → HasThreeApart g.rules (digram_of n.numbers p)
-  often-apart p O = at (mark_cases p.upper p.lower)
+  same-spots : (p : Pattern) (ks : List ℕ) → AreApartSpots e.spots p ks → OccurApart g.rules (digram_of n.numbers p) (map pair ks)
+  same-spots p [] A = tt
+  same-spots p (k ∷ ks) A = let M = member p k A.0 in (occurs g K (digram_of n.numbers p) (pair k) M.stood M.here, (spots-from k ks A.1.0, same-spots p ks A.1.1))
+
+  -- so many occurrences of a pattern that is often share no node
+  pub often-apart : (least : ℕ) → least ≤ 3 → (p : Pattern) → IsOften least p e.spots → HasApart g.rules (digram_of n.numbers p) least
+  often-apart least three p O = at (mark_cases p.upper p.lower)
     where
-      equal : HasMembers e.spots p 5 ⊎ ((a : ℕ) × ((b : ℕ) × ((c : ℕ) × AreThreeSpots e.spots p a b c))) → HasThreeApart g.rules (digram_of n.numbers p)
-      equal (inl H) = five p H
-      equal (inr T) = same-spots p T
+      equal : HasMembers e.spots p 5 ⊎ HasApartSpots e.spots p least → HasApart g.rules (digram_of n.numbers p) least
+      equal (inl H) = five p H least three
+      equal (inr T) = (map pair T.0, (same-spots p T.0 T.1.0, let l = length-map T.0 pair in let m = T.1.1 in omega arith))
 
-      at : (p.upper ≡ p.lower) ⊎ (p.upper ≢ p.lower) → HasThreeApart g.rules (digram_of n.numbers p)
+      at : (p.upper ≡ p.lower) ⊎ (p.upper ≢ p.lower) → HasApart g.rules (digram_of n.numbers p) least
       at (inl q) = equal (O.1 q)
-      at (inr q) = differing p q (O.0 q)
+      at (inr q) = differing p q least (O.0 q)
 
   -- one member of a pattern that is often
-  pub often-member : (p : Pattern) → IsOften p e.spots → (k : ℕ) × Member p k
-  often-member p O = at (mark_cases p.upper p.lower)
-    where
-      one : (m : ℕ) → HasMembers e.spots p (suc m) → (k : ℕ) × Member p k
-      one m H = let i = some-among H.0 (let h = H.1.1 in omega arith) in (i.0, member p i.0 (H.1.0.members i.0 i.1))
+  pub often-member : (least : ℕ) → 1 ≤ least → (p : Pattern) → IsOften least p e.spots → (k : ℕ) × Member p k
+  often-member least one p O = let t = often-spot e.spots least p one O in (t.0, member p t.0 t.1)
 
-      equal : HasMembers e.spots p 5 ⊎ ((a : ℕ) × ((b : ℕ) × ((c : ℕ) × AreThreeSpots e.spots p a b c))) → (k : ℕ) × Member p k
-      equal (inl H) = one 4 H
-      equal (inr T) = (T.0, member p T.0 T.1.1.1.first)
-
-      at : (p.upper ≡ p.lower) ⊎ (p.upper ≢ p.lower) → (k : ℕ) × Member p k
-      at (inl q) = equal (O.1 q)
-      at (inr q) = one 2 (O.0 q)
-
-  pub often-within : (p : Pattern) (bound : ℕ) → p.rank ≤ bound → IsOften p e.spots → IsWithin g.rules bound (digram_of n.numbers p)
-  often-within p bound h O =
-      let M = (often-member p O).1 in
+  pub often-within : (least : ℕ) → 1 ≤ least → (p : Pattern) (bound : ℕ) → p.rank ≤ bound → IsOften least p e.spots → IsWithin g.rules bound (digram_of n.numbers p)
+  often-within least one p bound h O =
+      let M = (often-member least one p O).1 in
       let r = M.stood.at.rank in
       let q = M.rank in
       let d = ap (λ (x : Digram). joint_rank (ranks_of (rules_of g.rules)) x.upper x.lower) M.stood.digram in
@@ -232,63 +224,29 @@ module _ (g : Keyed) (K : IsKeyed g) (n : Numbering) (e : Entered) (N : AreKnown
         back = λ z. X.back (sym ua ∙ z);
       }
 
-  -- a digram with three occurrences that share no node has a pattern that is often
-  pub apart-often : AreAllCells g n e → (d : Digram) (bound : ℕ) → IsWithin g.rules bound d → HasThreeApart g.rules d → (p : Pattern) × ((p.rank ≤ bound) × (IsOften p e.spots × (digram_of n.numbers p ≡ d)))
-  apart-often all d bound w H =
-      let A = found all d H.first H.a in
-      let B = found all d H.second H.b in
-      let D = found all d H.third H.c in
-      let p = A.spot.pattern in
-      let a = spot-of d H.first H.first A A in
-      let b = spot-of d H.first H.second A B in
-      let c = spot-of d H.first H.third A D in
-      let ks : List (Option ℕ) = Some H.first.low ∷ Some H.second.low ∷ Some H.third.low ∷ [] in (
-        p,
-        (
-          let r = A.rank in omega arith,
-          (
-            (
-              λ _. (ks, (record { different = different; members = λ k i. members k a b c i }, omega arith)),
-              λ _. inr (
-                H.first.low,
-                (
-                  H.second.low,
-                  (
-                    H.third.low,
-                    record {
-                      first = a;
-                      second = b;
-                      third = c;
-                      ab = unshare d H.first H.second A B H.ab;
-                      ac = unshare d H.first H.third A D H.ac;
-                      bc = unshare d H.second H.third B D H.bc;
-                    },
-                  ),
-                ),
-              ),
-            ),
-            A.digram,
-          ),
-        ),
-      )
+  -- the numbers of the lower nodes
+  abbrev lows : List NodePair → List ℕ
+  lows = map (λ (m : NodePair). m.low)
+
+  lows-from : AreAllCells g n e → (d : Digram) (m : NodePair) → Found d m → (ms : List NodePair) → OccurApart g.rules d ms → SharesNone m ms → IsApartFrom (upper_in e.spots) m.low (lows ms)
+  lows-from all d m M [] O S = tt
+  lows-from all d m M (x ∷ ms) O S = (unshare d m x M (found all d x O.0) S.0, lows-from all d m M ms O.1.1 S.1)
+
+  low-spots : AreAllCells g n e → (d : Digram) (a : NodePair) (A : Found d a) (ms : List NodePair) → OccurApart g.rules d ms → AreApartSpots e.spots A.spot.pattern (lows ms)
+  low-spots all d a A [] O = tt
+  low-spots all d a A (m ∷ ms) O = let M = found all d m O.0 in (spot-of d a m A M, (lows-from all d m M ms O.1.1 O.1.0, low-spots all d a A ms O.1.1))
+
+  -- a digram of which so many occurrences share no node has a pattern that is often
+  pub apart-pattern : AreAllCells g n e → (d : Digram) (bound least : ℕ) → 1 ≤ least → IsWithin g.rules bound d → HasApart g.rules d least → (p : Pattern) × ((p.rank ≤ bound) × (IsOften least p e.spots × (digram_of n.numbers p ≡ d)))
+  apart-pattern all d bound least one w H = at H.0 H.1.0 H.1.1
     where
-      not-second : (k : ℕ) → (H.second.low ≡ k) ⊎ ⊥ → H.second.low ≡ k
-      not-second k (inl x) = x
-      not-second k (inr x) = absurd x
-
-      not-first : (H.first.low ≡ H.second.low) ⊎ ((H.first.low ≡ H.third.low) ⊎ ⊥) → ⊥
-      not-first (inl x) = H.ab.lows x
-      not-first (inr (inl x)) = H.ac.lows x
-      not-first (inr (inr x)) = x
-
-      different : AreDifferent (Some H.first.low ∷ Some H.second.low ∷ Some H.third.low ∷ [])
-      different = (not-first, ((λ i. H.bc.lows (not-second H.third.low i)), ((λ i. i), tt)))
-
-      members : {p : Pattern} (k : ℕ) → IsSpotOf e.spots p H.first.low → IsSpotOf e.spots p H.second.low → IsSpotOf e.spots p H.third.low → IsAmong k (Some H.first.low ∷ Some H.second.low ∷ Some H.third.low ∷ []) → IsSpotOf e.spots p k
-      members {p} k a b c (inl x) = subst (λ j. IsSpotOf e.spots p j) (sym x) a
-      members {p} k a b c (inr (inl x)) = subst (λ j. IsSpotOf e.spots p j) (sym x) b
-      members {p} k a b c (inr (inr (inl x))) = subst (λ j. IsSpotOf e.spots p j) (sym x) c
-      members {p} k a b c (inr (inr (inr x))) = absurd x
+      at : (ms : List NodePair) → OccurApart g.rules d ms → least ≤ length ms → (p : Pattern) × ((p.rank ≤ bound) × (IsOften least p e.spots × (digram_of n.numbers p ≡ d)))
+      at [] O l = absurd (omega arith)
+      at (m ∷ ms) O l =
+          let A = found all d m O.0 in
+          let r = A.rank in
+          let k = length-map (m ∷ ms) (λ (x : NodePair). x.low) in
+          (A.spot.pattern, (omega arith, (apart-often e.spots least A.spot.pattern (lows (m ∷ ms), (low-spots all d m A (m ∷ ms) O, omega arith)), A.digram)))
 
   -- an occurrence of a digram has the digram's pattern
   pub first-none : (d : Digram) (p : Pattern) → digram_of n.numbers p ≡ d → IsKnown n.numbers p.upper → IsKnown n.numbers p.lower → p.rank ≡ joint_rank (ranks_of (rules_of g.rules)) d.upper d.lower

@@ -24,4 +24,4 @@ pub record IsRate (p : Pattern) (count f : ℕ) : Type 0 where
   pub same : p.upper ≡ p.lower → f ≡ max 3 (count - count / 2)
 
 abbrev pub IsBest : List (Option Spot) → ℕ → Pattern → Type 0
-IsBest ss bound p = (q : Pattern) (m n : ℕ) → q.rank ≤ bound → IsOften q ss → IsRate p (spot_count p ss) m → IsRate q (spot_count q ss) n → 16 * n ≤ 17 * m
+IsBest ss bound p = (q : Pattern) (m n : ℕ) → q.rank ≤ bound → IsOften 3 q ss → IsRate p (spot_count p ss) m → IsRate q (spot_count q ss) n → 16 * n ≤ 17 * m

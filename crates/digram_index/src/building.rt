@@ -1,16 +1,16 @@
 // An index that is built from a whole grammar.
-ghost use Rattle.std.specs.Prelude.{◌≡◌, ◌≢◌, ◌+◌, ◌<◌, ◌≤◌, ◌⊎◌, ℕ, length, Some, None, OnOk, IfOk, IsOk, IsSome, MatchBool};
-ghost use Rattle.slt_grammar.specs.Names.{Param};
+ghost use Rattle.std.specs.Prelude.{◌≡◌, ◌≢◌, ◌+◌, ◌<◌, ◌≤◌, ◌⊎◌, ℕ, length, Some, None, OnOk, IfOk, IsOk};
 ghost use Rattle.slt_grammar.specs.Grammars.{whole};
 ghost use Rattle.slt_grammar.specs.Keyed.{key_at, nodes_at, rules_of};
 ghost use Rattle.rule_arena.specs.declared.key.Key.{Key};
-ghost use Rattle.digram_index.specs.Digrams.{Cell, OccursAt, occurrence_at};
+ghost use Rattle.digram_index.specs.Digrams.{occurrence_at};
 ghost use Rattle.digram_index.specs.Linked.{IsIndexOf, cell};
 ghost use Rattle.digram_index.specs.Building.{IsNumberIn};
 
 use crate::index::Index;
+use crate::nodes::{following, is_lower, unlink_node};
 use read_steps::Steps;
-use slt_grammar::{Grammar, Key, Label};
+use slt_grammar::{Grammar, Key};
 use std::alloc::{AllocError, Global};
 use std::marker::Brand;
 use std::sync::ledger::{Blank, Ledger};
@@ -56,29 +56,6 @@ pub fn unlink_all(index: &mut Index, grammar: &Grammar)
     }
 }
 
-// Whether a node is the lower node of an occurrence.
-fn is_lower<L: Ledger>(grammar: &Grammar, key: Key, steps: &mut Steps<L>) -> bool
-    requires { (r : ℕ) × (p : ℕ) × (key_at grammar.now.rules r p ≡ Some key) }
-    ensures lower { MatchBool result ((o : Cell) × OccursAt grammar.now.rules key o) ((r p : ℕ) → key_at grammar.now.rules r p ≡ Some key → occurrence_at grammar.now.rules r p ≡ None) }
-    ensures step { steps.new ≡ steps.old + 1 }
-{
-    let item = grammar.item(key, steps);
-    is_real(item.parent, item.label)
-}
-
-// Whether a node with this parent and this label is the lower node of an occurrence.
-fn is_real(parent: Option<(Key, usize)>, label: Label) -> bool
-    ensures { MatchBool result (IsSome parent × (label ≢ Param)) ((parent ≡ None) ⊎ (label ≡ Param)) }
-{
-    if parent.is_none() {
-        return false;
-    }
-    match label {
-        Label::Param => false,
-        _ => true,
-    }
-}
-
 // Links a node where it is the lower node of an occurrence.
 fn link_node<L: Ledger>(
     index: &mut Index,
@@ -98,7 +75,8 @@ fn link_node<L: Ledger>(
     ensures step { steps.new ≡ steps.old + 1 }
 {
     let _limit = grammar.limit();
-    if is_lower(grammar, key, steps) {
+    steps.tick();
+    if is_lower(grammar, key) {
         index.link(grammar, key)?;
     }
     Ok(())
@@ -135,40 +113,6 @@ pub fn link_nodes<L: Ledger>(
     Ok(())
 }
 
-// The next node of the same body, read on a counter of its own.
-fn following(grammar: &Grammar, key: Key) -> Option<Key>
-    requires { (r : ℕ) × (p : ℕ) × (key_at grammar.now.rules r p ≡ Some key) }
-    ensures { (r p : ℕ) → key_at grammar.now.rules r p ≡ Some key → key_at grammar.now.rules r (p + 1) ≡ result }
-{
-    next_of::<Brand>(grammar, key, Blank::new(1))
-}
-
-fn next_of<L: Ledger>(grammar: &Grammar, key: Key, blank: Blank) -> Option<Key>
-    requires there { (r : ℕ) × (p : ℕ) × (key_at grammar.now.rules r p ≡ Some key) }
-    requires name { blank.name ≡ L.name }
-    requires parts { blank.parts ≡ L.parts }
-    requires some { 0 < blank.parts }
-    ensures { (r p : ℕ) → key_at grammar.now.rules r p ≡ Some key → key_at grammar.now.rules r (p + 1) ≡ result }
-{
-    let mut steps: Steps<L> = Steps::new(blank);
-    grammar.next_in_preorder(key, &mut steps)
-}
-
-// Takes away the occurrence of a lower node, where it is linked.
-fn unlink_node<L: Ledger>(index: &mut Index, key: Key, steps: &mut Steps<L>)
-    ensures free { cell index.new key.number ≡ None }
-    ensures others { (k : ℕ) → k ≢ key.number → cell index.new k ≡ cell index.old k }
-    ensures rules { index.new.rules ≡ index.old.rules }
-    ensures room { length index.new.cells ≡ length index.old.cells }
-    ensures spares { (index.new.spare_links ≡ index.old.spare_links) × (index.new.spare_rules ≡ index.old.spare_rules) }
-    ensures step { steps.new ≡ steps.old + 1 }
-{
-    steps.tick();
-    if index.is_linked(key) {
-        index.unlink(key);
-    }
-}
-
 /// Takes away the occurrences of a rule's nodes. It takes no memory.
 pub fn unlink_nodes<L: Ledger>(index: &mut Index, grammar: &Grammar, rule: usize, blank: Blank)
     requires there { rule < length grammar.now.rules }
@@ -185,7 +129,8 @@ pub fn unlink_nodes<L: Ledger>(index: &mut Index, grammar: &Grammar, rule: usize
     let mut steps: Steps<L> = Steps::new(blank);
     let mut next = Some(grammar.root(rule));
     while let Some(key) = next {
-        unlink_node(index, key, &mut steps);
+        steps.tick();
+        unlink_node(index, key);
         next = following(grammar, key);
     }
 }

@@ -1,6 +1,5 @@
 // The index of the digrams of a grammar.
 ghost use Rattle.std.specs.Prelude.{◌≡◌, ◌≢◌, ◌+◌, ◌<◌, ◌≤◌, ℕ, [], length, get_or, Some, None, OnOk, OnErr, IfOk, IfSome, IfNone, IsOk, MatchBool};
-ghost use Rattle.slt_grammar.specs.Bodies.{arity};
 ghost use Rattle.slt_grammar.specs.Algebras.{ranks_of};
 ghost use Rattle.slt_grammar.specs.Keyed.{rules_of};
 ghost use Rattle.slt_grammar.specs.Names.{Call};
@@ -9,6 +8,7 @@ ghost use Rattle.rule_arena.specs.declared.key.Key.{Key};
 ghost use Rattle.digram_index.specs.Digrams.{Cell, OccursAt, joint_rank};
 
 use crate::entries::Entries;
+use crate::nodes::arity_of;
 use crate::numbers::Numbers;
 use crate::patterns::{Mark, Pattern};
 use read_steps::Steps;
@@ -51,6 +51,7 @@ impl Index {
     ghost use Rattle.digram_index.specs.Frequency.{IsMostFrequent};
     ghost use Rattle.digram_index.specs.Keeping.{AreOccurrences};
     ghost use Rattle.digram_index.specs.Linked.{IsIndexOf, cell, cell_count, shifted_cell, unshifted_cell, Lacks};
+    ghost use Rattle.digram_index.specs.Settled.{HasApart, HasTwoDisjoint, IsWithin};
 
     /// An index in which nothing is linked.
     pub fn new(alloc: Global, rules: usize) -> Result<Index, AllocError>
@@ -159,8 +160,8 @@ impl Index {
         }
     }
 
-    /// A digram whose rank is within the bound and of which three occurrences share no node, and none exactly where there is none. No
-    /// other is more frequent by more than a sixteenth.
+    /// A digram whose rank is within the bound, which is at most 8, and of which three occurrences share no node, and none exactly where
+    /// there is none. No other is more frequent by more than a sixteenth.
     pub fn top(&self, grammar: &Grammar, bound: usize) -> Option<Digram>
         requires index { IsIndexOf grammar.now self.now }
         requires bound { bound ≤ 8 }
@@ -170,7 +171,34 @@ impl Index {
         ensures most { IfSome result (λ d. IsMostFrequent (rules_of grammar.now.rules) self.now bound d) }
     {
         let _limit = grammar.limit();
-        match self.entries.best(bound) {
+        self.frequent(grammar, bound, 3)
+    }
+
+    /// A digram whose rank is within the bound, which is at most 8, and of which two occurrences share no node, and none exactly where
+    /// there is none.
+    pub fn twice(&self, grammar: &Grammar, bound: usize) -> Option<Digram>
+        requires index { IsIndexOf grammar.now self.now }
+        requires bound { bound ≤ 8 }
+        ensures within { IfSome result (λ d. digram_rank (rules_of grammar.now.rules) d ≤ bound) }
+        ensures two { IfSome result (λ d. HasTwoDisjoint (rules_of grammar.now.rules) d) }
+        ensures none { IfNone result ((d : Digram) → digram_rank (rules_of grammar.now.rules) d ≤ bound → HasTwoDisjoint (rules_of grammar.now.rules) d → ⊥) }
+    {
+        let _limit = grammar.limit();
+        self.frequent(grammar, bound, 2)
+    }
+
+    // A digram whose rank is within the bound and of which so many occurrences share no node, two or three.
+    fn frequent(&self, grammar: &Grammar, bound: usize, least: usize) -> Option<Digram>
+        requires index { IsIndexOf grammar.now self.now }
+        requires bound { bound ≤ 8 }
+        requires least { (2 ≤ least) × (least ≤ 3) }
+        ensures within { IfSome result (λ d. IsWithin grammar.now.rules bound d) }
+        ensures apart { IfSome result (λ d. HasApart grammar.now.rules d least) }
+        ensures none { IfNone result ((d : Digram) → IsWithin grammar.now.rules bound d → HasApart grammar.now.rules d least → ⊥) }
+        ensures most { 3 ≤ least → IfSome result (λ d. IsMostFrequent (rules_of grammar.now.rules) self.now bound d) }
+    {
+        let _limit = grammar.limit();
+        match self.entries.best(bound, least) {
             Some(pattern) => Some(Digram {
                 upper: label(&self.numbers, pattern.upper),
                 place: pattern.place,
@@ -277,7 +305,7 @@ fn fill_keys(keys: &mut Vec<Key>, limit: usize) -> Result<(), AllocError>
 {
     let count = keys.len();
     if count < limit {
-        keys.reserve(limit - count)?;
+        keys.reserve_exact(limit - count)?;
     }
     for _ in count..limit {
         keys.push(Key::default())?;
@@ -328,24 +356,6 @@ struct Reading {
     digram: Digram,
     rank: usize,
     upper: Key,
-}
-
-// How many children a node has.
-fn arity_of(grammar: &Grammar, label: Label) -> usize
-    ensures value { result ≡ arity (ranks_of (rules_of grammar.now.rules)) label }
-    ensures small { result ≤ 8 }
-{
-    match label {
-        Label::Symbol(_) => 2,
-        Label::Call(rule) => {
-            if rule < grammar.rules() {
-                grammar.rank(rule)
-            } else {
-                0
-            }
-        }
-        _ => 0,
-    }
 }
 
 // The rank of a digram.

@@ -4,13 +4,15 @@
 //! list in which one item is put in or taken out in a constant number of steps, and `thread` is what it keeps at a place;
 //! `patterns` tells digrams apart; `numbers` gives rules numbers that stay; `ranking` keeps the digrams in buckets by rank and
 //! count; `entries` joins these, and knows nothing of grammars. `index` links what it reads of a grammar and answers which digram
-//! to replace next (`top`); `building` links all nodes of a rule or of a grammar. Contracts see the cells by node number
-//! (`specs/Linked.antt`) and compare them with the occurrences of a grammar (`specs/Digrams.antt`).
+//! to replace next (`top`, `twice`); `nodes` reads, unlinks and links single nodes, `building` all those of a rule or of a grammar.
+//! Contracts see the cells by node number (`specs/Linked.antt`) and compare them with the occurrences of a grammar
+//! (`specs/Digrams.antt`).
 #![tactic(auto)]
 
 mod building;
 mod entries;
 mod index;
+mod nodes;
 mod numbers;
 mod patterns;
 mod ranking;
@@ -20,4 +22,5 @@ mod triples;
 
 pub use building::{build, link_all, link_nodes, unlink_all, unlink_nodes};
 pub use index::Index;
+pub use nodes::{arity_of, following, item, link_node, unlink_kids, unlink_node};
 pub use slt_grammar::Digram;

@@ -1,9 +1,10 @@
 // Replacing and pruning in turn.
-ghost use Rattle.std.specs.Prelude.{◌≡◌, ◌≤◌, OnOk};
+ghost use Rattle.std.specs.Prelude.{◌≡◌, ◌+◌, ◌-◌, ◌^◌, ◌≤◌, OnOk, length, min};
 ghost use Rattle.slt_grammar.specs.Digrams.{IsSettled, digram_rank, HasThreeDisjoint};
+ghost use Rattle.slt_grammar.specs.Grammars.{size};
 ghost use Rattle.slt_grammar.specs.Keyed.{rules_of};
 ghost use Rattle.digram_index.specs.Linked.{IsIndexOf};
-ghost use Rattle.local_repair.specs.Settling.{IsNoLarger};
+ghost use Rattle.local_repair.specs.Settling.{IsLargerAtMost, IsNoLarger};
 ghost use Rattle.slt_grammar.specs.declared.digram.Digram.{Digram};
 
 use digram_index::{Index, build};
@@ -14,6 +15,9 @@ use std::alloc::{AllocError, Global};
 
 /// Settles a grammar for digrams of a rank within the bound, which is at most 8. The value stays, and the grammar isn't larger. It fails
 /// where memory is refused; the value is then the same too, and the grammar no larger.
+///
+/// A settled grammar can become smaller still where a part stands in two rules and nowhere else. So the digrams that stand twice become
+/// rules too, once, and the grammar is settled again.
 pub fn settle(alloc: Global, grammar: &mut Grammar, bound: usize) -> Result<(), AllocError>
     requires { bound ≤ 8 }
     ensures settled { OnOk result (IsSettled (rules_of grammar.new.rules) bound) }
@@ -25,6 +29,33 @@ pub fn settle(alloc: Global, grammar: &mut Grammar, bound: usize) -> Result<(), 
 
 /// The same over an index of the grammar, which is kept.
 pub fn settle_touched(
+    alloc: Global,
+    grammar: &mut Grammar,
+    index: &mut Index,
+    bound: usize,
+) -> Result<(), AllocError>
+    requires bound { bound ≤ 8 }
+    requires index { IsIndexOf grammar.old index.old }
+    ensures settled { OnOk result (IsSettled (rules_of grammar.new.rules) bound) }
+    ensures kept { IsNoLarger (rules_of grammar.old.rules) (rules_of grammar.new.rules) }
+    ensures index { IsIndexOf grammar.new index.new }
+{
+    let begin = weight(grammar);
+    alternate(alloc, grammar, index, bound)?;
+    let slack = begin.saturating_sub(weight(grammar));
+    replace_twice(alloc, grammar, index, bound, slack)?;
+    alternate(alloc, grammar, index, bound)
+}
+
+// The size of a grammar and the number of its rules together, as far as a number goes.
+fn weight(grammar: &Grammar) -> u64
+    ensures { result ≡ min (size (rules_of grammar.now.rules) + length grammar.now.rules) (2 ^ 64 - 1) }
+{
+    grammar.size().saturating_add(grammar.rules() as u64)
+}
+
+// Prunes and replaces in turn, until neither is left.
+fn alternate(
     alloc: Global,
     grammar: &mut Grammar,
     index: &mut Index,
@@ -59,6 +90,30 @@ fn replace_all(
     ensures index { IsIndexOf grammar.new index.new }
 {
     while let Some(digram) = index.top(grammar, bound) {
+        replace(alloc, grammar, index, digram)?;
+    }
+    Ok(())
+}
+
+// Replaces digrams within the bound of which two occurrences share no node, as long as there is one, but no more than so many times:
+// each time there is a rule more, and the size may stay.
+fn replace_twice(
+    alloc: Global,
+    grammar: &mut Grammar,
+    index: &mut Index,
+    bound: usize,
+    times: u64,
+) -> Result<(), AllocError>
+    requires bound { bound ≤ 8 }
+    requires index { IsIndexOf grammar.old index.old }
+    ensures kept { IsLargerAtMost times (rules_of grammar.old.rules) (rules_of grammar.new.rules) }
+    ensures index { IsIndexOf grammar.new index.new }
+{
+    for done in 0..times {
+        let _done = done;
+        let Some(digram) = index.twice(grammar, bound) else {
+            return Ok(());
+        };
         replace(alloc, grammar, index, digram)?;
     }
     Ok(())

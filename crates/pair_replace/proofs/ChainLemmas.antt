@@ -1,19 +1,17 @@
 -- Occurrences of a digram as they are read, and up a chain of them.
-use Rattle.std.proofs.Common.{◌≡◌, ◌≢◌, ◌⊎◌, inl, inr, ℕ, zero, suc, ◌+◌, ◌<◌, List, [], ◌∷◌, length, Option, Some, None, Bool, true, false, MatchBool, slice_get, refl, sym, ap, ◌∙◌, subst, arith}
-use Rattle.rule_arena.specs.Terms.{Node, parent_in}
+use Rattle.std.proofs.Common.{◌≡◌, ◌≢◌, ℕ, ◌<◌, Option, Some, None, Bool, true, false, MatchBool, refl, sym, ap, ◌∙◌, subst}
 use Rattle.rule_arena.specs.declared.key.Key.{Key}
-use Rattle.rule_arena.specs.declared.label.Label.{Label}
 use Rattle.rule_arena.proofs.NodeLemmas.{key_of_node}
-use Rattle.slt_grammar.specs.Keyed.{Keyed, KeyedRule, IsKeyed, nodes_at, key_at}
+use Rattle.slt_grammar.specs.Keyed.{Keyed, IsKeyed, nodes_at}
 use Rattle.slt_grammar.specs.declared.digram.Digram.{Digram}
-use Rattle.digram_index.specs.Digrams.{Cell, OccursAt, occurrence_at, parent_node}
+use Rattle.digram_index.specs.Digrams.{Cell, OccursAt}
 use Rattle.digram_index.specs.Linked.{Linked, cell}
-use Rattle.digram_index.proofs.Apartness.{Stands, stands, one-key}
+use Rattle.digram_index.proofs.Apartness.{stands, one-key}
 use Rattle.digram_index.proofs.ParentLemmas.{parent-there}
 use Rattle.digram_index.proofs.RankLemmas.{digram-sound, digram-same}
 use Rattle.slt_grammar.specs.contracts.digram.DigramPartialEq.TheImpl as eqs
 use Rattle.pair_replace.specs.Chains.{IsLinkedAs, IsHead, upper_at, upper_of}
-use Rattle.pair_replace.proofs.Climbs.{all_before, climbs}
+use Rattle.digram_index.proofs.Climbs.{all_before, climbs}
 
 -- the upper node of an occurrence stands before its lower one
 pub upper-before : (g : Keyed) → IsKeyed g → (low : Key) (o : Cell) (O : OccursAt g.rules low o) (up : Key) → up.number ≡ o.upper → all_before g.rules up.number < all_before g.rules low.number

@@ -1,5 +1,5 @@
 -- How many occurrences of a digram are linked.
-use Rattle.std.proofs.Common.{◌≡◌, ◌≢◌, ◌⊎◌, inl, inr, ℕ, ◌+◌, List, get_or, Option, Some, None, Bool, true, false, refl, sym, ap, ◌∙◌, arith}
+use Rattle.std.proofs.Common.{◌≡◌, ◌≢◌, ◌⊎◌, inl, inr, ℕ, ◌+◌, Option, Some, None, Bool, true, false, refl, sym, ap, ◌∙◌, arith}
 use Rattle.slt_grammar.specs.declared.digram.Digram.{Digram}
 use Rattle.slt_grammar.specs.contracts.digram.DigramPartialEq.TheImpl as eqs
 use Rattle.digram_index.specs.Digrams.{Cell}

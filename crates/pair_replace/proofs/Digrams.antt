@@ -11,18 +11,18 @@ use Rattle.slt_grammar.specs.Bodies.{arity, CallsBelow}
 use Rattle.slt_grammar.specs.Grammars.{body_at}
 use Rattle.slt_grammar.specs.Keyed.{Keyed, IsKeyed, nodes_at, rules_of}
 use Rattle.slt_grammar.specs.KeyedEdits.{label_at}
-use Rattle.slt_grammar.specs.Digrams.{HasThreeDisjoint}
 use Rattle.slt_grammar.specs.declared.digram.Digram.{Digram}
 use Rattle.slt_grammar.proofs.Agreeing.{agree-of}
 use Rattle.slt_grammar.proofs.FoldedRules.{agree-node}
 use Rattle.slt_grammar.proofs.KeptLemmas.{below-get, below-two}
 use Rattle.slt_grammar.proofs.KeyedLemmas.{key_at-within, nodes-are-term, label-there, length-rules_of}
 use Rattle.digram_index.specs.Digrams.{Cell, OccursAt, occurrence_under, occurrence_below}
+use Rattle.digram_index.specs.Settled.{HasTwoDisjoint}
 use Rattle.digram_index.proofs.Apartness.{Stands, stands}
 use Rattle.digram_index.proofs.ParentLemmas.{parent-key, keyed_place}
-use Rattle.digram_index.proofs.PlainDigrams.{three-apart}
+use Rattle.digram_index.proofs.PlainDigrams.{keyed-occurs}
 use Rattle.pair_replace.proofs.KidLinks.{key-within}
-use Rattle.pair_replace.proofs.Kids.{child-of, IsChildOf}
+use Rattle.digram_index.proofs.Kids.{child-of, IsChildOf}
 use Rattle.pair_replace.proofs.NextFolds.{get-of, under-real}
 
 module _ (g : Keyed) (K : IsKeyed g) (key : Key) (o : Cell) (O : OccursAt g.rules key o) where
@@ -92,9 +92,10 @@ pub record IsSound (g : Keyed) (d : Digram) : Type 0 where
   pub upper : d.upper ≢ Param
   pub lower : d.lower ≢ Param
 
-pub sound : (g : Keyed) → IsKeyed g → (d : Digram) → HasThreeDisjoint (rules_of g.rules) d → IsSound g d
+pub sound : (g : Keyed) → IsKeyed g → (d : Digram) → HasTwoDisjoint (rules_of g.rules) d → IsSound g d
 sound g K d T =
-    let A = (three-apart g K d T).a in
+    let P = keyed-occurs g K d T.first T.occurs_first in
+    let A = P.1.0 in
     let o = A.occurrence in
     subst (λ (x : Digram). IsSound g x) A.digram (record {
       first = place-first g K A.key o A.at;

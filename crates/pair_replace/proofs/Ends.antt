@@ -1,5 +1,5 @@
 -- What a replacement leaves.
-use Rattle.std.proofs.Common.{◌≡◌, ◌≢◌, ◌⊎◌, inl, inr, ℕ, zero, suc, ◌+◌, ◌-◌, ◌<◌, ◌≤◌, List, [], ◌∷◌, length, refl, sym, ap, ◌∙◌, subst, Some, None, Option, arith}
+use Rattle.std.proofs.Common.{◌≡◌, ◌≢◌, ◌⊎◌, inl, inr, ℕ, zero, suc, ◌+◌, ◌-◌, ◌<◌, ◌≤◌, List, [], ◌∷◌, length, sym, ap, ◌∙◌, Some, None, arith}
 use Rattle.std.proofs.lemmas.Bool.{cases_eq, cases_lt}
 use Rattle.rule_arena.specs.declared.key.Key.{Key}
 use Rattle.slt_grammar.specs.Bodies.{calls_in}
@@ -15,7 +15,7 @@ use Rattle.digram_index.specs.Keeping.{IsIndexBut}
 use Rattle.digram_index.specs.Linked.{Linked, IsIndexOf, cell}
 use Rattle.digram_index.proofs.Apartness.{one-key}
 use Rattle.pair_replace.specs.NewRules.{IsNewRule}
-use Rattle.pair_replace.specs.Partly.{IsPartOf, IsRight}
+use Rattle.digram_index.specs.Partly.{IsPartOf, IsRight}
 use Rattle.pair_replace.proofs.FoldedCalls.{labels-called}
 
 -- the values of all rules are the value
@@ -54,8 +54,8 @@ last-linked g I J own B P right others = record {
 -- each rule that was called still is, by the new rule where its labels call it, and the new rule is
 pub all-called : (G M : List KeyedRule) (g : Keyed) (K : IsKeyed g) (d : Digram) (rule : ℕ) (own : Key) (R : IsNewRule g.rules d rule own) → length M ≡ length G + 1 → length g.rules ≡ length M → rule < length G
     → ((q : ℕ) → calls_of (rules_of M) (shifted rule q) ≡ calls_of (rules_of G) q + calls_in q (d.upper ∷ d.lower ∷ []))
-    → ((r : ℕ) → calls_in r (d.upper ∷ d.lower ∷ []) ≡ 0 → calls_of (rules_of M) r ≤ calls_of (rules_of g.rules) r) → 3 ≤ calls_of (rules_of g.rules) rule → IsSwept (rules_of G) → IsSwept (rules_of g.rules)
-all-called G M g K d rule own R more many within adds keeps three swept = λ r h. at r (omega (arith, h, length-rules_of g.rules)) (cases_eq r rule) (cases_lt r rule)
+    → ((r : ℕ) → calls_in r (d.upper ∷ d.lower ∷ []) ≡ 0 → calls_of (rules_of M) r ≤ calls_of (rules_of g.rules) r) → 2 ≤ calls_of (rules_of g.rules) rule → IsSwept (rules_of G) → IsSwept (rules_of g.rules)
+all-called G M g K d rule own R more many within adds keeps two swept = λ r h. at r (omega (arith, h, length-rules_of g.rules)) (cases_eq r rule) (cases_lt r rule)
   where
     old : (r q : ℕ) → shifted rule q ≡ r → q + 1 < length G → 0 < calls_of (rules_of g.rules) r
     old r q e h = by (cases_eq (calls_in r (d.upper ∷ d.lower ∷ [])) 0)
@@ -70,7 +70,7 @@ all-called G M g K d rule own R more many within adds keeps three swept = λ r h
         by (inr n) = let c = labels-called g K d rule own R r in omega (arith, c, n)
 
     at : (r : ℕ) → r + 1 < length g.rules → (r ≡ rule) ⊎ (r ≡ rule → ⊥) → (r < rule) ⊎ (rule ≤ r) → 0 < calls_of (rules_of g.rules) r
-    at r h (inl z) l = let f = ap (calls_of (rules_of g.rules)) z in omega (arith, three, f)
+    at r h (inl z) l = let f = ap (calls_of (rules_of g.rules)) z in omega (arith, two, f)
     at r h (inr n) (inl l) = old r r (shifted-before rule r l) (omega (arith, l, within))
     at zero h (inr n) (inr l) = absurd (omega (arith, n, l))
     at (suc r) h (inr n) (inr l) = old (suc r) r (shifted-behind rule r (omega (arith, n, l))) (omega (arith, h, more, many))

@@ -1,28 +1,27 @@
 -- A fold takes one occurrence of its digram away where the labels differ: what is linked anew has the call as a label.
-use Rattle.std.proofs.Common.{◌≡◌, ◌≢◌, ◌⊎◌, inl, inr, ℕ, suc, ◌+◌, ◌<◌, List, [], ◌∷◌, length, Option, Some, None, slice_get, refl, sym, ap, ◌∙◌, subst, arith}
+use Rattle.std.proofs.Common.{◌≡◌, ◌≢◌, ◌⊎◌, inl, inr, ℕ, ◌+◌, Some, slice_get, refl, sym, ap, ◌∙◌, subst, arith}
 use Rattle.std.proofs.lemmas.Bool.{cases_eq}
-use Rattle.rule_arena.specs.Terms.{Node, kids_in, parent_in}
+use Rattle.rule_arena.specs.Terms.{Node, kids_in}
 use Rattle.rule_arena.specs.declared.key.Key.{Key}
-use Rattle.rule_arena.specs.declared.label.Label.{Label}
 use Rattle.rule_arena.proofs.NodeLemmas.{key_of_node}
 use Rattle.slt_grammar.specs.Names.{Call}
-use Rattle.slt_grammar.specs.Keyed.{Keyed, KeyedRule, IsKeyed, nodes_at, key_at}
+use Rattle.slt_grammar.specs.Keyed.{Keyed, IsKeyed, nodes_at}
 use Rattle.slt_grammar.specs.KeyedEdits.{FoldsInto, with_nodes, folded_nodes}
 use Rattle.slt_grammar.specs.declared.digram.Digram.{Digram}
-use Rattle.digram_index.specs.Digrams.{Cell, OccursAt}
+use Rattle.digram_index.specs.Digrams.{OccursAt}
 use Rattle.digram_index.specs.Keeping.{IsIndexBut}
 use Rattle.digram_index.specs.Linked.{Linked, cell, cell_count}
 use Rattle.digram_index.proofs.Apartness.{Stands, stands, one-key}
 use Rattle.digram_index.proofs.ParentLemmas.{parent-key, keyed_place}
 use Rattle.pair_replace.specs.Chains.{IsLinkedAs, IsHead, upper_at}
 use Rattle.pair_replace.specs.NewRules.{IsNewRule}
-use Rattle.pair_replace.specs.Partly.{IsAround}
+use Rattle.pair_replace.specs.Near.{IsAround}
 use Rattle.pair_replace.proofs.ChainLemmas.{linked-upper}
 use Rattle.pair_replace.proofs.Counts.{one-gone}
 use Rattle.pair_replace.proofs.Digrams.{upper-small, lower-small}
 use Rattle.pair_replace.proofs.FoldIndex.{around-test}
 use Rattle.pair_replace.proofs.FoldedCalls.{labels-earlier}
-use Rattle.pair_replace.proofs.NearFolds.{near, near-there, near-parent, merge-label, arrives}
+use Rattle.pair_replace.proofs.NearFolds.{near-parent, merge-label, arrives}
 use Rattle.pair_replace.proofs.NextFolds.{but-occurs, folds, far-from}
 
 module _ (g h : Keyed) (K : IsKeyed g) (K' : IsKeyed h) (d : Digram) (rule : ℕ) (own : Key) (R : IsNewRule g.rules d rule own) (I J : Linked) (B : IsIndexBut g I (λ k. k ≡ own.number)) (B' : IsIndexBut h J (λ k. k ≡ own.number))

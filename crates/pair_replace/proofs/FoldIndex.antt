@@ -1,5 +1,5 @@
 -- The index of a grammar that was folded.
-use Rattle.std.proofs.Common.{◌≡◌, ◌≢◌, ◌⊎◌, inl, inr, ℕ, suc, ◌+◌, ◌<◌, List, length, Option, Some, None, slice_get, refl, sym, ap, ◌∙◌, subst, arith}
+use Rattle.std.proofs.Common.{◌≡◌, ◌≢◌, ◌⊎◌, inl, inr, ℕ, List, Some, None, slice_get, refl, sym, ap, ◌∙◌, subst, arith}
 use Rattle.std.proofs.lemmas.Bool.{cases_eq}
 use Rattle.rule_arena.specs.Terms.{Node, kids_in}
 use Rattle.rule_arena.specs.declared.key.Key.{Key}
@@ -7,15 +7,16 @@ use Rattle.slt_grammar.specs.Names.{Call}
 use Rattle.slt_grammar.specs.Holding.{IsLawful}
 use Rattle.slt_grammar.specs.Keyed.{Keyed, KeyedRule, IsKeyed, key_at, nodes_at}
 use Rattle.slt_grammar.specs.KeyedEdits.{FoldsInto, Stands, with_nodes, folded_nodes}
-use Rattle.slt_grammar.proofs.FoldedRules.{low-place, one-term, in-rules}
+use Rattle.slt_grammar.proofs.FoldedRules.{low-place, one-term}
 use Rattle.digram_index.specs.Digrams.{occurrence_at}
-use Rattle.digram_index.specs.Keeping.{IsIndexBut, IsNear}
+use Rattle.digram_index.specs.Keeping.{IsIndexBut}
 use Rattle.digram_index.specs.Linked.{Linked, cell}
 use Rattle.digram_index.proofs.Apartness.{one-key}
 use Rattle.digram_index.proofs.Kept.{near-kept}
-use Rattle.pair_replace.specs.Partly.{IsAmong, IsAround, IsPartOf, IsRight, AreAround}
+use Rattle.digram_index.specs.Partly.{IsAmong, IsPartOf, IsRight}
+use Rattle.pair_replace.specs.Near.{IsAround, AreAround}
 use Rattle.pair_replace.proofs.KidLinks.{among-test}
-use Rattle.pair_replace.proofs.Kids.{kid-there}
+use Rattle.digram_index.proofs.Kids.{kid-there}
 use Rattle.pair_replace.proofs.NearFolds.{near, fold-near, near-there, arrives, stay}
 
 around-same : (up up' : Key) (s s' c c' : List Key) → up ≡ up' → s ≡ s' → c ≡ c' → (n : ℕ) → IsAround up s c n → IsAround up' s' c' n

@@ -1,16 +1,15 @@
 -- The calls of rules once an occurrence was folded.
-use Rattle.std.proofs.Common.{◌≡◌, ◌≢◌, ◌⊎◌, inl, inr, ℕ, zero, suc, ◌+◌, ◌-◌, ◌<◌, ◌≤◌, Bool, if◌then◌else◌, List, [], ◌∷◌, ◌++◌, length, get_or, slice_get, Some, refl, sym, ap, ◌∙◌, subst, arith}
+use Rattle.std.proofs.Common.{◌≡◌, ℕ, suc, ◌+◌, ◌-◌, ◌<◌, ◌≤◌, Bool, if◌then◌else◌, List, [], ◌∷◌, ◌++◌, length, Some, refl, ap, ◌∙◌, subst, arith}
 use Rattle.std.proofs.lemmas.Bool.{eq-eqb}
 use Rattle.rule_arena.specs.declared.key.Key.{Key}
 use Rattle.rule_arena.specs.declared.label.Label.{Label}
-use Rattle.slt_grammar.specs.Names.{Bottom, Symbol, Call, Param}
+use Rattle.slt_grammar.specs.Names.{Call}
 use Rattle.slt_grammar.specs.Bodies.{arity, calls_in, CallsBelow}
-use Rattle.slt_grammar.specs.Grammars.{body_at, calls_of}
+use Rattle.slt_grammar.specs.Grammars.{calls_of}
 use Rattle.slt_grammar.specs.Holding.{IsLawful}
 use Rattle.slt_grammar.specs.Keyed.{Keyed, KeyedRule, IsKeyed, nodes_at, key_at, rules_of, labels_of}
 use Rattle.slt_grammar.specs.Algebras.{ranks_of}
-use Rattle.slt_grammar.specs.Editing.{shifted, with_body}
-use Rattle.slt_grammar.specs.KeyedEdits.{parameters, digram_body, FoldsInto, with_nodes, folded_nodes, label_at}
+use Rattle.slt_grammar.specs.KeyedEdits.{parameters, FoldsInto, with_nodes, folded_nodes, label_at}
 use Rattle.slt_grammar.proofs.FoldedRules.{N, D, ms, in-rules, upper-label, lower-label, folded-weighs}
 use Rattle.slt_grammar.proofs.KeyedEdits.{rules-with_nodes}
 use Rattle.slt_grammar.proofs.KeyedLemmas.{key_at-within, length-rules_of, body_at-rules_of}

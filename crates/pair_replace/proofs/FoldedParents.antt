@@ -1,12 +1,12 @@
 -- The parents of nodes once a node was folded with one of its children.
-use Rattle.std.proofs.Common.{◌≡◌, ◌⊎◌, inl, inr, ℕ, zero, suc, ◌+◌, ◌<◌, ◌≤◌, ◌-◌, List, [], ◌∷◌, ◌++◌, length, get_or, drop, Option, Some, None, slice_get, refl, sym, ap, ◌∙◌, subst, arith, length-append, append_assoc}
-use Rattle.rule_arena.specs.Preorder.{AreTerms, places, parents}
-use Rattle.rule_arena.specs.Terms.{Node, key_of, kids_of, key_in, parent_in}
+use Rattle.std.proofs.Common.{◌≡◌, ◌⊎◌, inl, inr, ℕ, zero, suc, ◌+◌, ◌<◌, List, [], ◌∷◌, ◌++◌, length, get_or, drop, Option, Some, None, slice_get, refl, sym, ap, ◌∙◌, subst, arith, length-append, append_assoc}
+use Rattle.rule_arena.specs.Preorder.{AreTerms, places}
+use Rattle.rule_arena.specs.Terms.{Node, kids_of, key_in, parent_in}
 use Rattle.rule_arena.specs.declared.key.Key.{Key}
 use Rattle.rule_arena.proofs.NodeLemmas.{same_key}
 use Rattle.rule_arena.proofs.PreorderLemmas.{slice_get-left, slice_get-right}
-use Rattle.pair_replace.proofs.Sides.{Side, first, second, side, get-left, get-right}
-use Rattle.pair_replace.proofs.OpenPlaces.{Opens, ups, AreOpen, get-places, length-places, length-ups, open_behind, ups-append, behind-terms, drop-places, places-append, below-roots}
+use Rattle.digram_index.proofs.Sides.{Side, first, second, side, get-left, get-right}
+use Rattle.digram_index.proofs.OpenPlaces.{Opens, ups, AreOpen, get-places, length-ups, open_behind, ups-append, behind-terms, drop-places, places-append, below-roots}
 
 -- a place below one of two nodes becomes one below the first of them
 pub data IsBelow (u l : Key) (e f : Option (Key × ℕ)) : Type 0 where

@@ -1,12 +1,12 @@
 -- A node that folds into its parent.
-use Rattle.std.proofs.Common.{◌≡◌, ℕ, suc, Option, Some, refl, sym, ap, ◌∙◌}
+use Rattle.std.proofs.Common.{◌≡◌, ℕ, suc, Option, Some, sym, ap, ◌∙◌}
 use Rattle.rule_arena.specs.Terms.{parent_in}
 use Rattle.rule_arena.specs.declared.key.Key.{Key}
 use Rattle.slt_grammar.specs.Holding.{IsLawful}
 use Rattle.slt_grammar.specs.Keyed.{Keyed, IsKeyed, key_at, nodes_at}
 use Rattle.slt_grammar.specs.KeyedEdits.{FoldsInto}
 use Rattle.slt_grammar.proofs.FoldedRules.{one-term}
-use Rattle.pair_replace.proofs.Kids.{kid-parent}
+use Rattle.digram_index.proofs.Kids.{kid-parent}
 
 pub fold-parent : (g : Keyed) → IsKeyed g → (low : Key) (q : ℕ) (F : FoldsInto g.rules low q) → parent_in (nodes_at g.rules F.here.rule) F.here.place ≡ Some (F.upper, suc F.child)
 fold-parent g K low q F =

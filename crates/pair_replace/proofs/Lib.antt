@@ -1,7 +1,4 @@
-pub mod Sides
-pub mod OpenPlaces
 pub mod FoldedParents
-pub mod Kids
 pub mod NearFolds
 pub mod KidLinks
 pub mod FoldIndex
@@ -9,7 +6,6 @@ pub mod Folds
 pub mod FoldedCalls
 pub mod Counts
 pub mod FewerCells
-pub mod Climbs
 pub mod ChainLemmas
 pub mod NextFolds
 pub mod Rounds

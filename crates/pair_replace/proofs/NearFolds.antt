@@ -1,27 +1,26 @@
 -- What a fold leaves: all nodes but those near it tell the same.
-use Rattle.std.proofs.Common.{◌≡◌, ◌≢◌, ◌⊎◌, inl, inr, ℕ, zero, suc, ◌+◌, ◌<◌, List, [], ◌∷◌, ◌++◌, length, Option, Some, None, slice_get, refl, sym, ap, ◌∙◌, subst, arith, append_assoc}
+use Rattle.std.proofs.Common.{◌≡◌, ◌⊎◌, inl, inr, ℕ, suc, ◌+◌, List, ◌∷◌, ◌++◌, length, Option, Some, slice_get, refl, sym, ap, ◌∙◌, subst, arith, append_assoc}
 use Rattle.std.proofs.lemmas.Bool.{cases_eq}
 use Rattle.rule_arena.specs.Preorder.{AreTerms, with_subterm}
 use Rattle.rule_arena.specs.Terms.{Node, kids_of, key_in, kids_in, parent_in}
-use Rattle.rule_arena.specs.Children.{ChildAt, Child, merged}
-use Rattle.rule_arena.specs.Laws.{IsKeyedTerm}
+use Rattle.rule_arena.specs.Children.{ChildAt, Child}
 use Rattle.rule_arena.specs.declared.key.Key.{Key}
-use Rattle.rule_arena.specs.declared.label.Label.{Label}
 use Rattle.rule_arena.proofs.NodeLemmas.{key_of_node, node_of, same_key}
 use Rattle.rule_arena.proofs.PreorderLemmas.{AreTerms-append, with_subterm-split, slice_get-right}
 use Rattle.slt_grammar.specs.Names.{Call}
 use Rattle.slt_grammar.specs.Algebras.{ranks_of}
 use Rattle.slt_grammar.specs.Holding.{IsLawful}
 use Rattle.slt_grammar.specs.Keyed.{Keyed, KeyedRule, IsKeyed, key_at, nodes_at, rules_of}
-use Rattle.slt_grammar.specs.KeyedEdits.{FoldsInto, Stands, with_nodes, folded_nodes}
-use Rattle.slt_grammar.proofs.FoldedRules.{N, D, C, high, in-rules, one-term, merged-is, folded-ranks}
+use Rattle.slt_grammar.specs.KeyedEdits.{FoldsInto, with_nodes, folded_nodes}
+use Rattle.slt_grammar.proofs.FoldedRules.{N, C, high, in-rules, one-term, merged-is, folded-ranks}
 use Rattle.slt_grammar.proofs.KeyedEdits.{nodes-with_nodes, nodes-others, length-with_nodes}
 use Rattle.slt_grammar.proofs.KeyedLemmas.{key_at-within, nodes-are-term}
 use Rattle.digram_index.specs.Keeping.{TellsSame, IsNear}
 use Rattle.digram_index.proofs.Apartness.{one-key}
-use Rattle.pair_replace.specs.Partly.{IsAmong, IsAround}
+use Rattle.digram_index.specs.Partly.{IsAmong}
+use Rattle.pair_replace.specs.Near.{IsAround}
 use Rattle.pair_replace.proofs.FoldedParents.{IsBelow, upper, lower, Came, came, stays, low-there}
-use Rattle.pair_replace.proofs.Kids.{child-of, IsChildOf, kid-there, kid-parent}
+use Rattle.digram_index.proofs.Kids.{child-of, kid-there, kid-parent}
 
 module _ (g h : Keyed) (K : IsKeyed g) (low : Key) (q : ℕ) (F : FoldsInto g.rules low q)
     (made : h.rules ≡ with_nodes g.rules F.here.rule (folded_nodes (nodes_at g.rules F.here.rule) F.place F.upper F.here.place (Call q))) where

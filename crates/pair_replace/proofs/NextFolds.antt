@@ -1,5 +1,5 @@
 -- An occurrence at the head of a chain folds into the new rule, and the others that share no node with it stay.
-use Rattle.std.proofs.Common.{◌≡◌, ◌≢◌, ◌⊎◌, inl, inr, ℕ, zero, suc, ◌+◌, ◌-◌, ◌<◌, ◌≤◌, List, [], ◌∷◌, length, get_or, Option, Some, None, slice_get, refl, sym, ap, ◌∙◌, subst, arith}
+use Rattle.std.proofs.Common.{◌≡◌, ◌≢◌, ◌⊎◌, inl, inr, ℕ, zero, suc, ◌-◌, ◌<◌, ◌≤◌, List, [], ◌∷◌, length, get_or, Some, None, slice_get, sym, ap, ◌∙◌, subst, arith}
 use Rattle.std.proofs.lemmas.Bool.{cases_eq}
 use Rattle.rule_arena.specs.Terms.{Node, parent_in, kids_in, key_in}
 use Rattle.rule_arena.specs.Laws.{IsKeyedTerm}
@@ -23,9 +23,9 @@ use Rattle.digram_index.proofs.Apartness.{Stands, stands, one-key}
 use Rattle.digram_index.proofs.ParentLemmas.{parent-key, keyed_place}
 use Rattle.pair_replace.specs.Chains.{IsLinkedAs, IsHead, upper_at, ShareNoNode, SharesNoNode, AreApart}
 use Rattle.pair_replace.specs.NewRules.{IsNewRule}
-use Rattle.pair_replace.specs.Partly.{IsAround, IsAmong}
+use Rattle.pair_replace.specs.Near.{IsAround}
 use Rattle.pair_replace.proofs.ChainLemmas.{linked-upper}
-use Rattle.pair_replace.proofs.Kids.{child-of, IsChildOf, kid-there, kid-parent}
+use Rattle.digram_index.proofs.Kids.{child-of, IsChildOf, kid-there, kid-parent}
 
 -- what is linked in an index that lacks one node occurs
 pub but-occurs : (g : Keyed) (I : Linked) (own : Key) → IsIndexBut g I (λ k. k ≡ own.number) → AreOccurrences g.rules I

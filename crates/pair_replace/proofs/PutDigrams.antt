@@ -7,7 +7,7 @@ use Rattle.rule_arena.specs.declared.label.Label.{Label}
 use Rattle.slt_grammar.specs.Names.{Bottom, Symbol, Call, Param}
 use Rattle.slt_grammar.specs.Algebras.{ranks_of}
 use Rattle.slt_grammar.specs.Bodies.{arity, calls_in, params, CallsBelow, IsTerm}
-use Rattle.slt_grammar.specs.Digrams.{HasThreeDisjoint, digram_rank}
+use Rattle.slt_grammar.specs.Digrams.{digram_rank}
 use Rattle.slt_grammar.specs.Editing.{shifted}
 use Rattle.slt_grammar.specs.Grammars.{body_at, calls_of, value_at}
 use Rattle.slt_grammar.specs.Holding.{IsLawful}
@@ -21,6 +21,7 @@ use Rattle.slt_grammar.proofs.Agreeing.{Agree, agree-of}
 use Rattle.slt_grammar.proofs.Keeping.{shifted-before}
 use Rattle.slt_grammar.proofs.KeyedLemmas.{body_at-rules_of, length-rules_of}
 use Rattle.slt_grammar.proofs.Values.{value_at-added}
+use Rattle.digram_index.specs.Settled.{HasTwoDisjoint}
 use Rattle.pair_replace.specs.NewRules.{IsAdded}
 use Rattle.pair_replace.proofs.Bodies.{digram-lawful}
 use Rattle.pair_replace.proofs.DigramBodies.{calls-digram}
@@ -136,7 +137,7 @@ module _ (g h : Keyed) (K : IsKeyed g) (M : IsKeyed h) (d : Digram) (place rank 
   upper-same = (arity-before old-ranks new-ranks place ranks-same d.upper d.lower below).0
 
 -- a digram's rule that was put before one that its labels do not call
-pub added : (g h : Keyed) → IsKeyed g → IsKeyed h → (d : Digram) → HasThreeDisjoint (rules_of g.rules) d → digram_rank (rules_of g.rules) d ≤ 8 → (place rank : ℕ) → CallsBelow place (d.upper ∷ d.lower ∷ [])
+pub added : (g h : Keyed) → IsKeyed g → IsKeyed h → (d : Digram) → HasTwoDisjoint (rules_of g.rules) d → digram_rank (rules_of g.rules) d ≤ 8 → (place rank : ℕ) → CallsBelow place (d.upper ∷ d.lower ∷ [])
     → ((r : ℕ) → CallsBelow r (d.upper ∷ d.lower ∷ []) → place ≤ r) → (body : List Label) → body ≡ digram_body (ranks_of (rules_of g.rules)) d.upper (d.place - 1) d.lower → rank ≡ length body - 2
     → IsPut g.rules h.rules place rank body → IsAdded g.rules h.rules d place
 added g h K M d T small place rank below least body made many P = record {

@@ -9,7 +9,6 @@ use Rattle.rule_arena.proofs.ChildLemmas.{length-kids}
 use Rattle.slt_grammar.specs.Names.{Param}
 use Rattle.slt_grammar.specs.Algebras.{ranks_of}
 use Rattle.slt_grammar.specs.Bodies.{arity, CallsBelow}
-use Rattle.slt_grammar.specs.Digrams.{HasThreeDisjoint}
 use Rattle.slt_grammar.specs.Grammars.{body_at}
 use Rattle.slt_grammar.specs.Keyed.{Keyed, KeyedRule, IsKeyed, rules_of, labels_of, nodes_at, key_at}
 use Rattle.slt_grammar.specs.KeyedEdits.{digram_body}
@@ -20,11 +19,10 @@ use Rattle.digram_index.specs.Building.{IsNumberIn}
 use Rattle.digram_index.specs.Digrams.{Cell, occurrence_at, occurrence_under, occurrence_below, parent_node}
 use Rattle.digram_index.specs.Keeping.{IsIndexBut}
 use Rattle.digram_index.specs.Linked.{Linked, IsIndexOf, cell, shifted_cell, shifted_digram}
-use Rattle.digram_index.specs.Settled.{NodePair, OccursBetween, PairsShareNone}
+use Rattle.digram_index.specs.Settled.{NodePair, OccursBetween, PairsShareNone, SharesNone, OccurApart, HasApart}
 use Rattle.digram_index.proofs.Apartness.{Stands, stands, one-key}
 use Rattle.digram_index.proofs.LevelLemmas.{same_some}
-use Rattle.digram_index.proofs.PlainDigrams.{three-apart}
-use Rattle.pair_replace.specs.Chains.{IsLinkedAs, ShareNoNode, AreApart, upper_at, upper_of}
+use Rattle.pair_replace.specs.Chains.{IsLinkedAs, ShareNoNode, SharesNoNode, AreApart, HasApartLinked, upper_at, upper_of}
 use Rattle.pair_replace.specs.NewRules.{IsNewRule}
 use Rattle.pair_replace.proofs.DigramBodies.{others-parameters, lower-key}
 use Rattle.pair_replace.proofs.NextFolds.{under-real}
@@ -145,19 +143,22 @@ module _ (g : Keyed) (d : Digram) (place : ℕ) (I J : Linked) (A : IsIndexOf g 
         back = λ e. P.back (sym a ∙ e);
       }
 
-  -- three that share no node are linked
-  pub three-linked : IsKeyed g → HasThreeDisjoint (rules_of g.rules) d → (ks : List ℕ) × (AreApart J d ks × (length ks ≡ 3))
-  three-linked K T =
-      let H = three-apart g K d T in (
-        H.first.low ∷ H.second.low ∷ H.third.low ∷ [],
-        (
-          (
-            (linked H.first H.a).0,
-            (
-              (apart H.first H.second H.a H.b H.ab, (apart H.first H.third H.a H.c H.ac, tt)),
-              ((linked H.second H.b).0, ((apart H.second H.third H.b H.c H.bc, tt), ((linked H.third H.c).0, (tt, tt)))),
-            ),
-          ),
-          refl,
-        ),
-      )
+  abbrev lows : List NodePair → List ℕ
+  lows [] = []
+  lows (n ∷ ns) = n.low ∷ lows ns
+
+  length-lows : (ns : List NodePair) → length (lows ns) ≡ length ns
+  length-lows [] = refl
+  length-lows (n ∷ ns) = ap suc (length-lows ns)
+
+  shares-linked : (m : NodePair) → OccursBetween g.rules d m → (ns : List NodePair) → OccurApart g.rules d ns → SharesNone m ns → SharesNoNode J m.low (lows ns)
+  shares-linked m M [] O P = tt
+  shares-linked m M (n ∷ ns) O P = (apart m n M O.0 P.0, shares-linked m M ns O.1.1 P.1)
+
+  all-linked : (ns : List NodePair) → OccurApart g.rules d ns → AreApart J d (lows ns)
+  all-linked [] O = tt
+  all-linked (n ∷ ns) O = ((linked n O.0).0, (shares-linked n O.0 ns O.1.1 O.1.0, all-linked ns O.1.1))
+
+  -- those that share no node are linked
+  pub apart-linked : (least : ℕ) → HasApart g.rules d least → HasApartLinked J d least
+  apart-linked least H = (lows H.0, (all-linked H.0 H.1.0, let l = length-lows H.0 in let m = H.1.1 in omega (arith, l, m)))

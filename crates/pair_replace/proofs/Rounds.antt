@@ -1,18 +1,17 @@
 -- The rounds in which occurrences are folded.
-use Rattle.std.proofs.Common.{◌≡◌, ◌≢◌, ◌⊎◌, inl, inr, Result, Ok, Err, OnErr, ℕ, zero, suc, ◌+◌, ◌-◌, ◌*◌, ◌<◌, ◌≤◌, List, [], ◌∷◌, length, Some, None, Option, IfSome, IfNone, refl, sym, ap, ◌∙◌, subst, arith}
+use Rattle.std.proofs.Common.{◌≡◌, ◌⊎◌, inl, inr, Result, Ok, Err, OnErr, ℕ, ◌+◌, ◌-◌, ◌*◌, ◌<◌, ◌≤◌, List, [], ◌∷◌, length, Some, None, Option, ◌∙◌, arith}
 use Rattle.std.proofs.lemmas.Bool.{cases_lt}
 use Rattle.rule_arena.specs.Terms.{kids_in}
 use Rattle.rule_arena.specs.declared.key.Key.{Key}
 use Rattle.slt_grammar.specs.Names.{Call}
 use Rattle.slt_grammar.specs.Grammars.{size, value_at}
-use Rattle.slt_grammar.specs.Keyed.{Keyed, IsKeyed, rules_of, nodes_at, key_at}
+use Rattle.slt_grammar.specs.Keyed.{Keyed, IsKeyed, rules_of, nodes_at}
 use Rattle.slt_grammar.specs.KeyedEdits.{FoldsInto, with_nodes, folded_nodes}
 use Rattle.slt_grammar.specs.declared.digram.Digram.{Digram}
 use Rattle.digram_index.specs.Keeping.{IsIndexBut}
 use Rattle.digram_index.specs.Linked.{Linked, cell}
-use Rattle.pair_replace.specs.Chains.{IsHead, IsLinkedAs, AreApart, SharesNoNode, ShareNoNode}
-use Rattle.pair_replace.specs.NewRules.{IsNewRule}
-use Rattle.pair_replace.specs.Partly.{IsAround}
+use Rattle.pair_replace.specs.Chains.{IsHead, IsLinkedAs, AreApart, SharesNoNode, HasNoMoreApart, LeavesApart}
+use Rattle.pair_replace.specs.Near.{IsAround}
 use Rattle.pair_replace.specs.Turns.{IsRound, IsTurn}
 use Rattle.pair_replace.proofs.NearFolds.{ranks, rules}
 use Rattle.pair_replace.proofs.FoldedCalls.{calls-kept, called-more}
@@ -48,7 +47,6 @@ round-same g I J d rule own first count R rules same cells spare = record {
   size_left = R.size_left;
   calls = R.calls;
   called = R.called;
-  apart = (R.apart.0, (apart-same I J d same R.apart.0 R.apart.1.0, R.apart.1.1));
   room = let r = R.room in omega (arith, r, spare);
   cells = let c = R.cells in omega (arith, c, cells);
 }
@@ -65,7 +63,6 @@ round-next g h K I J d rule own first count R spare low H made index others valu
     let m = made F in
     let u = upper-is g K d rule own R.new I R.index low H in
     let l = lower-is g K d rule own R.new I R.index low H in
-    let A = apart-after g K d rule own R.new I R.index low H J (others F) R.apart.0 R.apart.1.0 in
     record {
       index = index;
       new = new-stays g h K d rule own low F m (ranks g h K low rule F m) (rules g h K low rule F m) R.new;
@@ -74,15 +71,35 @@ round-next g h K I J d rule own first count R spare low H made index others valu
       size_left = let s = R.size_left in omega (arith, s, less);
       calls = λ k z. let a = R.calls k z in let b = calls-kept g h K d rule own R.new low F m u l k z in omega (arith, a, b);
       called = let a = R.called in let b = called-more g h K d rule own R.new low F m u l in omega (arith, a, b);
-      apart = (A.0, (A.1.0, let x = A.1.1 in let y = R.apart.1.1 in omega (arith, x, y)));
       room = let r = R.room in omega (arith, r, spare, spare');
       cells = cells;
     }
 
--- where none is left, three were folded
-pub three-folded : (I : Linked) (d : Digram) (count : ℕ) → ((k : ℕ) → IsLinkedAs I d k → ⊥) → (ks : List ℕ) → AreApart I d ks → 3 ≤ length ks + count → 3 ≤ count
-three-folded I d count none [] P h = omega (arith, h)
-three-folded I d count none (k ∷ ks) P h = absurd (none k P.0)
+-- a fold leaves all but one of the occurrences that share no node
+pub apart-next : (g : Keyed) (K : IsKeyed g) (L I J : Linked) (d : Digram) (rule : ℕ) (own : Key) (first : Keyed) (count : ℕ) (R : IsRound g I d rule own first count) → ((k : ℕ) → cell I k ≡ cell L k) → (low : Key) (H : IsHead I d low.number)
+    → ((F : FoldsInto g.rules low rule) (n : ℕ) → (IsAround F.upper (kids_in (nodes_at g.rules F.here.rule) F.place) (kids_in (nodes_at g.rules F.here.rule) F.here.place) n → ⊥) → cell J n ≡ cell I n)
+    → LeavesApart L J d 1
+apart-next g K L I J d rule own first count R same low H others = λ ks P.
+    let F = folds g K d rule own R.new I R.index low H in
+    let A = apart-after g K d rule own R.new I R.index low H J (others F) ks (apart-same L I d same ks P) in
+    (A.0, (A.1.0, let x = A.1.1 in omega (arith, x)))
+
+pub apart-none : (I : Linked) (d : Digram) → LeavesApart I I d 0
+apart-none I d = λ ks P. (ks, (P, omega arith))
+
+pub apart-more : (I J L : Linked) (d : Digram) (count : ℕ) → LeavesApart I J d count → LeavesApart J L d 1 → LeavesApart I L d (count + 1)
+apart-more I J L d count A B = λ ks P.
+    let a = A ks P in
+    let b = B a.0 a.1.0 in
+    (b.0, (b.1.0, let x = a.1.1 in let y = b.1.1 in omega (arith, x, y)))
+
+-- where none is left, as many were folded as share no node
+pub apart-ends : (I J : Linked) (d : Digram) (count : ℕ) → LeavesApart I J d count → ((k : ℕ) → IsLinkedAs J d k → ⊥) → HasNoMoreApart I d count
+apart-ends I J d count A none = λ ks P. let a = A ks P in at a.0 a.1.0 ks a.1.1
+  where
+    at : (js : List ℕ) → AreApart J d js → (ks : List ℕ) → length ks ≤ length js + count → length ks ≤ count
+    at [] Q ks h = omega (arith, h)
+    at (j ∷ js) Q ks h = absurd (none j Q.0)
 
 -- there is room for one more fold
 pub enough : (count spare : ℕ) → 1 + 17 * (3 - count) ≤ spare → (3 ≤ count → 18 ≤ spare) → 18 ≤ spare

@@ -1,5 +1,5 @@
 -- Occurrences of one digram, and which of them share no node.
-use Rattle.std.specs.Prelude.{◌≡◌, ◌≢◌, ℕ, List, [], ◌∷◌, Option, Some, None}
+use Rattle.std.specs.Prelude.{◌≡◌, ◌≢◌, ◌≤◌, ◌+◌, ℕ, List, [], ◌∷◌, length, Option, Some, None}
 use Rattle.slt_grammar.specs.declared.digram.Digram.{Digram}
 use Rattle.digram_index.specs.Digrams.{Cell}
 use Rattle.digram_index.specs.Linked.{Linked, cell}
@@ -36,3 +36,15 @@ SharesNoNode I a (b ∷ bs) = ShareNoNode I a b × SharesNoNode I a bs
 abbrev pub AreApart : Linked → Digram → List ℕ → Type 0
 AreApart I d [] = Unit {0}
 AreApart I d (k ∷ ks) = IsLinkedAs I d k × (SharesNoNode I k ks × AreApart I d ks)
+
+-- so many of them share no node
+abbrev pub HasApartLinked : Linked → Digram → ℕ → Type 0
+HasApartLinked I d least = (ks : List ℕ) × (AreApart I d ks × (least ≤ length ks))
+
+-- no more than so many of them share no node
+abbrev pub HasNoMoreApart : Linked → Digram → ℕ → Type 0
+HasNoMoreApart I d most = (ks : List ℕ) → AreApart I d ks → length ks ≤ most
+
+-- of those that share no node all but so many are left
+abbrev pub LeavesApart : Linked → Linked → Digram → ℕ → Type 0
+LeavesApart I J d gone = (ks : List ℕ) → AreApart I d ks → (js : List ℕ) × (AreApart J d js × (length ks ≤ length js + gone))

@@ -1,4 +1,4 @@
-pub mod Partly
+pub mod Near
 pub mod Chains
 pub mod NewRules
 pub mod Turns

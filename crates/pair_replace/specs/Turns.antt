@@ -1,5 +1,5 @@
 -- The turns in which occurrences are folded.
-use Rattle.std.specs.Prelude.{◌≡◌, ◌+◌, ◌-◌, ◌*◌, ◌≤◌, ℕ, List, [], ◌∷◌, length, Option, IfSome, IfNone}
+use Rattle.std.specs.Prelude.{◌≡◌, ◌+◌, ◌-◌, ◌*◌, ◌≤◌, ℕ, [], ◌∷◌, length, Option, IfSome, IfNone}
 use Rattle.rule_arena.specs.declared.key.Key.{Key}
 use Rattle.slt_grammar.specs.Bodies.{calls_in}
 use Rattle.slt_grammar.specs.Grammars.{calls_of, size, value_at}
@@ -7,7 +7,7 @@ use Rattle.slt_grammar.specs.Keyed.{Keyed, rules_of}
 use Rattle.slt_grammar.specs.declared.digram.Digram.{Digram}
 use Rattle.digram_index.specs.Keeping.{IsIndexBut}
 use Rattle.digram_index.specs.Linked.{Linked}
-use Rattle.pair_replace.specs.Chains.{IsHead, IsLinkedAs, AreApart}
+use Rattle.pair_replace.specs.Chains.{IsHead, IsLinkedAs}
 use Rattle.pair_replace.specs.NewRules.{IsNewRule}
 
 -- what holds between two folds
@@ -19,7 +19,6 @@ pub record IsRound (g : Keyed) (I : Linked) (d : Digram) (rule : ℕ) (own : Key
   pub size_left : size (rules_of g.rules) + count ≡ size (rules_of first.rules)
   pub calls : (r : ℕ) → calls_in r (d.upper ∷ d.lower ∷ []) ≡ 0 → calls_of (rules_of first.rules) r ≤ calls_of (rules_of g.rules) r
   pub called : count ≤ calls_of (rules_of g.rules) rule
-  pub apart : (ks : List ℕ) × (AreApart I d ks × (3 ≤ length ks + count))
   pub room : 1 + 17 * (3 - count) ≤ I.spare_links
   pub cells : g.limit ≤ length I.cells
 

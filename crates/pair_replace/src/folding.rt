@@ -7,7 +7,7 @@ ghost use Rattle.slt_grammar.specs.Keyed.{key_at, nodes_at, rules_of};
 ghost use Rattle.slt_grammar.specs.KeyedEdits.{FoldsInto, folded_nodes, with_nodes};
 ghost use Rattle.digram_index.specs.Linked.{cell};
 ghost use Rattle.digram_index.specs.Keeping.{IsIndexBut};
-ghost use Rattle.pair_replace.specs.Partly.{IsAround};
+ghost use Rattle.pair_replace.specs.Near.{IsAround};
 
 use crate::near::{link_near, near_nodes, unlink_near};
 use digram_index::Index;

@@ -2,18 +2,18 @@
 ghost use Rattle.std.specs.Prelude.{◌≡◌, ◌+◌, ◌-◌, ◌<◌, ◌≤◌, ◌++◌, ℕ, [], ◌∷◌, List, IfOk, OnOk, OnErr, length};
 ghost use Rattle.slt_grammar.specs.Algebras.{ranks_of};
 ghost use Rattle.slt_grammar.specs.Bodies.{arity, calls_in, CallsBelow};
-ghost use Rattle.slt_grammar.specs.Digrams.{HasThreeDisjoint, digram_rank};
+ghost use Rattle.slt_grammar.specs.Digrams.{digram_rank};
 ghost use Rattle.slt_grammar.specs.Editing.{shifted};
 ghost use Rattle.slt_grammar.specs.Grammars.{calls_of, size, value, value_at};
 ghost use Rattle.slt_grammar.specs.Keyed.{rules_of};
 ghost use Rattle.slt_grammar.specs.KeyedEdits.{digram_body, parameters};
 ghost use Rattle.digram_index.specs.Keeping.{IsIndexBut};
 ghost use Rattle.digram_index.specs.Linked.{IsIndexOf, cell, cell_count, shifted_cell};
-ghost use Rattle.pair_replace.specs.Chains.{AreApart};
+ghost use Rattle.digram_index.specs.Settled.{HasApart, HasTwoDisjoint};
+ghost use Rattle.pair_replace.specs.Chains.{HasApartLinked};
 ghost use Rattle.pair_replace.specs.NewRules.{IsAdded, IsNewRule, IsSmall};
 
-use crate::reading::{arity_of, item};
-use digram_index::Index;
+use digram_index::{Index, arity_of, item};
 use slt_grammar::{Body, Digram, Grammar, Key, Label};
 use std::alloc::{AllocError, Global};
 
@@ -34,11 +34,11 @@ pub(crate) fn add_new_rule(
     links: usize,
 ) -> Result<NewRule, AllocError>
     requires index { IsIndexOf grammar.old index.old }
-    requires three { HasThreeDisjoint (rules_of grammar.old.rules) digram }
+    requires two { HasTwoDisjoint (rules_of grammar.old.rules) digram }
     requires rank { digram_rank (rules_of grammar.old.rules) digram ≤ 8 }
     ensures index { IfOk result (λ new. IsIndexBut grammar.new index.new (λ k. k ≡ new.lower.number)) }
     ensures new { IfOk result (λ new. IsNewRule grammar.new.rules digram new.place new.lower) }
-    ensures three { OnOk result ((ks : List ℕ) × (AreApart index.new digram ks × (length ks ≡ 3))) }
+    ensures apart { OnOk result ((least : ℕ) → HasApart grammar.old.rules digram least → HasApartLinked index.new digram least) }
     ensures room { OnOk result (links ≤ index.new.spare_links) }
     ensures cells { OnOk result (grammar.new.limit ≤ length index.new.cells) }
     ensures place { IfOk result (λ new. new.place < length grammar.old.rules) }
@@ -71,7 +71,7 @@ pub(crate) fn add_new_rule(
 
 // Puts a rule for a digram among the rules: its place. Where memory is refused, nothing changes.
 fn put_rule(alloc: Global, grammar: &mut Grammar, digram: Digram) -> Result<usize, AllocError>
-    requires three { HasThreeDisjoint (rules_of grammar.old.rules) digram }
+    requires two { HasTwoDisjoint (rules_of grammar.old.rules) digram }
     requires rank { digram_rank (rules_of grammar.old.rules) digram ≤ 8 }
     ensures added { IfOk result (λ place. IsAdded grammar.old.rules grammar.new.rules digram place) }
     ensures first { IfOk result (λ place. (r : ℕ) → CallsBelow r (digram.upper ∷ digram.lower ∷ []) → place ≤ r) }

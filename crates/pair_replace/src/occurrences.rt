@@ -4,8 +4,7 @@ ghost use Rattle.digram_index.specs.Digrams.{Cell, OccursAt};
 ghost use Rattle.digram_index.specs.Keeping.{AreOccurrences};
 ghost use Rattle.pair_replace.specs.Chains.{IsHead, IsLinkedAs};
 
-use crate::reading::item;
-use digram_index::Index;
+use digram_index::{Index, item};
 use slt_grammar::{Digram, Grammar, Key};
 
 // An occurrence to fold next, by its lower node: its upper node is the lower node of no other. None exactly where there is none.

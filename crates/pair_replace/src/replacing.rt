@@ -1,5 +1,5 @@
 // Replacement of a digram.
-ghost use Rattle.std.specs.Prelude.{◌≡◌, ◌≢◌, ◌+◌, ◌<◌, ◌≤◌, ℕ, List, [], ◌∷◌, IfOk, OnOk, OnErr, length};
+ghost use Rattle.std.specs.Prelude.{◌≡◌, ◌≢◌, ◌+◌, ◌<◌, ◌≤◌, ℕ, [], ◌∷◌, IfOk, OnOk, OnErr, length};
 ghost use Rattle.slt_grammar.specs.Bodies.{calls_in};
 ghost use Rattle.slt_grammar.specs.Editing.{shifted};
 ghost use Rattle.slt_grammar.specs.Grammars.{calls_of, size, value, value_at, IsSwept};
@@ -7,15 +7,15 @@ ghost use Rattle.slt_grammar.specs.Digrams.{HasThreeDisjoint, digram_rank};
 ghost use Rattle.slt_grammar.specs.Keyed.{Keyed, rules_of};
 ghost use Rattle.digram_index.specs.Keeping.{IsIndexBut};
 ghost use Rattle.digram_index.specs.Linked.{IsIndexOf, cell, cell_count};
-ghost use Rattle.pair_replace.specs.Chains.{AreApart, IsHead};
+ghost use Rattle.digram_index.specs.Settled.{HasTwoDisjoint};
+ghost use Rattle.pair_replace.specs.Chains.{HasApartLinked, HasNoMoreApart, IsHead, LeavesApart};
 ghost use Rattle.pair_replace.specs.Turns.{IsRound, IsTurn};
 ghost use Rattle.pair_replace.specs.NewRules.{IsNewRule};
 
 use crate::folding::fold_at;
-use crate::near::link_node;
 use crate::new_rule::{NewRule, add_new_rule};
 use crate::occurrences::{further, next_occurrence};
-use digram_index::Index;
+use digram_index::{Index, link_node};
 use slt_grammar::{Digram, Grammar, Key};
 use std::alloc::{AllocError, Global};
 
@@ -31,8 +31,8 @@ pub struct Replaced {
 // How many occurrences are linked anew after a fold.
 const NEAR: usize = 17;
 
-/// Makes a rule of a digram, whose body is the digram over parameters, and folds occurrences into calls of it, as many as share no
-/// node: where its labels differ, all. The value of each rule stays. It fails where memory is refused: the value stays then too, neither
+/// Makes a rule of a digram of which two occurrences share no node, and whose rank is at most 8: its body is the digram over parameters.
+/// Folds occurrences into calls of it, as many as share no node: where its labels differ, all. The value of each rule stays. It fails where memory is refused: the value stays then too, neither
 /// the size nor the size and the rules together are larger, and the index is the grammar's.
 pub fn replace(
     alloc: Global,
@@ -41,12 +41,13 @@ pub fn replace(
     digram: Digram,
 ) -> Result<Replaced, AllocError>
     requires index { IsIndexOf grammar.old index.old }
-    requires three { HasThreeDisjoint (rules_of grammar.old.rules) digram }
+    requires two { HasTwoDisjoint (rules_of grammar.old.rules) digram }
     requires rank { digram_rank (rules_of grammar.old.rules) digram ≤ 8 }
     ensures index { IsIndexOf grammar.new index.new }
     ensures value { value (rules_of grammar.new.rules) ≡ value (rules_of grammar.old.rules) }
     ensures rules { OnOk result (length grammar.new.rules ≡ length grammar.old.rules + 1) }
-    ensures count { IfOk result (λ r. 3 ≤ r.count) }
+    ensures count { IfOk result (λ r. 2 ≤ r.count) }
+    ensures three { HasThreeDisjoint (rules_of grammar.old.rules) digram → IfOk result (λ r. 3 ≤ r.count) }
     ensures size { IfOk result (λ r. size (rules_of grammar.new.rules) + r.count ≡ size (rules_of grammar.old.rules) + 2) }
     ensures refused { OnErr result (size (rules_of grammar.new.rules) ≤ size (rules_of grammar.old.rules)) }
     ensures refused_rules { OnErr result (size (rules_of grammar.new.rules) + length grammar.new.rules ≤ size (rules_of grammar.old.rules) + length grammar.old.rules) }
@@ -55,9 +56,11 @@ pub fn replace(
     ensures differ { IfOk result (λ r. digram.upper ≢ digram.lower → r.count ≡ cell_count digram index.old.cells) }
     ensures swept { IsSwept (rules_of grammar.old.rules) → IsSwept (rules_of grammar.new.rules) }
 {
+    // The calls tell that a key stands once, before and after.
+    let _limit = grammar.limit();
     let new = add_new_rule(alloc, grammar, index, digram, 3 * NEAR + 1)?;
     let count = fold_all(grammar, index, digram, &new);
-    let _limit = grammar.limit();
+    let _folded = grammar.limit();
     link_node(index, grammar, new.lower);
     Ok(Replaced {
         count: count?,
@@ -74,17 +77,17 @@ fn fold_all(
 ) -> Result<u64, AllocError>
     requires index { IsIndexBut grammar.old index.old (λ k. k ≡ new.now.lower.number) }
     requires new { IsNewRule grammar.old.rules digram new.now.place new.now.lower }
-    requires three { (ks : List ℕ) × (AreApart index.old digram ks × (length ks ≡ 3)) }
+    requires two { HasApartLinked index.old digram 2 }
     requires room { 52 ≤ index.old.spare_links }
     requires cells { grammar.old.limit ≤ length index.old.cells }
     ensures index { IsIndexBut grammar.new index.new (λ k. k ≡ new.now.lower.number) }
     ensures new { IsNewRule grammar.new.rules digram new.now.place new.now.lower }
     ensures values { (r : ℕ) → value_at (rules_of grammar.new.rules) r ≡ value_at (rules_of grammar.old.rules) r }
     ensures rules { length grammar.new.rules ≡ length grammar.old.rules }
-    ensures count { IfOk result (λ count. 3 ≤ count) }
+    ensures count { IfOk result (λ count. HasNoMoreApart index.old digram count) }
     ensures size { IfOk result (λ count. size (rules_of grammar.new.rules) + count ≡ size (rules_of grammar.old.rules)) }
     ensures calls { (r : ℕ) → calls_in r (digram.upper ∷ digram.lower ∷ []) ≡ 0 → calls_of (rules_of grammar.old.rules) r ≤ calls_of (rules_of grammar.new.rules) r }
-    ensures called { 3 ≤ calls_of (rules_of grammar.new.rules) new.now.place }
+    ensures called { 2 ≤ calls_of (rules_of grammar.new.rules) new.now.place }
     ensures differ { IfOk result (λ count. digram.upper ≢ digram.lower → count ≡ cell_count digram index.old.cells) }
     ensures refused { OnErr result (size (rules_of grammar.new.rules) + 3 ≤ size (rules_of grammar.old.rules)) }
     ensures room { 1 ≤ index.new.spare_links }
@@ -117,6 +120,7 @@ fn fold_next(
     ensures refused { OnErr result ((first : Keyed) → IsRound grammar.old index.old digram new.now.place new.now.lower first count → IsRound grammar.new index.new digram new.now.place new.now.lower first count) }
     ensures three { OnErr result (3 ≤ count) }
     ensures less { OnOk result (size (rules_of grammar.new.rules) + 1 ≡ size (rules_of grammar.old.rules)) }
+    ensures apart { OnOk result (LeavesApart index.old index.new digram 1) }
     ensures fewer { OnOk result (digram.upper ≢ digram.lower → cell_count digram index.new.cells + 1 ≡ cell_count digram index.old.cells) }
 {
     // The calls tell that a key stands once.

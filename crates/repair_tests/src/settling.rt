@@ -5,7 +5,7 @@ use super::rows::{Row, rules_of};
 use digram_index::{Index, build};
 use local_repair::settle;
 use pair_replace::replace;
-use slt_grammar::Label::{self, Bottom, Symbol};
+use slt_grammar::Label::{self, Bottom, Call, Symbol};
 use slt_grammar::{Grammar, check};
 use std::alloc::{AllocError, Global};
 use std::process::Abort;
@@ -28,6 +28,33 @@ static SIX: [Row; 1] = [(
         Bottom, Bottom,
     ],
 )];
+
+const P: Label = Symbol(3);
+
+const Q: Label = Symbol(4);
+
+// Two rules that have p(q(bottom, bottom), bottom) in common, which stands nowhere else, are called three times each. Two rules more are called
+// once.
+static COMMON: [Row; 5] = [
+    (0, &[A, P, Q, Bottom, Bottom, Bottom, Bottom]),
+    (0, &[B, P, Q, Bottom, Bottom, Bottom, Bottom]),
+    (0, &[Symbol(5), Call(1), Bottom]),
+    (0, &[Symbol(6), Call(1), Call(2)]),
+    (
+        0,
+        &[
+            Symbol(7),
+            Call(0),
+            Symbol(8),
+            Call(0),
+            Symbol(9),
+            Call(0),
+            Symbol(10),
+            Call(1),
+            Call(3),
+        ],
+    ),
+];
 
 // Replaces the digram of the greatest level, if there is one.
 fn step(alloc: Global, grammar: &mut Grammar, index: &mut Index) -> Result<Option<Step>, AllocError>
@@ -67,5 +94,15 @@ fn six_leaves(rt: HostRuntime) -> Result<(), Fail> {
         [Some((6, 0, 13)), Some((3, 1, 12)), None]
     );
     assert_eq!(rt; settled(alloc, &SIX)?, (2, 12));
+    Ok(())
+}
+
+// Without the two rules that are called once there are 7 + 7 + 13 nodes in three rules, where five rules had 29: the grammar is settled, and four
+// more rules of two nodes make it no heavier than it was. The four digrams of the common part stand twice each, so it becomes a rule of 5
+// nodes, which both rules call: 5 + 3 + 3 + 13 nodes in four rules.
+#[test]
+fn a_part_of_two_rules_becomes_a_rule(rt: HostRuntime) -> Result<(), Fail> {
+    let alloc = rt.alloc();
+    assert_eq!(rt; settled(alloc, &COMMON)?, (4, 24));
     Ok(())
 }

@@ -12,8 +12,8 @@ use Rattle.rule_arena.proofs.TakingLaws.{child_apart}
 use Rattle.slt_grammar.specs.Keyed.{Keyed, IsKeyed, key_at, nodes_at}
 use Rattle.slt_grammar.proofs.KeyedLemmas.{key_at-within, nodes-are-term}
 use Rattle.slt_grammar.proofs.Parents.{child-there, parent-inner}
-use Rattle.pair_replace.proofs.Climbs.{all_before, climbs}
-use Rattle.pair_replace.proofs.Kids.{IsChildOf, child-of}
+use Rattle.digram_index.proofs.Climbs.{all_before, climbs}
+use Rattle.digram_index.proofs.Kids.{IsChildOf, child-of}
 use Rattle.rule_pruning.specs.Copies.{end_of}
 
 drop-front : (xs ys : List Node) (p : ℕ) → length xs ≡ p → drop p (xs ++ ys) ≡ ys

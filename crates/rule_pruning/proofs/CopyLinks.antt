@@ -13,8 +13,8 @@ use Rattle.slt_grammar.specs.KeyedEdits.{Stands}
 use Rattle.digram_index.specs.Digrams.{occurrence_at}
 use Rattle.digram_index.specs.Linked.{IsIndexOf, Linked, cell}
 use Rattle.digram_index.proofs.LevelLemmas.{same_some}
-use Rattle.pair_replace.specs.Partly.{IsPartOf, IsRight}
-use Rattle.pair_replace.proofs.KidLinks.{kept-right}
+use Rattle.digram_index.specs.Partly.{IsPartOf, IsRight}
+use Rattle.digram_index.proofs.NodeLinks.{kept-right}
 use Rattle.rule_pruning.specs.Copies.{AreEachTerms, IsCopyLinked, Meets, end_of, width}
 use Rattle.rule_pruning.proofs.CopyPlaces.{Kind, as_copy, as_argument, kind-of, copied-first, each-drop, first-of, length-drop-holes, piece-argument, piece-width, rest-of, some-wide}
 

@@ -5,8 +5,8 @@ use Rattle.rule_arena.specs.Terms.{Node, kids_of, parent_in}
 use Rattle.rule_arena.specs.declared.key.Key.{Key}
 use Rattle.slt_grammar.specs.Copying.{copied, holes_in}
 use Rattle.slt_grammar.proofs.Agreeing.{Agree}
-use Rattle.pair_replace.proofs.OpenPlaces.{Opens, ups, open_behind, behind-terms}
-use Rattle.pair_replace.proofs.Sides.{Side, first, second, side}
+use Rattle.digram_index.proofs.OpenPlaces.{Opens, ups, open_behind, behind-terms}
+use Rattle.digram_index.proofs.Sides.{Side, first, second, side}
 use Rattle.rule_pruning.specs.Copies.{AreEachTerms, Meets}
 use Rattle.rule_pruning.proofs.CopyPlaces.{AreSplit, IsBelowRoot, copied-terms, meets-within, placed, split, told}
 

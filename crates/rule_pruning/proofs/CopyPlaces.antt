@@ -11,8 +11,8 @@ use Rattle.slt_grammar.specs.Copying.{copied, copied_node, hole, holes_in}
 use Rattle.slt_grammar.specs.Detaching.{AreArgs}
 use Rattle.slt_grammar.proofs.Agreeing.{Agree}
 use Rattle.slt_grammar.proofs.FoldedRules.{flat}
-use Rattle.pair_replace.proofs.OpenPlaces.{Opens, AreOpen, ups, length-ups, length-places, open_behind, ups-append, below-roots}
-use Rattle.pair_replace.proofs.Sides.{Side, first, second, side, get-left, get-right}
+use Rattle.digram_index.proofs.OpenPlaces.{Opens, AreOpen, ups, length-ups, length-places, open_behind, ups-append, below-roots}
+use Rattle.digram_index.proofs.Sides.{Side, first, second, side, get-left, get-right}
 use Rattle.rule_pruning.specs.Copies.{AreEachTerms, Meets, width}
 
 -- what comes in the place of one node

@@ -15,8 +15,8 @@ use Rattle.digram_index.specs.Linked.{Linked, IsIndexOf, cell}
 use Rattle.digram_index.proofs.Apartness.{one-key}
 use Rattle.digram_index.proofs.BuildLemmas.{none-left}
 use Rattle.digram_index.proofs.Kept.{near-kept}
-use Rattle.pair_replace.specs.Partly.{IsAmong, IsPartOf, IsRight}
-use Rattle.pair_replace.proofs.KidLinks.{not-among}
+use Rattle.digram_index.specs.Partly.{IsAmong, IsPartOf, IsRight}
+use Rattle.digram_index.proofs.NodeLinks.{not-among}
 use Rattle.rule_pruning.specs.Copies.{IsCopyLinked, Meets, first_came}
 use Rattle.rule_pruning.proofs.CopyMoves.{around}
 use Rattle.rule_pruning.proofs.NearInlines.{IsLeft, IsMet, IsNewMet, WasThere, callee-same, cut, left, many, near, near-inlined, news, reached, terms}

@@ -25,8 +25,8 @@ use Rattle.slt_grammar.proofs.KeyedLemmas.{body_at-rules_of, key_at-within, key_
 use Rattle.digram_index.specs.Keeping.{IsNear, TellsSame}
 use Rattle.digram_index.proofs.Apartness.{one-key}
 use Rattle.digram_index.proofs.LevelLemmas.{same_some}
-use Rattle.pair_replace.specs.Partly.{IsAmong}
-use Rattle.pair_replace.proofs.Kids.{child-of}
+use Rattle.digram_index.specs.Partly.{IsAmong}
+use Rattle.digram_index.proofs.Kids.{child-of}
 use Rattle.rule_pruning.specs.Copies.{AreEachTerms, Meets}
 use Rattle.rule_pruning.proofs.CopyMoves.{HasMoved, around, moves}
 use Rattle.rule_pruning.proofs.CopyPlaces.{copied-leaves, holes-leaves, leaves, met-root, root-met}

@@ -9,7 +9,7 @@ use Rattle.slt_grammar.specs.Copying.{copied, hole, holes_in}
 use Rattle.slt_grammar.specs.Keyed.{Keyed, key_at, nodes_at}
 use Rattle.slt_grammar.specs.KeyedEdits.{Stands}
 use Rattle.digram_index.specs.Linked.{Linked}
-use Rattle.pair_replace.specs.Partly.{IsPartOf, IsRight}
+use Rattle.digram_index.specs.Partly.{IsPartOf, IsRight}
 
 -- the place behind the term of the node at a place
 abbrev pub end_of : List Node → ℕ → ℕ

@@ -1,57 +1,11 @@
-// Nodes that are read on a counter of their own.
-ghost use Rattle.std.specs.Prelude.{◌≡◌, ◌+◌, ◌<◌, ℕ, Some, length, slice_get};
+// Nodes that are read.
+ghost use Rattle.std.specs.Prelude.{◌≡◌, ℕ, Some, slice_get};
 ghost use Rattle.rule_arena.specs.Terms.{Node, kids_in, parent_in};
 ghost use Rattle.slt_grammar.specs.Keyed.{key_at, nodes_at};
 ghost use Rattle.rule_pruning.specs.Copies.{end_of};
 
-use read_steps::Steps;
-use slt_grammar::{Grammar, Item, Key, Kids, Label};
-use std::marker::Brand;
-use std::sync::ledger::{Blank, Ledger};
-
-// What stands at a node.
-pub(crate) fn item(grammar: &Grammar, key: Key) -> Item
-    requires { (r : ℕ) × (p : ℕ) × (key_at grammar.now.rules r p ≡ Some key) }
-    ensures node { (r p : ℕ) → key_at grammar.now.rules r p ≡ Some key → slice_get (nodes_at grammar.now.rules r) p
-        ≡ Some (record { key = key; label = result.label; kids = length result.kids }) }
-    ensures parent { (r p : ℕ) → key_at grammar.now.rules r p ≡ Some key → parent_in (nodes_at grammar.now.rules r) p ≡ result.parent }
-    ensures kids { (r p : ℕ) → key_at grammar.now.rules r p ≡ Some key → kids_in (nodes_at grammar.now.rules r) p ≡ result.kids }
-{
-    item_of::<Brand>(grammar, key, Blank::new(1))
-}
-
-fn item_of<L: Ledger>(grammar: &Grammar, key: Key, blank: Blank) -> Item
-    requires there { (r : ℕ) × (p : ℕ) × (key_at grammar.now.rules r p ≡ Some key) }
-    requires name { blank.name ≡ L.name }
-    requires parts { blank.parts ≡ L.parts }
-    requires some { 0 < blank.parts }
-    ensures node { (r p : ℕ) → key_at grammar.now.rules r p ≡ Some key → slice_get (nodes_at grammar.now.rules r) p
-        ≡ Some (record { key = key; label = result.label; kids = length result.kids }) }
-    ensures parent { (r p : ℕ) → key_at grammar.now.rules r p ≡ Some key → parent_in (nodes_at grammar.now.rules r) p ≡ result.parent }
-    ensures kids { (r p : ℕ) → key_at grammar.now.rules r p ≡ Some key → kids_in (nodes_at grammar.now.rules r) p ≡ result.kids }
-{
-    let mut steps: Steps<L> = Steps::new(blank);
-    grammar.item(key, &mut steps)
-}
-
-// The next node of the same body.
-pub(crate) fn following(grammar: &Grammar, key: Key) -> Option<Key>
-    requires { (r : ℕ) × (p : ℕ) × (key_at grammar.now.rules r p ≡ Some key) }
-    ensures { (r p : ℕ) → key_at grammar.now.rules r p ≡ Some key → key_at grammar.now.rules r (p + 1) ≡ result }
-{
-    following_of::<Brand>(grammar, key, Blank::new(1))
-}
-
-fn following_of<L: Ledger>(grammar: &Grammar, key: Key, blank: Blank) -> Option<Key>
-    requires there { (r : ℕ) × (p : ℕ) × (key_at grammar.now.rules r p ≡ Some key) }
-    requires name { blank.name ≡ L.name }
-    requires parts { blank.parts ≡ L.parts }
-    requires some { 0 < blank.parts }
-    ensures { (r p : ℕ) → key_at grammar.now.rules r p ≡ Some key → key_at grammar.now.rules r (p + 1) ≡ result }
-{
-    let mut steps: Steps<L> = Steps::new(blank);
-    grammar.next_in_preorder(key, &mut steps)
-}
+use digram_index::item;
+use slt_grammar::{Grammar, Key, Kids, Label};
 
 // The next node of the same body that does not stand below a node.
 pub(crate) fn behind(grammar: &Grammar, key: Key) -> Option<Key>

@@ -5,7 +5,7 @@ pub loop-digram-preserved : goal.loop-digram-preserved
 loop-digram-preserved c =
     let R = c.in_ok-replace.ensures in
     record {
-      kept = no-larger-then _ _ _ c.loop-digram.invariant.kept (no-larger-replaced _ _ R.value R.swept _ R.count R.rules R.size);
+      kept = no-larger-then _ _ _ c.loop-digram.invariant.kept (no-larger-replaced _ _ R.value R.swept _ (R.three c.in-Some.ensures.three) R.rules R.size);
       index = R.index;
     }
 

@@ -1,41 +1,13 @@
-use Rattle.local_repair.proofs.Settlings.{no-larger-then, no-larger-replaced, no-larger-both, no-larger-pruned}
+use Rattle.local_repair.proofs.Settlings.{no-larger-then, no-larger-again}
 use Rattle.local_repair.proofs.settling.settle_touched.Goals as goal
 
-pub loop-digram-init : goal.loop-digram-init
-loop-digram-init c =
-    let P = c.in_ok-prune.ensures in
-    record {
-      swept = P.swept;
-      save = P.save;
-      kept = no-larger-pruned _ _ P.value P.stays P.size P.rules;
-      index = P.index;
-    }
+pub returns-in_err-replace_twice-clause-kept : goal.returns-in_err-replace_twice-clause-kept
+returns-in_err-replace_twice-clause-kept c =
+    no-larger-again c.args.grammar.now.rules c.alternate.new.grammar.rules c.replace_twice.new.grammar.rules c.weight-begin.result c.weight.result c.saturating_sub-slack.result c.in_ok-alternate.ensures.kept c.weight-begin.ensures c.weight.ensures
+    c.saturating_sub-slack.ensures c.in_err-replace_twice.ensures.kept
 
-pub returns-in_err-replace-clause-kept : goal.returns-in_err-replace-clause-kept
-returns-in_err-replace-clause-kept c =
-    let R = c.in_err-replace.ensures in
-    no-larger-then _ _ _ c.loop-digram.invariant.kept (no-larger-both _ _ R.value R.swept R.refused R.refused_rules)
-
-pub returns-in_err-replace_all-clause-kept : goal.returns-in_err-replace_all-clause-kept
-returns-in_err-replace_all-clause-kept c =
-    let R = c.in_ok-replace.ensures in
-    no-larger-then _ _ _ (no-larger-then _ _ _ c.loop-digram.invariant.kept (no-larger-replaced _ _ R.value R.swept _ R.count R.rules R.size)) c.in_err-replace_all.ensures.kept
-
-pub loop-digram-preserved : goal.loop-digram-preserved
-loop-digram-preserved c =
-    let R = c.in_ok-replace.ensures in
-    let A = c.in_ok-replace_all.ensures in
-    let P = c.in_ok-prune-2.ensures in
-    record {
-      swept = P.swept;
-      save = P.save;
-      kept = no-larger-then _ _ _ (no-larger-then _ _ _ (no-larger-then _ _ _ c.loop-digram.invariant.kept (no-larger-replaced _ _ R.value R.swept _ R.count R.rules R.size)) A.kept) (no-larger-pruned _ _ P.value P.stays P.size P.rules);
-      index = P.index;
-    }
-
-pub returns-in_err-prune-2-clause-kept : goal.returns-in_err-prune-2-clause-kept
-returns-in_err-prune-2-clause-kept c =
-    let R = c.in_ok-replace.ensures in
-    let A = c.in_ok-replace_all.ensures in
-    let P = c.in_err-prune-2.ensures in
-    no-larger-then _ _ _ (no-larger-then _ _ _ (no-larger-then _ _ _ c.loop-digram.invariant.kept (no-larger-replaced _ _ R.value R.swept _ R.count R.rules R.size)) A.kept) (no-larger-pruned _ _ P.value P.stays P.size P.rules)
+pub returns-clause-kept : goal.returns-clause-kept
+returns-clause-kept c =
+    no-larger-then _ _ _
+    (no-larger-again c.args.grammar.now.rules c.alternate.new.grammar.rules c.replace_twice.new.grammar.rules c.weight-begin.result c.weight.result c.saturating_sub-slack.result c.in_ok-alternate.ensures.kept c.weight-begin.ensures c.weight.ensures
+    c.saturating_sub-slack.ensures c.in_ok-replace_twice.ensures.kept) c.alternate-2.ensures.kept

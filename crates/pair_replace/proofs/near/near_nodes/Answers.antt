@@ -1,4 +1,4 @@
-use Rattle.std.proofs.Common.{◌≡◌, ℕ, suc, Option, Some, IsSome, refl, sym, ◌∙◌, ap, subst}
+use Rattle.std.proofs.Common.{ℕ, suc, Option, Some, IsSome, refl, sym, ◌∙◌, ap, subst}
 use Rattle.rule_arena.specs.declared.key.Key.{Key}
 use Rattle.pair_replace.proofs.Folds.{fold-parent, the-up}
 use Rattle.pair_replace.proofs.near.near_nodes.Goals as goal

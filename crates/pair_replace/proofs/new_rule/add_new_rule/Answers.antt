@@ -5,7 +5,7 @@ use Rattle.slt_grammar.specs.KeyedEdits.{rule_dropped}
 use Rattle.digram_index.proofs.KeptRules.{put-kept}
 use Rattle.pair_replace.proofs.PutBack.{index-back, rules-back}
 use Rattle.pair_replace.proofs.PutCounts.{count-put}
-use Rattle.pair_replace.proofs.PutRules.{is-new, index-but-lower, three-linked, child-there}
+use Rattle.pair_replace.proofs.PutRules.{is-new, index-but-lower, apart-linked, child-there}
 use Rattle.pair_replace.proofs.new_rule.add_new_rule.Goals as goal
 
 pub unwrap-lower-requires : goal.unwrap-lower-requires
@@ -27,9 +27,9 @@ returns-in-Ok-clause-index c =
     index-but-lower c.put_rule.new.grammar c.limit-grown.ensures.keyed c.args.digram c.in_ok-place.place c.unwrap-lower.result (returns-in-Ok-clause-new c) c.make_place.new.index
     (put-kept c.args.grammar.now c.put_rule.new.grammar c.limit-grown.ensures.keyed c.in_ok-place.place a.rule (let t = a.there in omega arith) a.rules c.args.index.now c.make_place.new.index c.requires.index c.in-Ok.ensures.rules c.in-Ok.ensures.shifted)
 
-pub returns-in-Ok-clause-three : goal.returns-in-Ok-clause-three
-returns-in-Ok-clause-three c =
-    three-linked c.args.grammar.now c.args.digram c.in_ok-place.place c.args.index.now c.make_place.new.index c.requires.index c.in_ok-place.ensures.added.below c.in-Ok.ensures.shifted c.limit-limit.ensures.keyed c.requires.three
+pub returns-in-Ok-clause-apart : goal.returns-in-Ok-clause-apart
+returns-in-Ok-clause-apart c =
+    apart-linked c.args.grammar.now c.args.digram c.in_ok-place.place c.args.index.now c.make_place.new.index c.requires.index c.in_ok-place.ensures.added.below c.in-Ok.ensures.shifted
 
 pub returns-in-Ok-clause-counted : goal.returns-in-Ok-clause-counted
 returns-in-Ok-clause-counted c = count-put c.in_ok-place.place c.args.digram c.args.index.now.cells c.make_place.new.index.cells c.in_ok-place.ensures.added.below c.in-Ok.ensures.shifted

@@ -1,4 +1,4 @@
-use Rattle.std.proofs.Common.{◌≡◌, sym, ◌∙◌}
+use Rattle.std.proofs.Common.{sym, ◌∙◌}
 use Rattle.pair_replace.proofs.ChainLemmas.{upper-before, linked-upper}
 use Rattle.pair_replace.proofs.occurrences.head.Goals as goal
 

@@ -1,6 +1,6 @@
 use Rattle.std.proofs.Common.{◌≡◌}
 use Rattle.pair_replace.specs.Chains.{IsLinkedAs, upper_at}
-use Rattle.pair_replace.proofs.Climbs.{all_before}
+use Rattle.digram_index.proofs.Climbs.{all_before}
 use Rattle.pair_replace.proofs.occurrences.head.Given as goal
 
 abbrev pub invariant-loop-first : goal.invariant-loop-first

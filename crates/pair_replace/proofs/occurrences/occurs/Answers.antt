@@ -1,4 +1,3 @@
-use Rattle.std.proofs.Common.{◌≡◌, Some}
 use Rattle.digram_index.specs.Linked.{cell}
 use Rattle.pair_replace.proofs.ChainLemmas.{some-cell, occurs-told}
 use Rattle.pair_replace.proofs.occurrences.occurs.Goals as goal

@@ -1,4 +1,4 @@
-use Rattle.std.proofs.Common.{◌≡◌, ℕ, length, Option, IsSome, refl, ap, sym, ◌∙◌, subst}
+use Rattle.std.proofs.Common.{ℕ, length, Option, IsSome, refl, ap, sym, ◌∙◌, subst}
 use Rattle.rule_arena.specs.declared.key.Key.{Key}
 use Rattle.rule_arena.specs.declared.label.Label.{Label}
 use Rattle.slt_grammar.specs.Keyed.{nodes_at}

@@ -1,18 +1,30 @@
-use Rattle.std.proofs.Common.{◌≡◌, ◌≤◌, arith}
+use Rattle.std.proofs.Common.{arith}
 use Rattle.pair_replace.proofs.Counts.{none-linked}
-use Rattle.pair_replace.proofs.Rounds.{three-folded, turns-end}
+use Rattle.pair_replace.proofs.Rounds.{apart-ends, apart-more, turns-end}
 use Rattle.pair_replace.proofs.replacing.fold_all.Goals as goal
+
+pub loop-next-preserved : goal.loop-next-preserved
+loop-next-preserved c =
+    let I = c.loop-next.invariant in
+    let N = c.in_ok-next.ensures in
+    record {
+      round = N.round c.args.grammar.now I.round;
+      left = λ d. let a = N.fewer d in let b = I.left d in omega (arith, a, b);
+      apart = apart-more c.args.index.now c.loop-next.index c.fold_next.new.index c.args.digram c.loop-next.count I.apart N.apart;
+      turn = N.turn;
+    }
 
 pub returns-clause-count : goal.returns-clause-count
 returns-clause-count c =
-    let A = c.loop-next.invariant.round.apart in
-    three-folded c.loop-next.index c.args.digram c.loop-next.count (turns-end c.loop-next.index c.args.digram c.loop-next.next c.loop-next.invariant.turn c.in_default.is) A.0 A.1.0 A.1.1
+    apart-ends c.args.index.now c.loop-next.index c.args.digram c.loop-next.count c.loop-next.invariant.apart (turns-end c.loop-next.index c.args.digram c.loop-next.next c.loop-next.invariant.turn c.in_default.is)
 
 pub returns-clause-called : goal.returns-clause-called
 returns-clause-called c =
-    let n = returns-clause-count c in
+    let t = c.requires.two in
+    let n = returns-clause-count c t.0 t.1.0 in
+    let m = t.1.1 in
     let r = c.loop-next.invariant.round.called in
-    omega (arith, n, r)
+    omega (arith, n, m, r)
 
 pub returns-clause-differ : goal.returns-clause-differ
 returns-clause-differ c = λ d.

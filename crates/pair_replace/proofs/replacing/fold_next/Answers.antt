@@ -1,8 +1,5 @@
-use Rattle.std.proofs.Common.{◌≡◌, ◌∙◌, ◌≤◌, ◌+◌, ◌-◌, ◌*◌, ℕ, arith}
-use Rattle.std.proofs.lemmas.Bool.{cases_lt}
-use Rattle.slt_grammar.specs.Keyed.{Keyed}
-use Rattle.pair_replace.specs.Turns.{IsRound}
-use Rattle.pair_replace.proofs.Rounds.{round-same, round-next, enough, err-says}
+use Rattle.std.proofs.Common.{◌∙◌}
+use Rattle.pair_replace.proofs.Rounds.{round-same, round-next, apart-next, enough, err-says}
 use Rattle.pair_replace.proofs.Counts.{count-alike}
 use Rattle.pair_replace.proofs.FewerCells.{fewer}
 use Rattle.pair_replace.proofs.NextFolds.{folds}
@@ -29,6 +26,13 @@ returns-clause-round c = λ first R.
     round-next c.args.grammar.now c.fold_at.new.grammar c.limit-limit.ensures.keyed c.make_room.new.index c.fold_at.new.index c.args.digram c.args.new.now.place c.args.new.now.lower first c.args.count N
     (enough c.args.count c.make_room.new.index.spare_links N.room c.in_ok-make_room.ensures.room) c.args.lower
     (head-same c.args.index.now c.make_room.new.index c.args.digram c.args.lower.number m.cells c.requires.head) f.rules f.index f.others f.values f.size f.spare f.cells
+
+pub returns-clause-apart : goal.returns-clause-apart
+returns-clause-apart c =
+    let m = c.make_room.ensures in
+    let R = round-same c.args.grammar.now c.args.index.now c.make_room.new.index c.args.digram c.args.new.now.place c.args.new.now.lower c.requires.round.0 c.args.count c.requires.round.1 m.rules m.cells m.more m.spares in
+    apart-next c.args.grammar.now c.limit-limit.ensures.keyed c.args.index.now c.make_room.new.index c.fold_at.new.index c.args.digram c.args.new.now.place c.args.new.now.lower c.requires.round.0 c.args.count R m.cells c.args.lower
+    (head-same c.args.index.now c.make_room.new.index c.args.digram c.args.lower.number m.cells c.requires.head) c.fold_at.ensures.others
 
 pub returns-clause-fewer : goal.returns-clause-fewer
 returns-clause-fewer c = λ differ.

@@ -1,5 +1,10 @@
+use Rattle.std.proofs.Common.{arith}
+use Rattle.digram_index.proofs.PlainDigrams.{two-apart, three-apart}
 use Rattle.pair_replace.proofs.Ends.{all-called, last-linked}
 use Rattle.pair_replace.proofs.replacing.replace.Goals as goal
+
+pub fold_all-count-requires-clause-two : goal.fold_all-count-requires-clause-two
+fold_all-count-requires-clause-two c = c.in_ok-new.ensures.apart 2 (two-apart c.args.grammar.now c.limit-limit.ensures.keyed c.args.digram c.requires.two)
 
 pub returns-in_err-count-clause-index : goal.returns-in_err-count-clause-index
 returns-in_err-count-clause-index c =
@@ -11,7 +16,7 @@ pub returns-in_err-count-clause-swept : goal.returns-in_err-count-clause-swept
 returns-in_err-count-clause-swept c =
     let n = c.in_ok-new.ensures in
     let f = c.fold_all-count.ensures in
-    all-called c.args.grammar.now.rules c.add_new_rule.new.grammar.rules c.fold_all-count.new.grammar c.limit-limit.ensures.keyed c.args.digram c.in_ok-new.new.place c.in_ok-new.new.lower f.new n.rules f.rules n.place n.calls f.calls f.called
+    all-called c.args.grammar.now.rules c.add_new_rule.new.grammar.rules c.fold_all-count.new.grammar c.limit-folded.ensures.keyed c.args.digram c.in_ok-new.new.place c.in_ok-new.new.lower f.new n.rules f.rules n.place n.calls f.calls f.called
 
 pub returns-clause-index : goal.returns-clause-index
 returns-clause-index c =
@@ -23,4 +28,18 @@ pub returns-clause-swept : goal.returns-clause-swept
 returns-clause-swept c =
     let n = c.in_ok-new.ensures in
     let f = c.fold_all-count.ensures in
-    all-called c.args.grammar.now.rules c.add_new_rule.new.grammar.rules c.fold_all-count.new.grammar c.limit-limit.ensures.keyed c.args.digram c.in_ok-new.new.place c.in_ok-new.new.lower f.new n.rules f.rules n.place n.calls f.calls f.called
+    all-called c.args.grammar.now.rules c.add_new_rule.new.grammar.rules c.fold_all-count.new.grammar c.limit-folded.ensures.keyed c.args.digram c.in_ok-new.new.place c.in_ok-new.new.lower f.new n.rules f.rules n.place n.calls f.calls f.called
+
+pub returns-clause-count : goal.returns-clause-count
+returns-clause-count c =
+    let t = c.in_ok-new.ensures.apart 2 (two-apart c.args.grammar.now c.limit-limit.ensures.keyed c.args.digram c.requires.two) in
+    let m = t.1.1 in
+    let n = c.in_ok-count.ensures.count t.0 t.1.0 in
+    omega (arith, m, n)
+
+pub returns-clause-three : goal.returns-clause-three
+returns-clause-three c = λ three.
+    let t = c.in_ok-new.ensures.apart 3 (three-apart c.args.grammar.now c.limit-limit.ensures.keyed c.args.digram three) in
+    let m = t.1.1 in
+    let n = c.in_ok-count.ensures.count t.0 t.1.0 in
+    omega (arith, m, n)

@@ -1,6 +1,6 @@
 use Rattle.std.proofs.Common.{◌≡◌, ◌⊎◌, inl, inr, ℕ, None, sym, ap, ◌∙◌}
 use Rattle.digram_index.specs.Linked.{cell}
-use Rattle.pair_replace.specs.Partly.{IsAmong}
+use Rattle.digram_index.specs.Partly.{IsAmong}
 use Rattle.rule_pruning.proofs.links.unlink_call.Goals as goal
 
 by : (c : goal.After-unlink_kids) → (n : ℕ) → (n ≡ c.args.call.number) ⊎ IsAmong c.args.arguments.now n → cell c.unlink_kids.new.index n ≡ None

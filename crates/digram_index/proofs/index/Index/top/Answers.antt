@@ -1,54 +1,8 @@
-use Rattle.std.proofs.Common.{ap, sym, subst}
-use Rattle.slt_grammar.specs.Digrams.{HasThreeDisjoint}
-use Rattle.slt_grammar.specs.Keyed.{rules_of}
-use Rattle.slt_grammar.specs.declared.digram.Digram.{Digram}
-use Rattle.digram_index.specs.Frequency.{IsFrequency}
-use Rattle.digram_index.specs.Linked.{Linked, cell_count, digram_of}
-use Rattle.digram_index.specs.Settled.{IsWithin}
-use Rattle.digram_index.proofs.Kept.{indexed-occurs}
-use Rattle.digram_index.proofs.PlainDigrams.{three-disjoint, three-apart}
-use Rattle.digram_index.proofs.Rates.{best-digram}
-use Rattle.digram_index.proofs.Tops.{are-cells, are-all-cells, often-member, often-apart, often-within, apart-often, digram-is}
+use Rattle.digram_index.proofs.PlainDigrams.{three-disjoint, three-apart, some-then, none-then}
 use Rattle.digram_index.proofs.index.Index.top.Goals as goal
 
-pub label-requires : goal.label-requires
-label-requires c =
-    let C = are-cells c.args.grammar.now c.args.self.now c.self.inside.numbers c.self.inside.entries (indexed-occurs c.args.grammar.now c.args.self.now c.requires.index) (ap (λ (l : Linked). l.cells) c.self.view_is) in
-    (often-member c.args.grammar.now c.limit-limit.ensures.keyed c.self.inside.numbers c.self.inside.entries c.self.invariant.0 C c.in-Some.pattern c.in-Some.ensures.some.1).1.upper
+pub returns-clause-three : goal.returns-clause-three
+returns-clause-three c = some-then _ _ c.frequent.result (three-disjoint c.args.grammar.now c.limit-limit.ensures.keyed) c.frequent.ensures.apart
 
-pub label-requires-in-Some : goal.label-requires-in-Some
-label-requires-in-Some c =
-    let C = are-cells c.args.grammar.now c.args.self.now c.self.inside.numbers c.self.inside.entries (indexed-occurs c.args.grammar.now c.args.self.now c.requires.index) (ap (λ (l : Linked). l.cells) c.self.view_is) in
-    (often-member c.args.grammar.now c.limit-limit.ensures.keyed c.self.inside.numbers c.self.inside.entries c.self.invariant.0 C c.in-Some.pattern c.in-Some.ensures.some.1).1.lower
-
-pub returns-in-Some-clause-within : goal.returns-in-Some-clause-within
-returns-in-Some-clause-within c =
-    let C = are-cells c.args.grammar.now c.args.self.now c.self.inside.numbers c.self.inside.entries (indexed-occurs c.args.grammar.now c.args.self.now c.requires.index) (ap (λ (l : Linked). l.cells) c.self.view_is) in
-    let d = digram-is c.in-Some.pattern.place _ _ c.label.result c.label-in-Some.result c.label.ensures c.label-in-Some.ensures in
-    subst (λ (x : Digram). IsWithin c.args.grammar.now.rules c.args.bound x) d (often-within c.args.grammar.now c.limit-limit.ensures.keyed c.self.inside.numbers c.self.inside.entries c.self.invariant.0 C c.in-Some.pattern c.args.bound c.in-Some.ensures.some.0 c.in-Some.ensures.some.1)
-
-pub returns-in-Some-clause-three : goal.returns-in-Some-clause-three
-returns-in-Some-clause-three c =
-    let C = are-cells c.args.grammar.now c.args.self.now c.self.inside.numbers c.self.inside.entries (indexed-occurs c.args.grammar.now c.args.self.now c.requires.index) (ap (λ (l : Linked). l.cells) c.self.view_is) in
-    let d = digram-is c.in-Some.pattern.place _ _ c.label.result c.label-in-Some.result c.label.ensures c.label-in-Some.ensures in
-    subst (λ (x : Digram). HasThreeDisjoint (rules_of c.args.grammar.now.rules) x) d
-    (three-disjoint c.args.grammar.now c.limit-limit.ensures.keyed _ (often-apart c.args.grammar.now c.limit-limit.ensures.keyed c.self.inside.numbers c.self.inside.entries c.self.invariant.0 C c.in-Some.pattern c.in-Some.ensures.some.1))
-
-pub returns-in-None-clause-none : goal.returns-in-None-clause-none
-returns-in-None-clause-none c = λ d w h.
-    let C = are-cells c.args.grammar.now c.args.self.now c.self.inside.numbers c.self.inside.entries (indexed-occurs c.args.grammar.now c.args.self.now c.requires.index) (ap (λ (l : Linked). l.cells) c.self.view_is) in
-    let A = are-all-cells c.args.grammar.now c.args.self.now c.self.inside.numbers c.self.inside.entries c.requires.index (ap (λ (l : Linked). l.cells) c.self.view_is) in
-    let p = apart-often c.args.grammar.now c.limit-limit.ensures.keyed c.self.inside.numbers c.self.inside.entries c.self.invariant.0 C A d c.args.bound w (three-apart c.args.grammar.now c.limit-limit.ensures.keyed d h) in
-    c.in-None.ensures.none p.0 p.1.0 p.1.1.0
-
-pub returns-in-Some-clause-most : goal.returns-in-Some-clause-most
-returns-in-Some-clause-most c = λ e m n w h F G.
-    let q = ap (λ (l : Linked). l.cells) c.self.view_is in
-    let C = are-cells c.args.grammar.now c.args.self.now c.self.inside.numbers c.self.inside.entries (indexed-occurs c.args.grammar.now c.args.self.now c.requires.index) q in
-    let A = are-all-cells c.args.grammar.now c.args.self.now c.self.inside.numbers c.self.inside.entries c.requires.index q in
-    let d = digram-is c.in-Some.pattern.place _ _ c.label.result c.label-in-Some.result c.label.ensures c.label-in-Some.ensures in
-    best-digram c.args.grammar.now c.limit-limit.ensures.keyed c.self.inside.numbers c.self.inside.entries c.self.invariant.0 C A c.args.bound c.in-Some.pattern c.in-Some.ensures.some.1 c.in-Some.ensures.most
-    e (three-apart c.args.grammar.now c.limit-limit.ensures.keyed e h) w m n
-    (subst (λ cs. IsFrequency (digram_of c.self.inside.numbers.numbers c.in-Some.pattern) (cell_count (digram_of c.self.inside.numbers.numbers c.in-Some.pattern) cs) m) (sym q)
-    (subst (λ (x : Digram). IsFrequency x (cell_count x c.args.self.now.cells) m) (sym d) F))
-    (subst (λ cs. IsFrequency e (cell_count e cs) n) (sym q) G)
+pub returns-clause-none : goal.returns-clause-none
+returns-clause-none c = none-then _ _ c.frequent.result (λ n d w h. n d w (three-apart c.args.grammar.now c.limit-limit.ensures.keyed d h)) c.frequent.ensures.none

@@ -1,0 +1,41 @@
+use Rattle.local_repair.proofs.Settlings.{no-larger-then, no-larger-replaced, no-larger-both, no-larger-pruned}
+use Rattle.local_repair.proofs.settling.alternate.Goals as goal
+
+pub loop-digram-init : goal.loop-digram-init
+loop-digram-init c =
+    let P = c.in_ok-prune.ensures in
+    record {
+      swept = P.swept;
+      save = P.save;
+      kept = no-larger-pruned _ _ P.value P.stays P.size P.rules;
+      index = P.index;
+    }
+
+pub returns-in_err-replace-clause-kept : goal.returns-in_err-replace-clause-kept
+returns-in_err-replace-clause-kept c =
+    let R = c.in_err-replace.ensures in
+    no-larger-then _ _ _ c.loop-digram.invariant.kept (no-larger-both _ _ R.value R.swept R.refused R.refused_rules)
+
+pub returns-in_err-replace_all-clause-kept : goal.returns-in_err-replace_all-clause-kept
+returns-in_err-replace_all-clause-kept c =
+    let R = c.in_ok-replace.ensures in
+    no-larger-then _ _ _ (no-larger-then _ _ _ c.loop-digram.invariant.kept (no-larger-replaced _ _ R.value R.swept _ (R.three c.in-Some.ensures.three) R.rules R.size)) c.in_err-replace_all.ensures.kept
+
+pub loop-digram-preserved : goal.loop-digram-preserved
+loop-digram-preserved c =
+    let R = c.in_ok-replace.ensures in
+    let A = c.in_ok-replace_all.ensures in
+    let P = c.in_ok-prune-2.ensures in
+    record {
+      swept = P.swept;
+      save = P.save;
+      kept = no-larger-then _ _ _ (no-larger-then _ _ _ (no-larger-then _ _ _ c.loop-digram.invariant.kept (no-larger-replaced _ _ R.value R.swept _ (R.three c.in-Some.ensures.three) R.rules R.size)) A.kept) (no-larger-pruned _ _ P.value P.stays P.size P.rules);
+      index = P.index;
+    }
+
+pub returns-in_err-prune-2-clause-kept : goal.returns-in_err-prune-2-clause-kept
+returns-in_err-prune-2-clause-kept c =
+    let R = c.in_ok-replace.ensures in
+    let A = c.in_ok-replace_all.ensures in
+    let P = c.in_err-prune-2.ensures in
+    no-larger-then _ _ _ (no-larger-then _ _ _ (no-larger-then _ _ _ c.loop-digram.invariant.kept (no-larger-replaced _ _ R.value R.swept _ (R.three c.in-Some.ensures.three) R.rules R.size)) A.kept) (no-larger-pruned _ _ P.value P.stays P.size P.rules)

@@ -1,0 +1,16 @@
+use Rattle.std.proofs.Common.{arith}
+use Rattle.local_repair.proofs.Settlings.{larger-then, larger-within, larger-replaced, larger-refused}
+use Rattle.local_repair.proofs.settling.replace_twice.Goals as goal
+
+pub loop-done-preserved : goal.loop-done-preserved
+loop-done-preserved c =
+    let R = c.in_ok-replace.ensures in
+    record {
+      kept = larger-then _ _ _ _ c.loop-done.invariant.kept (larger-replaced _ _ R.value R.swept _ R.count R.rules R.size);
+      index = R.index;
+    }
+
+pub returns-in_err-replace-clause-kept : goal.returns-in_err-replace-clause-kept
+returns-in_err-replace-clause-kept c =
+    let R = c.in_err-replace.ensures in
+    larger-within _ _ _ _ (omega arith) (larger-then _ _ _ _ c.loop-done.invariant.kept (larger-refused _ _ R.value R.swept R.refused R.refused_rules))

@@ -1,4 +1,0 @@
-use Rattle.rule_pruning.proofs.reading.following.Given as goal
-
-abbrev pub ghosts-following_of : goal.ghosts-following_of
-ghosts-following_of a = record { name = a.blank.name; parts = a.blank.parts }

@@ -208,7 +208,7 @@ module _ {S D : Type 0} (A : Algebra S) (W : Downward S D) (G : List Rule) (ks :
 
     -- a symbol opens its two children
     pub walk-symbol : (f : ℕ) (kids rest : S) (notes : List (Note S)) (marks : List (Mark D)) (here here' : Here) (d : D) (fell : Fell D) (w : Walks A W G ks lists key down (NoteSymbol f kids rest ∷ notes) (MarkTerm d ∷ marks) here outcome)
-        → fell ≡ W.step f d kids rest → IsTelling lists here' (beside w.s (one fell.hit)) → Walks A W G ks lists key down notes (MarkTerm fell.left ∷ MarkTerm fell.right ∷ marks) here' outcome
+        → fell ≡ W.step f d kids rest → IsTelling lists here' (beside w.s (one fell.hit f)) → Walks A W G ks lists key down notes (MarkTerm fell.left ∷ MarkTerm fell.right ∷ marks) here' outcome
     walk-symbol f kids rest notes marks here here' d fell w is telling =
         let m = open-term lists d marks w.ms w.marked in
         let n = note-symbol A G ks w.args w.ls f kids rest notes w.noted in
@@ -217,13 +217,13 @@ module _ {S D : Type 0} (A : Algebra S) (W : Downward S D) (G : List Rule) (ks :
           args = w.args;
           ls = n.0;
           ms = Place fell.left ∷ Place fell.right ∷ m.0;
-          s = beside w.s (one fell.hit);
+          s = beside w.s (one fell.hit f);
           done = w.done;
           noted = n.4;
           marked = (refl, (refl, m.2));
           telling = telling;
           finished = w.finished;
-          stretches = subst (λ (x : Fell D). w.done ++ told A W G w.args (beside w.s (one x.hit)) (Place x.left ∷ Place x.right ∷ m.0) n.0 ≡ cut A W (value_at G key.0) key.1 down) e (rw (m.1, n.1) at w.stretches);
+          stretches = subst (λ (x : Fell D). w.done ++ told A W G w.args (beside w.s (one x.hit f)) (Place x.left ∷ Place x.right ∷ m.0) n.0 ≡ cut A W (value_at G key.0) key.1 down) e (rw (m.1, n.1) at w.stretches);
           hands = subst (λ (x : Fell D). outcome.handed.items ++ param_downs A W G w.args (x.left ∷ x.right ∷ downs_of m.0) n.0 ≡ handed A W (value_at G key.0) key.1 down) e (rw (m.1, n.1) at w.hands);
           terms = (let t : AreTerms (arity (ranks_of G)) (2 + length (downs_of m.0)) n.0 = rw (m.1, n.1) at w.terms in let k : 2 + length (downs_of m.0) ≡ suc (suc (length (downs_of m.0))) = omega arith in rw k at t);
           meet = subst (λ (x : Fell D). CallsMeet A W G (Falls S D A W G) w.args (x.left ∷ x.right ∷ downs_of m.0) n.0) e (rw (m.1, n.1) at w.meet);

@@ -7,6 +7,9 @@ pub mod Closing
 pub mod Frames
 pub mod Once
 pub mod Listings
+pub mod Raising
+pub mod Symbols
+pub mod Found
 pub mod Handing
 pub mod Cutting
 pub mod Weaving

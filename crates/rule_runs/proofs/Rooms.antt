@@ -1,12 +1,11 @@
 -- What a run downward adds up stays within the value of the rule that it reads.
-use Rattle.std.proofs.Common.{◌≡◌, ℕ, suc, ◌+◌, ◌^◌, ◌<◌, ◌≤◌, List, [], ◌∷◌, ◌++◌, length, get_or, drop, map, sum_by, All, Bool, true, false, if◌then◌else◌, Vec, Global, refl, ap, ◌∙◌, arith, length-append}
+use Rattle.std.proofs.Common.{◌≡◌, ℕ, ◌+◌, ◌^◌, ◌<◌, ◌≤◌, List, [], ◌∷◌, ◌++◌, length, get_or, drop, map, sum_by, Bool, true, false, Vec, Global, refl, ap, ◌∙◌, arith, length-append}
 use Rattle.std.proofs.lemmas.List.{length-map}
-use Rattle.std.proofs.lemmas.List.Elements.{All-append, All-cons, All-nil, All-weaker}
 use Rattle.std.proofs.lemmas.List.Sums.{sum_by-append}
 use Rattle.rule_arena.specs.declared.label.Label.{Label}
 use Rattle.rule_arena.specs.declared.label.Label.TheVariants.{Bottom, Symbol, Call, Param}
 use Rattle.slt_grammar.specs.Algebras.{Algebra}
-use Rattle.slt_grammar.specs.Automata.{Downward, handed, hits, hits_from, nodes_in}
+use Rattle.slt_grammar.specs.Automata.{Downward, handed, nodes_in}
 use Rattle.slt_grammar.specs.Grammars.{value_at}
 use Rattle.slt_grammar.specs.Terms.{Term, Leaf, Node, Hole, up}
 use Rattle.slt_grammar.specs.declared.rules.Rule.{Rule}
@@ -21,6 +20,7 @@ use Rattle.rule_runs.specs.declared.told.Here.{Here}
 use Rattle.rule_runs.specs.declared.told.Told.{Told}
 use Rattle.rule_runs.specs.Cuts.{Stretch, nothing, one, beside, before, joined, cut}
 use Rattle.rule_runs.specs.Descents.{AreOpen, HasRoomAhead, Walks, HasOutcome, ahead}
+use Rattle.rule_runs.specs.Hits.{raised}
 use Rattle.rule_runs.specs.Risen.{pair_at}
 use Rattle.rule_runs.specs.Tellings.{HasRoom, Tells}
 use Rattle.rule_runs.specs.Walks.{Open, Place, Piece, absorbed, after, down_at, woven_marks, kids_of, told}
@@ -32,7 +32,7 @@ use Rattle.rule_runs.proofs.Tellings.{told-at}
 -- something that is counted of stretches, at most one for a node
 pub record Counts (f : Stretch → ℕ) : Type 0 where
   pub none : f nothing ≡ 0
-  pub single : (b : Bool) → f (one b) ≤ 1
+  pub single : (b : Bool) (g : ℕ) → f (one b g) ≤ 1
   pub both : (s t : Stretch) → f (beside s t) ≡ f s + f t
 
 abbrev pub nodes_of : Stretch → ℕ
@@ -42,17 +42,17 @@ abbrev pub hits_of : Stretch → ℕ
 hits_of s = length s.hits
 
 pub nodes-counted : Counts nodes_of
-nodes-counted = record { none = refl; single = λ b. omega arith; both = λ s t. refl }
+nodes-counted = record { none = refl; single = λ b g. omega arith; both = λ s t. refl }
 
-one-hit : (b : Bool) → length (one b).hits ≤ 1
-one-hit true = omega arith
-one-hit false = omega arith
+one-hit : (b : Bool) (g : ℕ) → length (one b g).hits ≤ 1
+one-hit true g = omega arith
+one-hit false g = omega arith
 
 pub hits-counted : Counts hits_of
 hits-counted = record {
   none = refl;
   single = one-hit;
-  both = λ s t. length-append s.hits (map (λ n. s.nodes + n) t.hits) ∙ ap (λ n. length s.hits + n) (length-map t.hits (λ n. s.nodes + n));
+  both = λ s t. length-append s.hits (map (raised s.nodes) t.hits) ∙ ap (λ n. length s.hits + n) (length-map t.hits (raised s.nodes));
 }
 
 module _ (f : Stretch → ℕ) (k : Counts f) where
@@ -82,7 +82,7 @@ module _ (f : Stretch → ℕ) (k : Counts f) where
         let s = W.step g d (up A a states) (up A b states) in
         let ca : List Stretch = cut A W a states s.left in
         let cb : List Stretch = cut A W b states s.right in
-        omega (arith, sum-before (one s.hit) (joined ca cb), sum-joined ca cb, k.single s.hit, cut-within a states s.left, cut-within b states s.right)
+        omega (arith, sum-before (one s.hit g) (joined ca cb), sum-joined ca cb, k.single s.hit g, cut-within a states s.left, cut-within b states s.right)
 
     -- a stretch is told with all that stands before the next term
     pub told-more : (G : List Rule) (args : List S) (s : Stretch) (ms : List (Open D)) (ls : List Label) → f (absorbed s ms) ≤ sum_by f (told A W G args s ms ls)
@@ -92,7 +92,7 @@ module _ (f : Stretch → ℕ) (k : Counts f) where
     told-more G args s ms (Symbol g ∷ ls) =
         let kids : List S = states_of A G args ls in
         let st = W.step g (down_at W.start ms) (get_or kids 0 A.bottom) (get_or kids 1 A.bottom) in
-        omega (arith, told-more G args (beside (absorbed s ms) (one st.hit)) (Place st.left ∷ Place st.right ∷ after ms) ls, k.both (absorbed s ms) (one st.hit))
+        omega (arith, told-more G args (beside (absorbed s ms) (one st.hit g)) (Place st.left ∷ Place st.right ∷ after ms) ls, k.both (absorbed s ms) (one st.hit g))
     told-more G args s ms (Call q ∷ ls) =
         let kids : List S = kids_of A W G q args ls in
         let d : D = down_at W.start ms in
@@ -169,25 +169,3 @@ module _ {S D : Type 0} (A : Algebra S) (W : Downward S D) (G : List Rule) (ks :
           nodes = omega (arith, so_far.nodes, tells.nodes, call-within nodes_of nodes-counted);
           hits = omega (arith, so_far.hits, tells.hits, call-within hits_of hits-counted);
         }
-
-module _ {S D : Type 0} (A : Algebra S) (W : Downward S D) where
-  -- the hits are numbers of nodes
-  pub hits-below : (number : ℕ) (t : Term) (states : List S) (d : D) → All (λ n. n < number + nodes_in t) (hits_from A W number t states d)
-  hits-below number Leaf states d = All-nil (λ n. n < number + 0)
-  hits-below number (Hole i) states d = All-nil (λ n. n < number + 0)
-  hits-below number (Node f a b) states d =
-      let s = W.step f d (up A a states) (up A b states) in
-      let P : ℕ → Type 0 = λ n. n < number + suc (nodes_in a + nodes_in b) in
-      let left = hits_from A W (suc number) a states s.left in
-      let right = hits_from A W (suc number + nodes_in a) b states s.right in
-      All-append P (if s.hit then number ∷ [] else []) (left ++ right) (own s.hit)
-      (All-append P left right
-      (All-weaker (λ n. n < suc number + nodes_in a) P (λ n h. omega arith) left (hits-below (suc number) a states s.left))
-      (All-weaker (λ n. n < (suc number + nodes_in a) + nodes_in b) P (λ n h. omega arith) right (hits-below (suc number + nodes_in a) b states s.right)))
-    where
-      own : (hit : Bool) → All (λ n. n < number + suc (nodes_in a + nodes_in b)) (if hit then number ∷ [] else [])
-      own true = All-cons (λ n. n < number + suc (nodes_in a + nodes_in b)) number [] (omega arith) (All-nil (λ n. n < number + suc (nodes_in a + nodes_in b)))
-      own false = All-nil (λ n. n < number + suc (nodes_in a + nodes_in b))
-
-  pub hits-small : (t : Term) → nodes_in t < 2 ^ 63 → All (λ n. n < 2 ^ 64) (hits A W t)
-  hits-small t small = All-weaker (λ n. n < 0 + nodes_in t) (λ n. n < 2 ^ 64) (λ n h. omega arith) (hits A W t) (hits-below 0 t [] W.start)

@@ -41,7 +41,7 @@ module _ {S D : Type 0} (A : Algebra S) (W : Downward S D) (G : List Rule) (lin 
   woven-none here (Place d ∷ ms) ts e = absurd (omega arith)
 
   symbol-step : (f : ℕ) (a : Stretch) (d : D) (ms : List (Open D)) (all : List Term) (kids : List S) → 2 ≤ length all → kids ≡ map (λ t. up A t states) all
-      → woven A W G states (beside a (one (W.step f d (get_or kids 0 A.bottom) (get_or kids 1 A.bottom)).hit)) (Place (W.step f d (get_or kids 0 A.bottom) (get_or kids 1 A.bottom)).left ∷ Place (W.step f d (get_or kids 0 A.bottom) (get_or kids 1 A.bottom)).right ∷ ms) all
+      → woven A W G states (beside a (one (W.step f d (get_or kids 0 A.bottom) (get_or kids 1 A.bottom)).hit f)) (Place (W.step f d (get_or kids 0 A.bottom) (get_or kids 1 A.bottom)).left ∷ Place (W.step f d (get_or kids 0 A.bottom) (get_or kids 1 A.bottom)).right ∷ ms) all
       ≡ before a (joined (cut A W (Node f (get_or (take 2 all) 0 Leaf) (get_or (take 2 all) 1 Leaf)) states d) (woven A W G states nothing ms (drop 2 all)))
   symbol-step f a d ms [] kids h e = absurd (omega arith)
   symbol-step f a d ms (x ∷ []) kids h e = absurd (omega arith)
@@ -50,7 +50,7 @@ module _ {S D : Type 0} (A : Algebra S) (W : Downward S D) (G : List Rule) (lin 
       let cx : List Stretch = cut A W x states s.left in
       let cy : List Stretch = cut A W y states s.right in
       let V : List Stretch = woven A W G states nothing ms all in
-      let o : Stretch = one s.hit in
+      let o : Stretch = one s.hit f in
       let ny : 0 < length (joined cy V) = length-joined cy V (cut-some A W y states s.right) in
       rw e (ap (λ z. before (beside a o) (joined cx z)) (before-nothing (joined cy V) ny)
       ∙ before-twice a o (joined cx (joined cy V)) (length-joined cx (joined cy V) (cut-some A W x states s.left))

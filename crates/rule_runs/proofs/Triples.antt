@@ -4,7 +4,7 @@ use Rattle.std.proofs.lemmas.List.Elements.{All-append, All-cons, All-get_or, Al
 use Rattle.std.proofs.lemmas.List.{map-append, get_or_push, length_push}
 use Rattle.std.proofs.lemmas.List.Sums.{get_or-le-sum_by, sum_by-append}
 use Rattle.slt_grammar.specs.Algebras.{Algebra}
-use Rattle.slt_grammar.specs.Automata.{Downward, hits, nodes_in}
+use Rattle.slt_grammar.specs.Automata.{Downward, nodes_in}
 use Rattle.slt_grammar.specs.Grammars.{IsGrammar, body_at, value, value_at, no_rule, whole}
 use Rattle.rule_runs.specs.Reached.{RuleStates, Falls, at_start, FallsOnce}
 use Rattle.slt_grammar.specs.Terms.{holes, holes_of}
@@ -26,6 +26,7 @@ use Rattle.rule_runs.specs.Risen.{IsPair, IsRun, pair_at, keys}
 use Rattle.rule_runs.specs.Tellings.{Lists, Tells, IsTelling, AreTold}
 use Rattle.rule_runs.specs.Walks.{Open, woven_marks}
 use Rattle.rule_runs.proofs.Cutting.{cut-whole}
+use Rattle.rule_runs.proofs.Found.{found}
 use Rattle.rule_runs.proofs.Sizes.{met-within}
 use Rattle.rule_runs.proofs.Lists.{empty_reverse, cost-lt, all-at, all-split, all-insert, all-one, all-unmap, distinct-one, distinct-insert, distinct-apart, one-place, sum-insert}
 use Rattle.rule_runs.proofs.Descents.{walk-call, outcome-more, waiting-more}
@@ -143,7 +144,7 @@ module _ {S D : Type 0} (A : Algebra S) (W : Downward S D) (G : List Rule) (know
 
   -- the outcome of the start is one stretch: the whole's nodes and hits
   pub outcome-whole : IsGrammar G → (lists : List (Vec Part Global)) (spot : Spot D) (outcome : Outcome D) → HasOutcome A W G (keys known) lists spot outcome → spot ≡ record { pair = length (keys known) - 1; down = W.start }
-      → AreTold lists outcome.told.items (record { nodes = nodes_in (value G); hits = hits A W (value G) } ∷ [])
+      → AreTold lists outcome.told.items (record { nodes = nodes_in (value G); hits = found A W (value G) } ∷ [])
   outcome-whole g lists spot outcome h e =
       let some = g.some in
       let k : pair_at (keys known) spot.pair ≡ (length G - 1, []) = ap (λ (x : Spot D). pair_at (keys known) x.pair) e ∙ start-last.0 in
@@ -154,10 +155,10 @@ module _ {S D : Type 0} (A : Algebra S) (W : Downward S D) (G : List Rule) (know
 
   -- what is told of the outermost body, on which no other waits, is told of the whole
   pub whole-told : IsGrammar G → (earlier lists : List (Vec Part Global)) (first spot : Spot D) (frames : List (Descent S D)) (outcome : Outcome D) (t : Told) → length frames ≡ 0 → AreWaiting A W G (keys known) earlier first (reverse frames)
-      → spot ≡ first → HasOutcome A W G (keys known) lists spot outcome → t ≡ get_or outcome.told.items 0 t → Tells lists t (record { nodes = nodes_in (value G); hits = hits A W (value G) })
+      → spot ≡ first → HasOutcome A W G (keys known) lists spot outcome → t ≡ get_or outcome.told.items 0 t → Tells lists t (record { nodes = nodes_in (value G); hits = found A W (value G) })
   whole-told g earlier lists first spot frames outcome t none waiting same h e =
       let w : AreWaiting A W G (keys known) earlier first [] = rw (empty_reverse frames none) at waiting in
-      let whole : Stretch = record { nodes = nodes_in (value G); hits = hits A W (value G) } in
+      let whole : Stretch = record { nodes = nodes_in (value G); hits = found A W (value G) } in
       let o = outcome-whole g lists spot outcome h (same ∙ w) in
       told-at lists outcome.told.items (whole ∷ []) 0 t o (omega (arith, length-told lists outcome.told.items (whole ∷ []) o)) e
 
@@ -169,12 +170,12 @@ told-answers lists t s h = by_list t.list h.list
     by_list None l = sym l
     by_list (Some i) l = l.1
 
-pub told-answered : (lists : List (Vec Part Global)) (t : Told) (s : Stretch) → Tells lists t s → AreEarlier lists → All (λ n. n < 2 ^ 64) s.hits → IsAnswered lists t
+pub told-answered : (lists : List (Vec Part Global)) (t : Told) (s : Stretch) → Tells lists t s → AreEarlier lists → All (λ h. h.number < 2 ^ 64) s.hits → IsAnswered lists t
 told-answered lists t s h a small = record {
   earlier = a;
   there = by_list t.list h.list;
   counted = h.hits ∙ ap length (sym (told-answers lists t s h));
-  small = subst (λ ns. All (λ n. n < 2 ^ 64) ns) (sym (told-answers lists t s h)) small;
+  small = subst (λ hs. All (λ h. h.number < 2 ^ 64) hs) (sym (told-answers lists t s h)) small;
 }
   where
     by_list : (list : Option ℕ) → Lists lists list s.hits → IsThere lists list

@@ -2,6 +2,7 @@ pub mod Reached
 pub mod Entries
 pub mod Risen
 pub mod Frames
+pub mod Hits
 pub mod Listing
 pub mod Cuts
 pub mod Walks

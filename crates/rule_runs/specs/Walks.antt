@@ -63,7 +63,7 @@ module _ {S D : Type 0} (A : Algebra S) (W : Downward S D) (G : List Rule) where
   told args here ms (Symbol f ∷ ls) =
       let kids = states_of A G args ls in
       let s = W.step f (down_at W.start ms) (get_or kids 0 A.bottom) (get_or kids 1 A.bottom) in
-      told args (beside (absorbed here ms) (one s.hit)) (Place s.left ∷ Place s.right ∷ after ms) ls
+      told args (beside (absorbed here ms) (one s.hit f)) (Place s.left ∷ Place s.right ∷ after ms) ls
   told args here ms (Call q ∷ ls) =
       let kids = kids_of q args ls in
       let d = down_at W.start ms in

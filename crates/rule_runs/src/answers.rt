@@ -1,12 +1,13 @@
 // The answers of a run downward, one after another.
-ghost use Rattle.std.specs.Prelude.{◌≡◌, ◌++◌, [], None, IfOk, OnErr, option_to_list};
+ghost use Rattle.std.specs.Prelude.{◌≡◌, ◌++◌, [], None, IfOk, OnErr, drop, option_to_list};
+ghost use Rattle.rule_runs.specs.Hits.{numbers};
 
 use crate::falling::FallTable;
-use crate::listing::{Level, Part, next_number};
+use crate::listing::{Hit, Level, Part, next_hit};
 use std::alloc::{AllocError, Global};
 use std::marker::Model;
 
-/// The numbers of the nodes that are hit, rising, one after another. It is seen as those that are still to come.
+/// The nodes that are hit, by rising numbers, one after another. It is seen as those that are still to come.
 #[derive(Drop)]
 pub struct Answers<'a> {
     lists: &'a [Vec<Part>],
@@ -14,10 +15,11 @@ pub struct Answers<'a> {
 }
 
 impl<'a> Model for Answers<'a> {
-    ghost use Rattle.std.specs.Prelude.{ℕ, List, reverse};
+    ghost use Rattle.std.specs.Prelude.{List, reverse};
+    ghost use Rattle.rule_runs.specs.declared.listing.Hit.{Hit};
     ghost use Rattle.rule_runs.specs.Listing.{coming, IsComing};
 
-    ghost Value = { List ℕ };
+    ghost Value = { List Hit };
 
     ghost view = { λ a. coming a.lists.now (reverse a.levels.items) };
 
@@ -43,12 +45,26 @@ impl<'a> Answers<'a> {
         })
     }
 
-    /// The next number, and none behind the last one. It fails where memory is refused, and then the same numbers are still to come.
+    /// The next hit, and none behind the last one. It fails where memory is refused, and then the same hits are still to come.
+    pub fn next_hit(&mut self) -> Result<Option<Hit>, AllocError>
+        ensures next { IfOk result (λ hit. self.old ≡ option_to_list hit ++ self.new) }
+        ensures end { IfOk result (λ hit. hit ≡ None → self.old ≡ []) }
+        ensures refused { OnErr result (self.new ≡ self.old) }
+    {
+        next_hit(self.lists, &mut self.levels)
+    }
+
+    /// The number of the next hit, and none behind the last one. It fails where memory is refused, and then the same hits are still
+    /// to come.
     pub fn next(&mut self) -> Result<Option<u64>, AllocError>
-        ensures next { IfOk result (λ number. self.old ≡ option_to_list number ++ self.new) }
+        ensures next { IfOk result (λ number. numbers self.old ≡ option_to_list number ++ numbers self.new) }
+        ensures rest { IfOk result (λ number. self.new ≡ drop 1 self.old) }
         ensures end { IfOk result (λ number. number ≡ None → self.old ≡ []) }
         ensures refused { OnErr result (self.new ≡ self.old) }
     {
-        next_number(self.lists, &mut self.levels)
+        match self.next_hit()? {
+            Some(hit) => Ok(Some(hit.number)),
+            None => Ok(None),
+        }
     }
 }

@@ -117,7 +117,7 @@ pub(crate) fn descend<A: Falling>(
             }
             Note::Symbol(symbol, kids, rest) => {
                 let fell = automaton.step(symbol, &down, &kids, &rest)?;
-                enter_symbol(&mut descent.marks, &mut descent.here, fell)?;
+                enter_symbol(&mut descent.marks, &mut descent.here, symbol, fell)?;
             }
             Note::Call(pair) => {
                 let spot = Spot { pair, down };
@@ -169,14 +169,15 @@ fn end_stretch<D: Drop>(
 fn enter_symbol<D: Drop>(
     marks: &mut Vec<Mark<D>>,
     here: &mut Here,
+    symbol: usize,
     fell: Fell<D>,
 ) -> Result<(), AllocError>
     requires nodes { here.old.nodes + 1 < 2 ^ 64 }
     requires hits { here.old.hits + 1 < 2 ^ 64 }
-    ensures telling { OnOk result ((lists : List (Vec Part TheGlobal)) (s : Stretch) → IsTelling lists here.old s → IsTelling lists here.new (beside s (one fell.hit))) }
+    ensures telling { OnOk result ((lists : List (Vec Part TheGlobal)) (s : Stretch) → IsTelling lists here.old s → IsTelling lists here.new (beside s (one fell.hit symbol))) }
     ensures marks { OnOk result (reverse marks.new.items ≡ Mark.Term fell.left ∷ Mark.Term fell.right ∷ reverse marks.old.items) }
 {
-    here.add(fell.hit)?;
+    here.add(fell.hit, symbol)?;
     marks.push(Mark::Term(fell.right))?;
     marks.push(Mark::Term(fell.left))?;
     Ok(())

@@ -1,8 +1,9 @@
 // Runs downward: each rule is read once for each list of argument states and each down state that it is met with.
-ghost use Rattle.std.specs.Prelude.{◌≡◌, ◌-◌, ◌^◌, ◌<◌, ◌≤◌, List, length, IfOk};
+ghost use Rattle.std.specs.Prelude.{◌≡◌, ◌-◌, ◌^◌, ◌<◌, ◌≤◌, List, length, slice_get, Some, All, IfOk};
 ghost use Rattle.slt_grammar.specs.Automata.{hits, nodes_in};
 ghost use Rattle.slt_grammar.specs.Grammars.{value};
 ghost use Rattle.slt_grammar.specs.Keyed.{rules_of};
+ghost use Rattle.rule_runs.specs.Hits.{numbers, symbols_in};
 ghost use Rattle.rule_runs.specs.Reached.{RuleStates, FallsOnce};
 ghost use Rattle.rule_runs.specs.Risen.{IsRun};
 
@@ -17,8 +18,7 @@ use std::alloc::{AllocError, Global};
 use std::marker::Model;
 use std::sync::ledger::Ledger;
 
-/// What a run downward has found. It is seen as the numbers of the nodes that are hit, rising; a number counts the nodes before, in
-/// preorder and without bottoms.
+/// What a run downward has found. It is seen as the nodes that are hit, by rising numbers.
 #[derive(Drop)]
 pub struct FallTable {
     pub(crate) lists: Vec<Vec<Part>>,
@@ -26,10 +26,11 @@ pub struct FallTable {
 }
 
 impl Model for FallTable {
-    ghost use Rattle.std.specs.Prelude.{ℕ, List};
+    ghost use Rattle.std.specs.Prelude.{List};
+    ghost use Rattle.rule_runs.specs.declared.listing.Hit.{Hit};
     ghost use Rattle.rule_runs.specs.Answering.{all_of, IsAnswered};
 
-    ghost Value = { List ℕ };
+    ghost Value = { List Hit };
 
     ghost view = { λ t. all_of t.lists.items t.whole.list };
 
@@ -45,7 +46,8 @@ impl FallTable {
     }
 }
 
-/// Runs the automaton downward, over what its run upward found in this grammar: which nodes are hit of all that the grammar stands for.
+/// Runs the automaton downward, over what its run upward found in this grammar: which nodes are hit of all that the grammar stands for,
+/// and which symbols they have.
 ///
 /// What the grammar stands for has at most 2^63 - 1 nodes that aren't bottom. Each triple of a rule, states of its arguments and a
 /// down state that the run meets is read once, with at most two steps a node, whatever is answered. It fails where memory is refused.
@@ -58,7 +60,8 @@ pub fn fall<A: Falling, L: Ledger>(
 ) -> Result<FallTable, AllocError>
     requires run { IsRun (A.algebra automaton.now) (rules_of grammar.now.rules) risen.now.known }
     requires small { nodes_in (value (rules_of grammar.now.rules)) < 2 ^ 63 }
-    ensures hits { IfOk result (λ table. table ≡ hits (A.algebra automaton.now) (A.downward automaton.now) (value (rules_of grammar.now.rules))) }
+    ensures hits { IfOk result (λ table. numbers table ≡ hits (A.algebra automaton.now) (A.downward automaton.now) (value (rules_of grammar.now.rules))) }
+    ensures symbols { IfOk result (λ table. All (λ hit. slice_get (symbols_in (value (rules_of grammar.now.rules))) hit.number ≡ Some hit.symbol) table) }
     ensures steps { (triples : List (RuleStates A.State × A.Down)) × FallsOnce (A.algebra automaton.now) (A.downward automaton.now) (rules_of grammar.now.rules) triples (steps.new - steps.old) }
     ensures counted { steps.old ≤ steps.new }
 {

@@ -1,14 +1,16 @@
-use Rattle.std.proofs.Common.{◌≡◌, ◌-◌, ◌∙◌, ◌++◌, ◌∷◌, [], sym, ap, subst, arith, reverse, length, All}
+use Rattle.std.proofs.Common.{◌≡◌, ◌-◌, ◌∙◌, ◌++◌, ◌∷◌, [], sym, ap, subst, arith, reverse, length, All, Some, slice_get}
 use Rattle.std.proofs.lemmas.List.Elements.{All-append, All-nil}
 use Rattle.slt_grammar.specs.Grammars.{value}
 use Rattle.slt_grammar.specs.Keyed.{rules_of}
+use Rattle.rule_runs.specs.Hits.{numbers, symbols_in}
 use Rattle.rule_runs.specs.Reached.{FallsOnce}
 use Rattle.rule_runs.specs.Descents.{HasOutcome, Asks, AreWaiting, triple_at}
 use Rattle.rule_runs.specs.Risen.{keys, pair_at}
 use Rattle.rule_runs.proofs.Lists.{reverse-push, all-one}
 use Rattle.rule_runs.proofs.Descents.{outcome-lengths, waiting-more}
 use Rattle.rule_runs.proofs.Triples.{known_triples, open_triples, start-last, start-falls, falls-none, falls-start, falls-more, pair-of, waiting-begin, triples-return, stands-again, frame-small, outer-small, fall-cost-begin, whole-told, told-answers, told-answered, outcomes-more, spot-apart}
-use Rattle.rule_runs.proofs.Rooms.{hits-small, walk-room-call}
+use Rattle.rule_runs.proofs.Found.{found-hits, found-right, found-small}
+use Rattle.rule_runs.proofs.Rooms.{walk-room-call}
 use Rattle.rule_runs.proofs.falling.fall.Goals as goal
 
 pub returns-in_err-start-clause-steps : goal.returns-in_err-start-clause-steps
@@ -129,7 +131,7 @@ invariant_of-result g c =
     let h = rw c.in-None.is at c.in_ok-spot.ensures.done in
     let t = whole-told A W G c.args.risen.now.known c.requires.run c.rules-rules.ensures.grammar c.bodies.lists.items c.descend.new.lists.items c.bodies.frame.spot c.descend.new.descent.spot c.bodies.frames.items c.descend.new.descent.outcome c.index.result.now
     (omega (arith, c.in-None-pop.ensures.cases.0, c.bodies.frames.ok.0)) c.bodies.invariant.waiting c.in_ok-spot.ensures.same h c.index.ensures in
-    told-answered c.descend.new.lists.items c.index.result.now _ t c.in_ok-spot.ensures.earlier (hits-small A W (value G) c.requires.small)
+    told-answered c.descend.new.lists.items c.index.result.now _ t c.in_ok-spot.ensures.earlier (found-small A W (value G) c.requires.small)
 
 pub returns-in-None-pop-clause-hits : goal.returns-in-None-pop-clause-hits
 returns-in-None-pop-clause-hits g c =
@@ -139,7 +141,17 @@ returns-in-None-pop-clause-hits g c =
     let h = rw c.in-None.is at c.in_ok-spot.ensures.done in
     let t = whole-told A W G c.args.risen.now.known c.requires.run c.rules-rules.ensures.grammar c.bodies.lists.items c.descend.new.lists.items c.bodies.frame.spot c.descend.new.descent.spot c.bodies.frames.items c.descend.new.descent.outcome c.index.result.now
     (omega (arith, c.in-None-pop.ensures.cases.0, c.bodies.frames.ok.0)) c.bodies.invariant.waiting c.in_ok-spot.ensures.same h c.index.ensures in
-    told-answers c.descend.new.lists.items c.index.result.now _ t
+    ap numbers (told-answers c.descend.new.lists.items c.index.result.now _ t) ∙ found-hits A W (value G)
+
+pub returns-in-None-pop-clause-symbols : goal.returns-in-None-pop-clause-symbols
+returns-in-None-pop-clause-symbols g c =
+    let A = g.A.Rising.algebra c.args.automaton.now in
+    let W = g.A.Falling.downward c.args.automaton.now in
+    let G = rules_of c.args.grammar.now.rules in
+    let h = rw c.in-None.is at c.in_ok-spot.ensures.done in
+    let t = whole-told A W G c.args.risen.now.known c.requires.run c.rules-rules.ensures.grammar c.bodies.lists.items c.descend.new.lists.items c.bodies.frame.spot c.descend.new.descent.spot c.bodies.frames.items c.descend.new.descent.outcome c.index.result.now
+    (omega (arith, c.in-None-pop.ensures.cases.0, c.bodies.frames.ok.0)) c.bodies.invariant.waiting c.in_ok-spot.ensures.same h c.index.ensures in
+    subst (λ hs. All (λ h. slice_get (symbols_in (value G)) h.number ≡ Some h.symbol) hs) (sym (told-answers c.descend.new.lists.items c.index.result.now _ t)) (found-right A W (value G))
 
 pub descend-requires-clause-small : goal.descend-requires-clause-small
 descend-requires-clause-small g c =

@@ -1,5 +1,5 @@
-//! Tests of queries, and of the runs over shared rules that are to answer them. The `automaton` that runs is no test itself, since
-//! definitions speak of its states.
+//! Tests of queries, of runs over shared rules, and of the selectors that run to answer queries. The `automaton` that runs is no test
+//! itself, since definitions speak of its states.
 #![tactic(auto)]
 
 pub mod automaton;
@@ -7,3 +7,5 @@ pub mod automaton;
 mod queries;
 #[cfg(test)]
 mod runs;
+#[cfg(test)]
+mod selecting;

@@ -7,11 +7,11 @@ mod plain;
 mod rows;
 
 use crate::automaton::{A, B, C, Marks};
-use plain::{hits_of, holds_b, value_of};
+use plain::{hits_of, holds_b, numbers_of, value_of};
 use plain_tree::Names;
 use read_steps::Steps;
 use rows::{Row, random_rows, rules_of};
-use rule_runs::{Answers, FallTable, fall, rise};
+use rule_runs::{Answers, FallTable, Hit, fall, rise};
 use segment_counts::Counts;
 use slt_grammar::Label::{Bottom, Call, Param, Symbol};
 use slt_grammar::{Grammar, check};
@@ -22,12 +22,13 @@ use std::test::Fail;
 
 const SEEDS: u64 = 300;
 
-// What runs find: whether some node is b, how many nodes are hit, and their numbers.
+// What runs find: whether some node is b, how many nodes are hit, which, and their numbers alone.
 #[derive(Drop)]
 struct Found {
     has_b: bool,
     count: u64,
-    hits: Vec<u64>,
+    hits: Vec<Hit>,
+    numbers: Vec<u64>,
 }
 
 fn find<L: Ledger>(alloc: Global, grammar: &Grammar, blank: Blank) -> Result<Found, Fail>
@@ -45,24 +46,44 @@ fn find<L: Ledger>(alloc: Global, grammar: &Grammar, blank: Blank) -> Result<Fou
         has_b: risen.top().has_b,
         count: fallen.count(),
         hits: list(alloc, &fallen)?,
+        numbers: list_numbers(alloc, &fallen)?,
     })
 }
 
 // All answers, which stay at their end.
-fn list(alloc: Global, fallen: &FallTable) -> Result<Vec<u64>, AllocError> {
+fn list(alloc: Global, fallen: &FallTable) -> Result<Vec<Hit>, AllocError> {
     let mut hits = Vec::new(alloc);
     let mut answers = Answers::new(alloc, fallen)?;
     for _hit in 0..fallen.count() {
-        if let Some(number) = answers.next()? {
-            hits.push(number)?;
+        if let Some(hit) = answers.next_hit()? {
+            hits.push(hit)?;
         }
     }
     for _end in 0..2 {
-        if let Some(number) = answers.next()? {
-            hits.push(number)?;
+        if let Some(hit) = answers.next_hit()? {
+            hits.push(hit)?;
         }
     }
     Ok(hits)
+}
+
+// The numbers of all answers, of which each second one is asked for its number alone.
+pub(crate) fn list_numbers(alloc: Global, fallen: &FallTable) -> Result<Vec<u64>, AllocError> {
+    let mut numbers = Vec::new(alloc);
+    let mut answers = Answers::new(alloc, fallen)?;
+    for _pair in 0..fallen.count() {
+        if let Some(number) = answers.next()? {
+            numbers.push(number)?;
+        }
+        if let Some(hit) = answers.next_hit()? {
+            numbers.push(hit.number)?;
+        }
+    }
+    Ok(numbers)
+}
+
+fn hit(number: u64, symbol: usize) -> Hit {
+    Hit { number, symbol }
 }
 
 #[test]
@@ -86,7 +107,11 @@ fn a_shared_rule_is_hit_at_each_call(rt: HostRuntime) -> Result<(), Fail> {
     let grammar = check(alloc, rules_of(alloc, rows.as_slice())?)?;
     let found = find::<Brand>(alloc, &grammar, Blank::new(1))?;
     assert!(rt; found.has_b && found.count == 3);
-    assert_eq!(rt; found.hits.as_slice(), [1, 3, 6].as_slice());
+    assert_eq!(rt;
+        found.hits.as_slice(),
+        [hit(1, A), hit(3, A), hit(6, C)].as_slice()
+    );
+    assert_eq!(rt; found.numbers.as_slice(), [1, 3, 6].as_slice());
     Ok(())
 }
 
@@ -105,6 +130,8 @@ fn runs_find_what_the_terms_hold(rt: HostRuntime) -> Result<(), Fail> {
         assert_eq!(rt; found.has_b, holds_b(term.as_slice()), "seed {seed}");
         assert_eq!(rt; found.count, hits.len() as u64, "seed {seed}");
         assert_eq!(rt; found.hits.as_slice(), hits.as_slice(), "seed {seed}");
+        let numbers = numbers_of(alloc, hits.as_slice())?;
+        assert_eq!(rt; found.numbers.as_slice(), numbers.as_slice(), "seed {seed}");
         compared = compared.saturating_add(hits.len() as u64);
     }
     assert!(rt; compared > 1000, "{compared} hits");

@@ -3,6 +3,7 @@ ghost use Rattle.std.specs.Prelude.{◌≤◌, length};
 
 use super::rows::Row;
 use crate::automaton::{A, B, C};
+use rule_runs::Hit;
 use slt_grammar::Label::{self, Bottom, Call, Param, Symbol};
 use std::alloc::{AllocError, Global};
 
@@ -75,21 +76,28 @@ pub(super) fn holds_b(labels: &[Label]) -> bool {
     false
 }
 
-// The numbers of the nodes that are hit.
-pub(super) fn hits_of(alloc: Global, labels: &[Label]) -> Result<Vec<u64>, AllocError> {
+// The nodes that are hit.
+pub(super) fn hits_of(alloc: Global, labels: &[Label]) -> Result<Vec<Hit>, AllocError> {
     let mut hits = Vec::new(alloc);
     let mut number = 0u64;
     for place in 0..labels.len() {
-        let label = labels[place];
-        let holds = label == Symbol(A) && holds_b(kids_at(labels, place));
-        if holds || label == Symbol(C) && is_below_a(labels, place) {
-            hits.push(number)?;
-        }
-        if label != Bottom {
+        if let Symbol(symbol) = labels[place] {
+            let holds = symbol == A && holds_b(kids_at(labels, place));
+            if holds || symbol == C && is_below_a(labels, place) {
+                hits.push(Hit { number, symbol })?;
+            }
             number = number.saturating_add(1);
         }
     }
     Ok(hits)
+}
+
+pub(super) fn numbers_of(alloc: Global, hits: &[Hit]) -> Result<Vec<u64>, AllocError> {
+    let mut numbers = Vec::new(alloc);
+    for hit in hits {
+        numbers.push(hit.number)?;
+    }
+    Ok(numbers)
 }
 
 // Whether some `a` has a place among its kids.

@@ -1,0 +1,14 @@
+pub mod Turning
+pub mod Program
+pub mod Wanting
+pub mod States
+pub mod Words
+pub mod Depths
+pub mod Bounds
+pub mod Judging
+pub mod Laws
+pub mod Sizes
+pub mod Ways
+pub mod Readings
+pub mod Arrivals
+pub mod Places

@@ -1,5 +1,5 @@
 -- The parts of a file are told by its bytes.
-use Rattle.std.proofs.Common.{◌≡◌, ℕ, zero, suc, ◌+◌, ◌/◌, ◌%◌, ◌<◌, ◌≤◌, List, [], ◌∷◌, ◌++◌, length, get_or, refl, sym, ap, ◌∙◌, subst, arith, append_assoc, append-nil}
+use Rattle.std.proofs.Common.{◌≡◌, ℕ, zero, suc, ◌+◌, ◌/◌, ◌%◌, ◌<◌, ◌≤◌, List, [], ◌∷◌, ◌++◌, length, refl, sym, ap, ◌∙◌, subst, arith, append_assoc, append-nil}
 use Rattle.std.specs.Prelude.{Bool, true, false, nat_lt}
 use Rattle.std.specs.List.{flat_map}
 use Rattle.std.proofs.lemmas.Bool.Decides.{nat_tests}
@@ -9,12 +9,13 @@ use Rattle.rule_arena.specs.declared.label.Label.TheVariants.{Bottom, Symbol, Ca
 use Rattle.plain_tree.specs.declared.kind.Kind.{Kind}
 use Rattle.plain_tree.specs.Tree.{kind_code, kind_code-inj}
 use Rattle.slt_grammar.specs.Algebras.{ranks_of}
-use Rattle.slt_grammar.specs.Bodies.{arity, CallsBelow}
-use Rattle.slt_grammar.specs.Grammars.{IsGrammar, no_rule}
+use Rattle.slt_grammar.specs.Bodies.{arity}
 use Rattle.slt_grammar.specs.declared.rules.Rule.{Rule}
 use Rattle.grammar_file.specs.Numbers.{number_bytes}
 use Rattle.grammar_file.specs.FileBytes.{list_bytes, text_bytes, name_bytes, label_bytes, rule_bytes}
+use Rattle.grammar_file.specs.Forming.{IsRule, AreFormed}
 use Rattle.grammar_file.specs.Laws.{EqualFilesHaveEqualParts}
+use Rattle.grammar_file.proofs.Formed.{grammar-formed}
 use Rattle.grammar_file.proofs.NumberLemmas.{number-one, number-next}
 
 -- ---- what is read at the front of bytes is known by them, and so is the rest
@@ -47,7 +48,7 @@ number-told (suc most) a b xs ys false false s o less e =
     let same = told.0 in
     (omega (arith, same), told.1)
 
-number-unique : (a b : ℕ) (xs ys : List ℕ) → number_bytes a ++ xs ≡ number_bytes b ++ ys → (a ≡ b) × (xs ≡ ys)
+pub number-unique : (a b : ℕ) (xs ys : List ℕ) → number_bytes a ++ xs ≡ number_bytes b ++ ys → (a ≡ b) × (xs ≡ ys)
 number-unique a b xs ys e = number-told (suc a) a b xs ys (nat_lt a 128) (nat_lt b 128) refl refl (omega arith) e
 
 append-unique : (ps qs xs ys : List ℕ) → length ps ≡ length qs → ps ++ xs ≡ qs ++ ys → (ps ≡ qs) × (xs ≡ ys)
@@ -61,13 +62,13 @@ append-unique (p ∷ ps) (q ∷ qs) xs ys n e =
     let same : ps ≡ qs = told.0 in
     (cc, told.1)
 
-text-unique : (t u xs ys : List ℕ) → text_bytes t ++ xs ≡ text_bytes u ++ ys → (t ≡ u) × (xs ≡ ys)
+pub text-unique : (t u xs ys : List ℕ) → text_bytes t ++ xs ≡ text_bytes u ++ ys → (t ≡ u) × (xs ≡ ys)
 text-unique t u xs ys e =
     let f : number_bytes (length t) ++ (t ++ xs) ≡ number_bytes (length u) ++ (u ++ ys) = sym (append_assoc (number_bytes (length t)) t xs) ∙ e ∙ append_assoc (number_bytes (length u)) u ys in
     let told = number-unique (length t) (length u) (t ++ xs) (u ++ ys) f in
     append-unique t u xs ys told.0 told.1
 
-name-unique : (p q : Kind × List ℕ) (xs ys : List ℕ) → name_bytes p ++ xs ≡ name_bytes q ++ ys → (p ≡ q) × (xs ≡ ys)
+pub name-unique : (p q : Kind × List ℕ) (xs ys : List ℕ) → name_bytes p ++ xs ≡ name_bytes q ++ ys → (p ≡ q) × (xs ≡ ys)
 name-unique (kind, name) (other, word) xs ys e =
     let code : kind_code kind ≡ kind_code other = cc in
     let rest : text_bytes name ++ xs ≡ text_bytes word ++ ys = cc in
@@ -76,7 +77,7 @@ name-unique (kind, name) (other, word) xs ys e =
     let names : name ≡ word = told.0 in
     (cc, told.1)
 
-label-unique : (l m : Label) (xs ys : List ℕ) → label_bytes l ++ xs ≡ label_bytes m ++ ys → (l ≡ m) × (xs ≡ ys)
+pub label-unique : (l m : Label) (xs ys : List ℕ) → label_bytes l ++ xs ≡ label_bytes m ++ ys → (l ≡ m) × (xs ≡ ys)
 label-unique Bottom Bottom xs ys e = (refl, cc)
 label-unique Param Param xs ys e = (refl, cc)
 label-unique (Symbol f) (Symbol g) xs ys e =
@@ -119,56 +120,26 @@ counted f ps qs xs ys e =
     number-unique (length ps) (length qs) (flat_map f ps ++ xs) (flat_map f qs ++ ys)
     (sym (append_assoc (number_bytes (length ps)) (flat_map f ps) xs) ∙ e ∙ append_assoc (number_bytes (length qs)) (flat_map f qs) ys)
 
-list-unique : {A : Type 0} (f : A → List ℕ) → ((x y : A) (xs ys : List ℕ) → f x ++ xs ≡ f y ++ ys → (x ≡ y) × (xs ≡ ys))
+pub list-unique : {A : Type 0} (f : A → List ℕ) → ((x y : A) (xs ys : List ℕ) → f x ++ xs ≡ f y ++ ys → (x ≡ y) × (xs ≡ ys))
     → (ps qs : List A) (xs ys : List ℕ) → list_bytes f ps ++ xs ≡ list_bytes f qs ++ ys → (ps ≡ qs) × (xs ≡ ys)
 list-unique f told ps qs xs ys e = let c = counted f ps qs xs ys e in each-unique f told ps qs xs ys c.0 c.1
 
 -- ---- bodies, whose ends are known by the ranks of the rules before
-abbrev SameBelow : ℕ → List ℕ → List ℕ → Type 0
-SameBelow r ranks others = (q : ℕ) → q < r → get_or ranks q 0 ≡ get_or others q 0
-
-arity-same : (r : ℕ) (ranks others : List ℕ) (l : Label) (ls : List Label) → SameBelow r ranks others → CallsBelow r (l ∷ ls) → arity ranks l ≡ arity others l
-arity-same r ranks others Bottom ls same below = refl
-arity-same r ranks others Param ls same below = refl
-arity-same r ranks others (Symbol f) ls same below = refl
-arity-same r ranks others (Call q) ls same below = same q below.0
-
-below-rest : (r : ℕ) (l : Label) (ls : List Label) → CallsBelow r (l ∷ ls) → CallsBelow r ls
-below-rest r Bottom ls below = below
-below-rest r Param ls below = below
-below-rest r (Symbol f) ls below = below
-below-rest r (Call q) ls below = below.1
-
-body-unique : (r : ℕ) (ranks others : List ℕ) → SameBelow r ranks others → (n : ℕ) (ls ms : List Label) (xs ys : List ℕ) → CallsBelow r ls
-    → AreTerms (arity ranks) n ls → AreTerms (arity others) n ms → flat_map label_bytes ls ++ xs ≡ flat_map label_bytes ms ++ ys → (ls ≡ ms) × (xs ≡ ys)
-body-unique r ranks others same zero [] [] xs ys below t u e = (refl, e)
-body-unique r ranks others same zero [] (m ∷ ms) xs ys below t u e = absurd u
-body-unique r ranks others same zero (l ∷ ls) ms xs ys below t u e = absurd t
-body-unique r ranks others same (suc n) [] ms xs ys below t u e = absurd t
-body-unique r ranks others same (suc n) (l ∷ ls) [] xs ys below t u e = absurd u
-body-unique r ranks others same (suc n) (l ∷ ls) (m ∷ ms) xs ys below t u e =
+body-unique : (ranks : List ℕ) (n : ℕ) (ls ms : List Label) (xs ys : List ℕ) → AreTerms (arity ranks) n ls → AreTerms (arity ranks) n ms
+    → flat_map label_bytes ls ++ xs ≡ flat_map label_bytes ms ++ ys → (ls ≡ ms) × (xs ≡ ys)
+body-unique ranks zero [] [] xs ys t u e = (refl, e)
+body-unique ranks zero [] (m ∷ ms) xs ys t u e = absurd u
+body-unique ranks zero (l ∷ ls) ms xs ys t u e = absurd t
+body-unique ranks (suc n) [] ms xs ys t u e = absurd t
+body-unique ranks (suc n) (l ∷ ls) [] xs ys t u e = absurd u
+body-unique ranks (suc n) (l ∷ ls) (m ∷ ms) xs ys t u e =
     let s = sym (append_assoc (label_bytes l) (flat_map label_bytes ls) xs) ∙ e ∙ append_assoc (label_bytes m) (flat_map label_bytes ms) ys in
     let one = label-unique l m (flat_map label_bytes ls ++ xs) (flat_map label_bytes ms ++ ys) s in
     let head : l ≡ m = one.0 in
-    let a : arity others m ≡ arity ranks l = ap (arity others) (sym head) ∙ sym (arity-same r ranks others l ls same below) in
-    let v = subst (λ k. AreTerms (arity others) (k + n) ms) a u in
-    let told = body-unique r ranks others same (arity ranks l + n) ls ms xs ys (below-rest r l ls below) t v one.1 in
+    let v = subst (λ k. AreTerms (arity ranks) (k + n) ms) (ap (arity ranks) (sym head)) u in
+    let told = body-unique ranks (arity ranks l + n) ls ms xs ys t v one.1 in
     let tail : ls ≡ ms = told.0 in
     (cc, told.1)
-
--- ---- rules behind rules that are the same
-rule-here : (P : List Rule) (R : Rule) (Rs : List Rule) → get_or (P ++ R ∷ Rs) (length P) no_rule ≡ R
-rule-here [] R Rs = refl
-rule-here (Q ∷ P) R Rs = rule-here P R Rs
-
-ranks-before : (P Rs Ss : List Rule) → SameBelow (length P) (ranks_of (P ++ Rs)) (ranks_of (P ++ Ss))
-ranks-before [] Rs Ss q h = absurd (omega arith)
-ranks-before (Q ∷ P) Rs Ss zero h = refl
-ranks-before (Q ∷ P) Rs Ss (suc q) h = ranks-before P Rs Ss q (omega arith)
-
-rule-there : (P : List Rule) (R : Rule) (Rs : List Rule) → length P < length (P ++ R ∷ Rs)
-rule-there [] R Rs = omega arith
-rule-there (Q ∷ P) R Rs = omega (arith, rule-there P R Rs)
 
 rule-same : (R S : Rule) → R.rank ≡ S.rank → R.body ≡ S.body → R ≡ S
 rule-same R S rank body =
@@ -176,40 +147,35 @@ rule-same R S rank body =
     let Q : List Label → Type 0 = λ b. R ≡ record { rank = S.rank; body = b } in
     subst Q body (subst P rank refl)
 
-rules-unique : (Rs Ss P : List Rule) (xs ys : List ℕ) → IsGrammar (P ++ Rs) → IsGrammar (P ++ Ss) → length Rs ≡ length Ss
-    → flat_map rule_bytes Rs ++ xs ≡ flat_map rule_bytes Ss ++ ys → (Rs ≡ Ss) × (xs ≡ ys)
-rules-unique [] [] P xs ys G H n e = (refl, e)
-rules-unique [] (S ∷ Ss) P xs ys G H n e = absurd (omega arith)
-rules-unique (R ∷ Rs) [] P xs ys G H n e = absurd (omega arith)
-rules-unique (R ∷ Rs) (S ∷ Ss) P xs ys G H n e =
-    let r = length P in
-    let g = G.each r (rule-there P R Rs) in
-    let h = H.each r (rule-there P S Ss) in
-    let here = ap (λ (T : Rule). T.body) (rule-here P R Rs) in
-    let there = ap (λ (T : Rule). T.body) (rule-here P S Ss) in
-    let below : CallsBelow r R.body = subst (CallsBelow r) here g.earlier in
-    let t : AreTerms (arity (ranks_of (P ++ R ∷ Rs))) 1 R.body = subst (AreTerms (arity (ranks_of (P ++ R ∷ Rs))) 1) here g.shaped.term in
-    let u : AreTerms (arity (ranks_of (P ++ S ∷ Ss))) 1 S.body = subst (AreTerms (arity (ranks_of (P ++ S ∷ Ss))) 1) there h.shaped.term in
-    let s : R.rank ∷ (flat_map label_bytes R.body ++ (flat_map rule_bytes Rs ++ xs)) ≡ S.rank ∷ (flat_map label_bytes S.body ++ (flat_map rule_bytes Ss ++ ys)) =
-    ap (λ z. R.rank ∷ z) (sym (append_assoc (flat_map label_bytes R.body) (flat_map rule_bytes Rs) xs)) ∙ e
-    ∙ ap (λ z. S.rank ∷ z) (append_assoc (flat_map label_bytes S.body) (flat_map rule_bytes Ss) ys) in
+pub rule-unique : (before : List Rule) (R S : Rule) (xs ys : List ℕ) → IsRule before R → IsRule before S → rule_bytes R ++ xs ≡ rule_bytes S ++ ys → (R ≡ S) × (xs ≡ ys)
+rule-unique before R S xs ys g h e =
     let rank : R.rank ≡ S.rank = cc in
-    let rest : flat_map label_bytes R.body ++ (flat_map rule_bytes Rs ++ xs) ≡ flat_map label_bytes S.body ++ (flat_map rule_bytes Ss ++ ys) = cc in
-    let told = body-unique r (ranks_of (P ++ R ∷ Rs)) (ranks_of (P ++ S ∷ Ss)) (ranks-before P (R ∷ Rs) (S ∷ Ss)) 1 R.body S.body _ _ below t u rest in
-    let body : R.body ≡ S.body = told.0 in
-    let one : R ≡ S = rule-same R S rank body in
-    let G2 = subst IsGrammar (sym (append_assoc P (R ∷ []) Rs)) G in
-    let H2 = subst IsGrammar (ap (λ (T : Rule). P ++ T ∷ Ss) (sym one) ∙ sym (append_assoc P (R ∷ []) Ss)) H in
-    let others = rules-unique Rs Ss (P ++ R ∷ []) xs ys G2 H2 (omega arith) told.1 in
-    let tail : Rs ≡ Ss = others.0 in
-    (cc, others.1)
+    let rest : flat_map label_bytes R.body ++ xs ≡ flat_map label_bytes S.body ++ ys = cc in
+    let told = body-unique (ranks_of before) 1 R.body S.body xs ys g.body.term h.body.term rest in
+    (rule-same R S rank told.0, told.1)
+
+rules-unique : (before Rs Ss : List Rule) (xs ys : List ℕ) → AreFormed before Rs → AreFormed before Ss → length Rs ≡ length Ss
+    → flat_map rule_bytes Rs ++ xs ≡ flat_map rule_bytes Ss ++ ys → (Rs ≡ Ss) × (xs ≡ ys)
+rules-unique before [] [] xs ys g h n e = (refl, e)
+rules-unique before [] (S ∷ Ss) xs ys g h n e = absurd (omega arith)
+rules-unique before (R ∷ Rs) [] xs ys g h n e = absurd (omega arith)
+rules-unique before (R ∷ Rs) (S ∷ Ss) xs ys g h n e =
+    let s = sym (append_assoc (rule_bytes R) (flat_map rule_bytes Rs) xs) ∙ e ∙ append_assoc (rule_bytes S) (flat_map rule_bytes Ss) ys in
+    let one = rule-unique before R S (flat_map rule_bytes Rs ++ xs) (flat_map rule_bytes Ss ++ ys) g.0 h.0 s in
+    let head : R ≡ S = one.0 in
+    let later = subst (λ T. AreFormed (before ++ T ∷ []) Ss) (sym head) h.1 in
+    let told = rules-unique (before ++ R ∷ []) Rs Ss xs ys g.1 later (omega arith) one.1 in
+    let tail : Rs ≡ Ss = told.0 in
+    (cc, told.1)
+
+pub formed-unique : (G H : List Rule) (xs ys : List ℕ) → AreFormed [] G → AreFormed [] H → list_bytes rule_bytes G ++ xs ≡ list_bytes rule_bytes H ++ ys → (G ≡ H) × (xs ≡ ys)
+formed-unique G H xs ys g h e = let c = counted rule_bytes G H xs ys e in rules-unique [] G H xs ys g h c.0 c.1
 
 -- ---- the whole file
 pub equal-files : EqualFilesHaveEqualParts
 equal-files names others G H texts values g h e =
     let rest : list_bytes name_bytes names ++ (list_bytes rule_bytes G ++ list_bytes text_bytes texts) ≡ list_bytes name_bytes others ++ (list_bytes rule_bytes H ++ list_bytes text_bytes values) = cc in
     let first = list-unique name_bytes name-unique names others _ _ rest in
-    let rules = counted rule_bytes G H _ _ first.1 in
-    let second = rules-unique G H [] _ _ g h rules.0 rules.1 in
+    let second = formed-unique G H _ _ (grammar-formed G g) (grammar-formed H h) first.1 in
     let third = list-unique text_bytes text-unique texts values [] [] (append-nil (list_bytes text_bytes texts) ∙ second.1 ∙ sym (append-nil (list_bytes text_bytes values))) in
     (first.0, second.0, third.0)

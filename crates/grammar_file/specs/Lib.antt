@@ -2,4 +2,13 @@ pub mod Numbers
 pub mod FileBytes
 pub mod Buffers
 pub mod BufferOf
+pub mod Files
+pub mod Forming
+pub mod Reading
 pub mod Laws
+pub mod Chains
+pub mod TextSymbols
+pub mod SameChains
+pub mod TextLists
+pub mod Listings
+pub mod TextWalks

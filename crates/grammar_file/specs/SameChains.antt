@@ -1,0 +1,22 @@
+-- Equal chains are identical.
+use Rattle.std.specs.Prelude.{◌≡◌, nat_eq, true, false, refl}
+use Rattle.std.proofs.Common.{sym, ap}
+use Rattle.std.specs.Cmp.Lexicographic.{pointwise, same_text}
+use Rattle.grammar_file.specs.declared.chains.Chain.{Chain}
+use Rattle.grammar_file.specs.declared.chains.Chain.TheVariants.{Broken, Empty, Whole, Aside, Rooted, Content, Tagged}
+use Rattle.grammar_file.specs.contracts.chains.ChainPartialEq.TheImpl.{eq-value}
+
+different : false ≡ true → ⊥
+different e = cc
+
+pub same_chain : (a b : Chain) → eq-value.it a b ≡ true → a ≡ b
+same_chain Broken Broken e = refl
+same_chain Empty Empty e = refl
+same_chain Whole Whole e = refl
+same_chain Aside Aside e = refl
+same_chain Rooted Rooted e = refl
+same_chain Content Content e = refl
+same_chain (Tagged fs) (Tagged gs) e =
+    let same : pointwise nat_eq fs gs ≡ true = e in
+    ap Tagged (same_text fs gs (sym same))
+same_chain a b e = absurd (different e)

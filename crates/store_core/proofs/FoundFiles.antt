@@ -1,11 +1,12 @@
 -- What an opened file says of the files.
 use Rattle.std.specs.Prelude.{◌≡◌, ◌≤◌, ◌<◌, ◌^◌, ℕ, List, [], length, replicate, Bool, true, false, Option, Some, None, IfSome, is_some, unwrap_or, refl}
-use Rattle.std.proofs.Common.{ap, subst, arith}
+use Rattle.std.proofs.Common.{ap, sym, ◌∙◌, subst, arith}
 use Rattle.std.proofs.lemmas.List.{length-replicate}
 use Rattle.std.specs.FinMap.{get}
 use Rattle.tree_outside.specs.Files.{Told}
 use Rattle.tree_outside.specs.Shelf.{Becomes, file_opened}
-use Rattle.store_core.specs.Acts.{Load}
+use Rattle.store_core.specs.Acts.{Act, Load, LoadGrammar, needs_document}
+use Rattle.store_core.specs.Opening.{Finds, LoadsFile}
 use Rattle.store_core.specs.Worlds.{State, World, HasFile, HasNoFile, world}
 use Rattle.store_core.specs.Refusals.{IsReady, IsInput, Cause}
 use Rattle.store_core.specs.Feeding.{HasLeft, ReadsDocument}
@@ -16,10 +17,6 @@ use Rattle.plain_tree.specs.Lawful.{IsDocument}
 use Rattle.xml_nodes.proofs.Bytes.{spells-document}
 use Rattle.store_core.specs.declared.answer.Refusal.{Refusal}
 use Rattle.store_core.specs.declared.answer.Refusal.TheVariants as no
-
--- there is a file with this name exactly where an opening said so
-abbrev pub Finds : Option Told → List ℕ → Bool → Type 0
-Finds told name found = IfSome told (λ t. found ≡ is_some (get t.files name))
 
 is_none : (o : Option (List ℕ)) → false ≡ is_some o → o ≡ None
 is_none None e = refl
@@ -40,15 +37,22 @@ some_file None name state count finds = ([], tt)
 some_file (Some t) name state count finds = (unwrap_or (get t.files name) [], is_value (get t.files name) (unwrap_or (get t.files name) []) finds refl)
 
 -- with the file that it reads, a loading is ready
-pub ready_to_load : (old : World) (name bytes : List ℕ) → HasFile old name bytes → IsReady (Load name) old
-ready_to_load old name bytes has = record {
-  document = λ needs. cc;
-  file = λ other same. let e : name ≡ other = cc in subst (λ n. (bytes : List ℕ) × HasFile old n bytes) e (bytes, has);
+pub ready_to_load : (act : Act) (old : World) (name bytes : List ℕ) → LoadsFile act name → HasFile old name bytes → IsReady act old
+ready_to_load act old name bytes reads has = record {
+  document = λ needs. let f : needs_document act ≡ false = reads.free in absurd (cc);
+  file = λ other same. let e : Some name ≡ Some other = sym reads.reads ∙ same in let n : name ≡ other = cc in subst (λ n. (bytes : List ℕ) × HasFile old n bytes) n (bytes, has);
 }
 
+-- both loadings read their files
+pub load_reads : (name : List ℕ) → LoadsFile (Load name) name
+load_reads name = record { free = refl; reads = refl }
+
+pub load_grammar_reads : (name : List ℕ) → LoadsFile (LoadGrammar name) name
+load_grammar_reads name = record { free = refl; reads = refl }
+
 -- a loading whose file was found is ready
-pub found_to_load : (told : Option Told) (name : List ℕ) (state : State) (count : ℕ) → Finds told name true → IsReady (Load name) (world state told count)
-found_to_load told name state count finds = let some = some_file told name state count finds in ready_to_load (world state told count) name some.0 some.1
+pub found_to_load : (act : Act) (told : Option Told) (name : List ℕ) (state : State) (count : ℕ) → LoadsFile act name → Finds told name true → IsReady act (world state told count)
+found_to_load act told name state count reads finds = let some = some_file told name state count finds in ready_to_load act (world state told count) name some.0 reads some.1
 
 -- a list that is long enough
 some_long : (n : ℕ) → (xs : List ℕ) × (n ≤ length xs)
@@ -56,15 +60,15 @@ some_long n = let zero : ℕ = 0 in (replicate n zero, omega (arith, length-repl
 
 -- a file that gave so many bytes is a long one
 long_file :
-    (old opening : Option Told) (name : List ℕ) (state : State) (count : ℕ) → Finds old name true → Becomes old opening (file_opened name)
-    → IfSome opening (λ t. 2 ^ 30 ≤ length t.left) → (bytes : List ℕ) × IsInput (Load name) (world state old count) bytes × (2 ^ 30 ≤ length bytes)
-long_file None opening name state count finds opens left =
+    (act : Act) (old opening : Option Told) (name : List ℕ) (state : State) (count : ℕ) → LoadsFile act name → Finds old name true → Becomes old opening (file_opened name)
+    → IfSome opening (λ t. 2 ^ 30 ≤ length t.left) → (bytes : List ℕ) × IsInput act (world state old count) bytes × (2 ^ 30 ≤ length bytes)
+long_file act None opening name state count reads finds opens left =
     let some = some_long (2 ^ 30) in
-    (some.0, record { name = name; reads = refl; file = tt }, some.1)
-long_file (Some t) opening name state count finds opens left =
+    (some.0, record { name = name; reads = reads.reads; file = tt }, some.1)
+long_file act (Some t) opening name state count reads finds opens left =
     let P : Option Told → Type 0 = λ o. IfSome o (λ t. 2 ^ 30 ≤ length t.left) in
     let bytes = unwrap_or (get t.files name) [] in
-    (bytes, record { name = name; reads = refl; file = is_value (get t.files name) bytes finds refl }, subst P opens left)
+    (bytes, record { name = name; reads = reads.reads; file = is_value (get t.files name) bytes finds refl }, subst P opens left)
 
 -- what was left of the file that was opened are its bytes
 pub found_file : (old opening : Option Told) (name : List ℕ) (state : State) (count : ℕ) (bytes : List ℕ) → Finds old name true → Becomes old opening (file_opened name)
@@ -92,14 +96,18 @@ read_lawful told document reads =
 
 -- what stops the reading of a file that was found is a cause to refuse the loading
 pub stops_loading :
-    (refusal : Refusal) (old opening : Option Told) (name : List ℕ) (state : State) (count before now : ℕ) (new : World) → Finds old name true → Becomes old opening (file_opened name)
-    → count ≤ before → now ≤ new.count → StopsReading refusal opening before now → Cause refusal (Load name) (world state old count) new
-stops_loading no.NoDocument old opening name state count before now new finds opens b n stops = absurd stops
-stops_loading no.ReadFault old opening name state count before now new finds opens b n stops = (refl, omega (arith, stops))
-stops_loading no.NoFile old opening name state count before now new finds opens b n stops = absurd stops
-stops_loading no.WriteFault old opening name state count before now new finds opens b n stops = absurd stops
-stops_loading no.LongFile old opening name state count before now new finds opens b n stops = long_file old opening name state count finds opens stops
-stops_loading (no.BadXml at) old opening name state count before now new finds opens b n (bytes, left, bad) =
-    (bytes, record { name = name; reads = refl; file = found_file old opening name state count bytes finds opens left }, left.short, bad)
-stops_loading no.NoNode old opening name state count before now new finds opens b n stops = absurd stops
-stops_loading no.Memory old opening name state count before now new finds opens b n stops = found_to_load old name state count finds
+    (refusal : Refusal) (act : Act) (old opening : Option Told) (name : List ℕ) (state : State) (count before now : ℕ) (new : World) → LoadsFile act name → Finds old name true
+    → Becomes old opening (file_opened name) → count ≤ before → now ≤ new.count → StopsReading refusal opening before now → Cause refusal act (world state old count) new
+stops_loading no.NoDocument act old opening name state count before now new reads finds opens b n stops = absurd stops
+stops_loading no.ReadFault act old opening name state count before now new reads finds opens b n stops = (rw reads.reads refl, omega (arith, stops))
+stops_loading no.NoFile act old opening name state count before now new reads finds opens b n stops = absurd stops
+stops_loading no.WriteFault act old opening name state count before now new reads finds opens b n stops = absurd stops
+stops_loading no.LongFile act old opening name state count before now new reads finds opens b n stops = long_file act old opening name state count reads finds opens stops
+stops_loading (no.BadXml at) act old opening name state count before now new reads finds opens b n (bytes, left, bad) =
+    (bytes, record { name = name; reads = reads.reads; file = found_file old opening name state count bytes finds opens left }, left.short, bad)
+stops_loading no.BadGrammar act old opening name state count before now new reads finds opens b n stops = absurd stops
+stops_loading no.BadQuery act old opening name state count before now new reads finds opens b n stops = absurd stops
+stops_loading no.LargeQuery act old opening name state count before now new reads finds opens b n stops = absurd stops
+stops_loading no.NoNode act old opening name state count before now new reads finds opens b n stops = absurd stops
+stops_loading no.TooMany act old opening name state count before now new reads finds opens b n stops = absurd stops
+stops_loading no.Memory act old opening name state count before now new reads finds opens b n stops = found_to_load act old name state count reads finds

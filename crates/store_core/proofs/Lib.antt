@@ -2,6 +2,7 @@ pub mod ReadSteps
 pub mod Feeds
 pub mod Folds
 pub mod FoundFiles
+pub mod GrammarFiles
 pub mod Sinks
 pub mod LeafTexts
 pub mod Rooms
@@ -12,3 +13,9 @@ pub mod NodeCalls
 pub mod Encoded
 pub mod Shown
 pub mod Printing
+pub mod Distinct
+pub mod StatesWithin
+pub mod StateCounts
+pub mod HitLines
+pub mod Gathering
+pub mod Asked

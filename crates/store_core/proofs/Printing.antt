@@ -1,10 +1,10 @@
 -- What commands print, as steps of the machine.
-use Rattle.std.proofs.Common.{◌≡◌, ◌≤◌, ℕ, List, ◌++◌, Some, Result, Ok, Err, inl, inr, ap, refl}
+use Rattle.std.proofs.Common.{◌≡◌, ◌≤◌, ℕ, List, ◌++◌, Some, Result, Ok, Err, inl, inr, refl}
 use Rattle.plain_tree.specs.Tree.{Tree}
 use Rattle.tree_outside.proofs.Beside.{Stays-refl}
 use Rattle.store_core.specs.Acts.{Act}
 use Rattle.store_core.specs.Machine.{Comes, Shows, ShowsNode, Step}
-use Rattle.store_core.specs.Texts.{answer_line, line_of, refusal_line}
+use Rattle.store_core.specs.Texts.{answer_line, line_of}
 use Rattle.store_core.specs.Worlds.{AreLawfulParts, IsLawfulState, Parts, PartsStandFor, World}
 use Rattle.store_core.specs.declared.answer.Answer.{Answer}
 use Rattle.store_core.specs.declared.answer.Answer.TheVariants as ok
@@ -18,7 +18,7 @@ comes_step act old new text (Err refusal) before after later comes = record {
   before = before;
   after = after;
   later = later;
-  done = inr (record { refusal = refusal; cause = comes.1; same = comes.2; printed = ap (λ xs. xs ++ refusal_line refusal) comes.0 });
+  done = inr (record { refusal = refusal; cause = comes.1; same = comes.2; text = text; begins = comes.0; printed = refl });
 }
 
 -- bytes that show the node, and the line behind them, are what is printed of it

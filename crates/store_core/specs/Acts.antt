@@ -4,38 +4,59 @@ use Rattle.std.specs.Prelude.{ℕ, Bool, true, false, List, Option, Some, None}
 pub data Act : Type 0 where
   -- the document becomes that of the file with this name
   Load : (name : List ℕ) → Act
+  -- the document becomes that of the grammar file with this name
+  LoadGrammar : (name : List ℕ) → Act
   -- the document is written to the file with this name
   Save : (name : List ℕ) → Act
   -- the names, the grammar and the texts are written to the file with this name
   SaveGrammar : (name : List ℕ) → Act
   -- the node with this number is printed
   Show : (number : ℕ) → Act
+  -- the nodes that the query selects are printed, and counted
+  Query : (query : List ℕ) → Act
+  -- they are counted
+  Count : (query : List ℕ) → Act
   -- the grammar is settled
   Repair : Act
 
 abbrev pub needs_document : Act → Bool
 needs_document (Load name) = false
+needs_document (LoadGrammar name) = false
 needs_document (Save name) = true
 needs_document (SaveGrammar name) = true
 needs_document (Show number) = true
+needs_document (Query query) = true
+needs_document (Count query) = true
 needs_document Repair = true
 
 -- the name of the file that the command reads
 abbrev pub file_read : Act → Option (List ℕ)
 file_read (Load name) = Some name
+file_read (LoadGrammar name) = Some name
 file_read (Save name) = None
 file_read (SaveGrammar name) = None
 file_read (Show number) = None
+file_read (Query query) = None
+file_read (Count query) = None
 file_read Repair = None
 
 abbrev pub writes_file : Act → Bool
 writes_file (Load name) = false
+writes_file (LoadGrammar name) = false
 writes_file (Save name) = true
 writes_file (SaveGrammar name) = true
 writes_file (Show number) = false
+writes_file (Query query) = false
+writes_file (Count query) = false
 writes_file Repair = false
 
 -- the number of the node that the command asks for
 abbrev pub node_asked : Act → Option ℕ
 node_asked (Show number) = Some number
 node_asked act = None
+
+-- the query whose nodes the command asks for
+abbrev pub query_asked : Act → Option (List ℕ)
+query_asked (Query query) = Some query
+query_asked (Count query) = Some query
+query_asked act = None

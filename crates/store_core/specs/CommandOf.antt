@@ -1,11 +1,14 @@
 -- The act that a command of the program asks for.
-use Rattle.store_core.specs.Acts.{Act, Load, Save, SaveGrammar, Show, Repair}
+use Rattle.store_core.specs.Acts.{Act, Load, LoadGrammar, Save, SaveGrammar, Show, Query, Count, Repair}
 use Rattle.store_core.specs.declared.command.Command.{Command}
 use Rattle.store_core.specs.declared.command.Command.TheVariants as c
 
 abbrev pub act_of : Command → Act
 act_of (c.Load name) = Load name.now
+act_of (c.LoadGrammar name) = LoadGrammar name.now
 act_of (c.Save name) = Save name.now
 act_of (c.SaveGrammar name) = SaveGrammar name.now
 act_of (c.Show number) = Show number
+act_of (c.Query text) = Query text.now
+act_of (c.Count text) = Count text.now
 act_of c.Repair = Repair

@@ -2,10 +2,16 @@ pub mod Acts
 pub mod CommandOf
 pub mod Feeding
 pub mod Folding
+pub mod GrammarFiles
+pub mod GrammarStores
 pub mod Machine
 pub mod Making
+pub mod Opening
+pub mod Printed
+pub mod Reads
 pub mod Refusals
 pub mod Saving
+pub mod Selecting
 pub mod Stopping
 pub mod StoreOf
 pub mod Texts

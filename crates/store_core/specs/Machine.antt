@@ -1,6 +1,7 @@
 -- One step of the plain tree machine: what a command prints and what it leaves.
 use Rattle.std.specs.Prelude.{◌≡◌, ◌≤◌, ◌<◌, ◌⊎◌, ◌^◌, ℕ, zero, suc, List, [], ◌∷◌, ◌++◌, length, Option, Some, IfSome, Result, MatchResult, slice_get}
 use Rattle.std.specs.FinMap.{insert}
+use Rattle.std.specs.List.{flat_map}
 use Rattle.tree_outside.specs.Outside.{Gets, GetsFront, Stays}
 use Rattle.plain_tree.specs.Numbers.{nodes}
 use Rattle.plain_tree.specs.Tree.{Tree, node_count}
@@ -11,13 +12,16 @@ use Rattle.slt_grammar.specs.Digrams.{IsSettled}
 use Rattle.slt_grammar.specs.Grammars.{size}
 use Rattle.fcns_encoding.specs.Interning.{Interns, pairs_of_tree}
 use Rattle.grammar_file.specs.FileBytes.{file_bytes}
-use Rattle.store_core.specs.Acts.{Act, Load, Save, SaveGrammar, Show, Repair}
+use Rattle.store_core.specs.Acts.{Act, Load, LoadGrammar, Save, SaveGrammar, Show, Query, Count, Repair}
+use Rattle.store_core.specs.GrammarFiles.{IsFileOfDocument}
+use Rattle.store_core.specs.Selecting.{Selects}
 use Rattle.store_core.specs.Worlds.{Parts, with_rules, PartsStandFor, IsLawfulState, World, Same, HasFile}
-use Rattle.store_core.specs.Texts.{answer_line, refusal_line}
+use Rattle.store_core.specs.Texts.{answer_line, refusal_line, selected_line}
 use Rattle.store_core.specs.Refusals.{Cause}
 use Rattle.store_core.specs.declared.answer.Answer.{Answer}
 use Rattle.store_core.specs.declared.answer.Answer.TheVariants as ok
 use Rattle.store_core.specs.declared.answer.Refusal.{Refusal}
+use Rattle.store_core.specs.declared.answer.Refusal.TheVariants as no
 
 -- what a loading makes of a document: names in the order of their first nodes, and a settled grammar
 pub record Encodes (tree : Tree) (parts : Parts) : Type 0 where
@@ -38,6 +42,18 @@ pub record Loads (name : List ℕ) (old : World) (out : List ℕ) (new : World) 
   pub parts : Parts
   pub held : HoldsDocument name old tree
   pub encoded : Encodes tree parts
+  pub state : new.state ≡ Some parts
+  pub files : Stays old.files new.files
+  pub printed : out ≡ answer_line (ok.Nodes (node_count tree))
+
+-- the document becomes that of the grammar file: its parts are those of which the file's bytes are
+pub record LoadsGrammar (name : List ℕ) (old : World) (out : List ℕ) (new : World) : Type 0 where
+  pub bytes : List ℕ
+  pub parts : Parts
+  pub tree : Tree
+  pub held : HasFile old name bytes
+  pub short : length bytes < 2 ^ 30
+  pub file : IsFileOfDocument bytes parts tree
   pub state : new.state ≡ Some parts
   pub files : Stays old.files new.files
   pub printed : out ≡ answer_line (ok.Nodes (node_count tree))
@@ -79,6 +95,22 @@ pub record Shows (number : ℕ) (old : World) (out : List ℕ) (new : World) : T
   pub same : Same old new
   pub printed : out ≡ bytes ++ answer_line ok.Shown
 
+-- the nodes that the query selects are printed in document order, and nothing changes
+pub record Queries (query : List ℕ) (old : World) (out : List ℕ) (new : World) : Type 0 where
+  pub tree : Tree
+  pub answer : List ℕ
+  pub selects : Selects query old tree answer
+  pub same : Same old new
+  pub printed : out ≡ flat_map (selected_line tree) answer ++ answer_line (ok.Selected (length answer))
+
+-- they are counted, and nothing changes
+pub record Counts (query : List ℕ) (old : World) (out : List ℕ) (new : World) : Type 0 where
+  pub tree : Tree
+  pub answer : List ℕ
+  pub selects : Selects query old tree answer
+  pub same : Same old new
+  pub printed : out ≡ answer_line (ok.Selected (length answer))
+
 -- the rules become settled ones that stand for the same document and have no more nodes, and nothing else changes
 pub record Repairs (old : World) (out : List ℕ) (new : World) : Type 0 where
   pub parts : Parts
@@ -96,14 +128,30 @@ pub record Repairs (old : World) (out : List ℕ) (new : World) : Type 0 where
 -- the command is done
 abbrev pub Does : Act → World → List ℕ → World → Type 0
 Does (Load name) old out new = Loads name old out new
+Does (LoadGrammar name) old out new = LoadsGrammar name old out new
 Does (Save name) old out new = Saves name old out new
 Does (SaveGrammar name) old out new = SavesGrammar name old out new
 Does (Show number) old out new = Shows number old out new
+Does (Query query) old out new = Queries query old out new
+Does (Count query) old out new = Counts query old out new
 Does Repair old out new = Repairs old out new
 
--- what a command comes to that printed this text: it is done, or it is refused for this cause, printed none and changes nothing
+-- the text is the lines of some first nodes that the query selects
+pub record PrintsFirst (query : List ℕ) (old : World) (text : List ℕ) : Type 0 where
+  pub tree : Tree
+  pub first : List ℕ
+  pub later : List ℕ
+  pub selects : Selects query old tree (first ++ later)
+  pub printed : text ≡ flat_map (selected_line tree) first
+
+-- what a refused command printed before its line: nothing, or where a query found no memory some of its first lines
+abbrev pub Begins : Act → Refusal → World → List ℕ → Type 0
+Begins (Query query) refusal old text = (text ≡ []) ⊎ ((refusal ≡ no.Memory) × PrintsFirst query old text)
+Begins act refusal old text = text ≡ []
+
+-- what a command comes to that printed this text: it is done, or it is refused for this cause and changes nothing
 abbrev pub Comes : Act → World → List ℕ → Result Answer Refusal → World → Type 0
-Comes act old text outcome new = MatchResult outcome (λ answer. Does act old (text ++ answer_line answer) new) (λ refusal. (text ≡ []) × Cause refusal act old new × Same old new)
+Comes act old text outcome new = MatchResult outcome (λ answer. Does act old (text ++ answer_line answer) new) (λ refusal. Begins act refusal old text × Cause refusal act old new × Same old new)
 
 -- it printed the text before its line, or the sink failed and got a front of what it prints
 abbrev pub Prints : {E : Type 0} → Act → World → Option (List ℕ) → Option (List ℕ) → Result (Result Answer Refusal) E → World → Type 0
@@ -116,7 +164,9 @@ pub record Refuses (act : Act) (old : World) (out : List ℕ) (new : World) : Ty
   pub refusal : Refusal
   pub cause : Cause refusal act old new
   pub same : Same old new
-  pub printed : out ≡ refusal_line refusal
+  pub text : List ℕ
+  pub begins : Begins act refusal old text
+  pub printed : out ≡ text ++ refusal_line refusal
 
 -- One command: the states before and after it are lawful, the count of the shelf's faults doesn't fall, and the command is done
 -- or refused.

@@ -2,7 +2,9 @@
 use Rattle.std.specs.Prelude.{◌≡◌, ◌≤◌, ◌<◌, ◌^◌, ℕ, List, length, IsTrue, Some, IsSome, IsNone}
 use Rattle.tree_outside.specs.Outside.{Rose}
 use Rattle.xml_profile.specs.Reading.{IsBad}
-use Rattle.store_core.specs.Acts.{Act, needs_document, file_read, node_asked, writes_file}
+use Rattle.store_core.specs.GrammarFiles.{IsNoFile, IsFileOfMany}
+use Rattle.store_core.specs.Acts.{Act, needs_document, file_read, node_asked, query_asked, writes_file}
+use Rattle.store_core.specs.Selecting.{SpellsNoQuery, SpellsLarge}
 use Rattle.store_core.specs.Worlds.{World, HasFile, HasNoFile, LacksNode}
 use Rattle.store_core.specs.declared.answer.Refusal.{Refusal}
 use Rattle.store_core.specs.declared.answer.Refusal.TheVariants as no
@@ -25,5 +27,9 @@ Cause no.NoFile act old new = (name : List ℕ) × (file_read act ≡ Some name)
 Cause no.WriteFault act old new = IsTrue (writes_file act) × IsReady act old × Rose old.count new.count
 Cause no.LongFile act old new = (bytes : List ℕ) × IsInput act old bytes × (2 ^ 30 ≤ length bytes)
 Cause (no.BadXml at) act old new = (bytes : List ℕ) × IsInput act old bytes × (length bytes < 2 ^ 30) × IsBad bytes at
+Cause no.BadGrammar act old new = (bytes : List ℕ) × IsInput act old bytes × (length bytes < 2 ^ 30) × IsNoFile bytes
+Cause no.BadQuery act old new = (query : List ℕ) × (query_asked act ≡ Some query) × IsReady act old × SpellsNoQuery query
+Cause no.LargeQuery act old new = (query : List ℕ) × (query_asked act ≡ Some query) × IsReady act old × SpellsLarge query
 Cause no.NoNode act old new = (number : ℕ) × (node_asked act ≡ Some number) × LacksNode old number
+Cause no.TooMany act old new = (bytes : List ℕ) × IsInput act old bytes × (length bytes < 2 ^ 30) × IsFileOfMany bytes
 Cause no.Memory act old new = IsReady act old

@@ -5,6 +5,10 @@ use Rattle.tree_outside.specs.Outside.{Rose}
 use Rattle.xml_profile.specs.declared.error.XmlError.{XmlError}
 use Rattle.xml_profile.specs.declared.error.XmlError.TheVariants as xml
 use Rattle.xml_profile.specs.Reading.{IsBad}
+use Rattle.grammar_file.specs.declared.error.FileError.{FileError}
+use Rattle.grammar_file.specs.declared.error.FileError.TheVariants as file
+use Rattle.xpath_parser.specs.declared.error.QueryError.{QueryError}
+use Rattle.xpath_parser.specs.declared.error.QueryError.TheVariants as query
 use Rattle.store_core.specs.Feeding.{HasLeft}
 use Rattle.store_core.specs.declared.answer.Refusal.{Refusal}
 use Rattle.store_core.specs.declared.answer.Refusal.TheVariants as no
@@ -17,6 +21,16 @@ StopsReading (no.BadXml at) told before now = (bytes : List ℕ) × HasLeft told
 StopsReading no.Memory told before now = Unit {0}
 StopsReading _ told before now = ⊥
 
+abbrev pub refusal_of_file : FileError → Refusal
+refusal_of_file file.Bad = no.BadGrammar
+refusal_of_file file.TooMany = no.TooMany
+refusal_of_file file.Memory = no.Memory
+
 abbrev pub refusal_of : XmlError → Refusal
 refusal_of (xml.Bad at) = no.BadXml at
 refusal_of xml.Memory = no.Memory
+
+abbrev pub query_refusal : QueryError → Refusal
+query_refusal query.Bad = no.BadQuery
+query_refusal query.Large = no.LargeQuery
+query_refusal query.Memory = no.Memory

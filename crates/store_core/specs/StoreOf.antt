@@ -1,5 +1,6 @@
 -- What a store of the program holds.
 use Rattle.slt_grammar.specs.Keyed.{rules_of}
+use Rattle.digram_index.specs.Linked.{IsIndexOf}
 use Rattle.segment_counts.specs.Counting.{AreCounts}
 use Rattle.store_core.specs.Worlds.{Parts}
 use Rattle.store_core.specs.declared.store.Store.{Store}
@@ -7,6 +8,7 @@ use Rattle.store_core.specs.declared.store.Store.{Store}
 abbrev pub parts_of : Store → Parts
 parts_of s = record { names = s.names; rules = rules_of s.grammar.rules; texts = s.texts.texts }
 
--- its counts are those of its rules and names
+-- its counts are those of its rules and names, and its index is its grammar's
 pub record IsCounted (s : Store) : Type 0 where
   pub counts : AreCounts s.names (rules_of s.grammar.rules) s.counts
+  pub index : IsIndexOf s.grammar s.index

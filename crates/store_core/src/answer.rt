@@ -6,10 +6,12 @@ ghost use Rattle.tree_outside.specs.Shelf.{Keeps};
 ghost use Rattle.store_core.specs.Texts.{line_of, answer_line, refusal_line};
 
 use arrayvec::ArrayVec;
+use grammar_file::FileError;
 use itoa::{Buffer, Integer};
 use std::alloc::AllocError;
 use tree_outside::{Failed, Sink};
 use xml_profile::XmlError;
+use xpath_parser::QueryError;
 
 /// What a command says that was done.
 #[derive(Clone, Copy, Debug, PartialEq, Eq)]
@@ -29,6 +31,8 @@ pub enum Answer {
         rules: usize,
         size: u64,
     },
+    /// The query selects so many nodes.
+    Selected(u64),
     /// The node was printed before the line.
     Shown,
 }
@@ -43,7 +47,12 @@ pub enum Refusal {
     LongFile,
     /// The place, from 0 on, where the file's bytes go wrong.
     BadXml { at: u64 },
+    BadGrammar,
+    BadQuery,
+    LargeQuery,
     NoNode,
+    /// The document would have more than 2^63 - 1 nodes.
+    TooMany,
     Memory,
 }
 
@@ -72,6 +81,36 @@ impl From<XmlError> for Refusal {
     }
 }
 
+impl From<FileError> for Refusal {
+    ghost use Rattle.std.specs.Prelude.{◌≡◌};
+    ghost use Rattle.store_core.specs.Stopping.{refusal_of_file};
+
+    ghost from_gives = { λ error refusal. refusal ≡ refusal_of_file error };
+
+    fn from(error: FileError) -> Refusal {
+        match error {
+            FileError::Bad => Refusal::BadGrammar,
+            FileError::TooMany => Refusal::TooMany,
+            FileError::Memory => Refusal::Memory,
+        }
+    }
+}
+
+impl From<QueryError> for Refusal {
+    ghost use Rattle.std.specs.Prelude.{◌≡◌};
+    ghost use Rattle.store_core.specs.Stopping.{query_refusal};
+
+    ghost from_gives = { λ error refusal. refusal ≡ query_refusal error };
+
+    fn from(error: QueryError) -> Refusal {
+        match error {
+            QueryError::Bad => Refusal::BadQuery,
+            QueryError::Large => Refusal::LargeQuery,
+            QueryError::Memory => Refusal::Memory,
+        }
+    }
+}
+
 /// Writes the line of what a command came to, with one write of the sink.
 pub(crate) fn write_line<K: Sink>(
     outcome: Result<Answer, Refusal>,
@@ -86,6 +125,7 @@ pub(crate) fn write_line<K: Sink>(
         Ok(Answer::Bytes(count)) => write_count(b"ok bytes ", count, sink),
         Ok(Answer::Grammar { rules, size, bytes }) => write_grammar(rules, size, bytes, sink),
         Ok(Answer::Repaired { rules, size }) => write_repaired(rules, size, sink),
+        Ok(Answer::Selected(count)) => write_count(b"ok selected ", count, sink),
         Ok(Answer::Shown) => sink.write(b"ok shown\n"),
         Err(refusal) => write_refusal(refusal, sink),
     }
@@ -103,7 +143,11 @@ fn write_refusal<K: Sink>(refusal: Refusal, sink: &mut K) -> Result<(), Failed>
         Refusal::WriteFault => sink.write(b"! write-fault\n"),
         Refusal::LongFile => sink.write(b"! long-file\n"),
         Refusal::BadXml { at } => write_count(b"! bad-xml ", at, sink),
+        Refusal::BadGrammar => sink.write(b"! bad-grammar\n"),
+        Refusal::BadQuery => sink.write(b"! bad-query\n"),
+        Refusal::LargeQuery => sink.write(b"! large-query\n"),
         Refusal::NoNode => sink.write(b"! no-node\n"),
+        Refusal::TooMany => sink.write(b"! too-many\n"),
         Refusal::Memory => sink.write(b"! memory\n"),
     }
 }
@@ -151,18 +195,19 @@ fn write_repaired<K: Sink>(rules: usize, size: u64, sink: &mut K) -> Result<(), 
     sink.write(line.as_slice())
 }
 
-// Room for the longest answer: its words and a line feed, and three numbers of at most 40 digits.
-type AnswerLine = ArrayVec<u8, 160>;
+/// Room for the longest answer: its words and a line feed, and three numbers of at most 40 digits.
+pub(crate) type AnswerLine = ArrayVec<u8, 160>;
 
-// Adds a text for which there is room.
-fn add(line: &mut AnswerLine, text: &[u8])
-    requires { array_vec_len line.old + length text.now ≤ 160 }
+/// Adds a text for which there is room.
+pub(crate) fn add<const N: usize>(line: &mut ArrayVec<u8, N>, text: &[u8])
+    requires { array_vec_len line.old + length text.now ≤ N }
     ensures { line.new.items ≡ line.old.items ++ text.now }
 {
     let _fits = line.try_extend_from_slice(text);
 }
 
-fn add_number<I: Integer>(line: &mut AnswerLine, number: I)
+/// Adds a number for which there is room.
+pub(crate) fn add_number<I: Integer>(line: &mut AnswerLine, number: I)
     requires { array_vec_len line.old + 40 ≤ 160 }
     ensures text { line.new.items ≡ line.old.items ++ I.text number }
     ensures short { array_vec_len line.new ≤ array_vec_len line.old + 40 }

@@ -5,12 +5,18 @@
 pub enum Command<'a> {
     /// The document becomes that of the XML file with this name.
     Load { name: &'a str },
+    /// The document becomes that of the grammar file with this name, under the file's grammar.
+    LoadGrammar { name: &'a str },
     /// The document is written to the file with this name.
     Save { name: &'a str },
     /// The names, the grammar and the texts are written to the file with this name.
     SaveGrammar { name: &'a str },
     /// The node with this number is printed, and number 0 prints the document as `Save` writes it.
     Show { number: u64 },
+    /// The nodes that the query selects are printed, each on a line, and counted.
+    Query { text: &'a [u8] },
+    /// The nodes that the query selects are counted.
+    Count { text: &'a [u8] },
     /// The grammar is settled.
     Repair,
 }

@@ -7,10 +7,13 @@
 
 mod answer;
 mod command;
+mod grammar_loading;
+mod listing;
 mod loading;
 mod reading;
 mod repairing;
 mod saving;
+mod selecting;
 mod session;
 mod showing;
 mod store;

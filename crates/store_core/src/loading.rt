@@ -1,5 +1,5 @@
 // Reading a document from the shelf.
-ghost use Rattle.std.specs.Prelude.{◌≡◌, ◌≤◌, ◌<◌, ◌^◌, [], sum_by, IfOk, IfErr, Some};
+ghost use Rattle.std.specs.Prelude.{◌≡◌, ◌≤◌, ◌<◌, ◌^◌, [], sum_by, true, IfOk, IfErr, OnOk, OnErr, Some};
 ghost use Rattle.tree_outside.specs.Outside.{Stays};
 ghost use Rattle.plain_tree.specs.Tree.{Tree, node_count};
 ghost use Rattle.slt_grammar.specs.Grammars.{IsGrammar, IsSwept, value};
@@ -7,7 +7,10 @@ ghost use Rattle.slt_grammar.specs.Keyed.{rules_of};
 ghost use Rattle.slt_grammar.specs.Segments.{listed};
 ghost use Rattle.segment_counts.specs.Counting.{AreCounts};
 ghost use Rattle.segment_counts.specs.Weights.{node_weight};
+ghost use Rattle.tree_outside.specs.Shelf.{Becomes, file_opened};
 ghost use Rattle.store_core.specs.Acts as act;
+ghost use Rattle.store_core.specs.Acts.{Act};
+ghost use Rattle.store_core.specs.Opening.{Finds, LoadsFile};
 ghost use Rattle.store_core.specs.Worlds.{State, AreLawfulParts, IsIdle, told_files, world};
 ghost use Rattle.store_core.specs.Folding.{IsFoldOf, FoldsFile};
 ghost use Rattle.store_core.specs.StoreOf.{IsCounted, parts_of};
@@ -18,6 +21,7 @@ ghost use Rattle.store_core.specs.Texts.{answer_line};
 use crate::answer::{Answer, Refusal};
 use crate::reading::read_document;
 use crate::store::{RULE_RANK, Store};
+use digram_index::build;
 use fcns_encoding::Folded;
 use local_repair::settle;
 use plain_tree::Names;
@@ -55,6 +59,22 @@ pub(crate) fn load_document<F: Shelf>(
     Ok(ReadDocument { store, count })
 }
 
+/// Opens the file with this name, for a command that reads it.
+pub(crate) fn open_file<F: Shelf>(name: &str, shelf: &mut F) -> Result<(), Refusal>
+    ensures later { F.faults shelf.old ≤ F.faults shelf.new }
+    ensures files { Stays (told_files (F.told shelf.old)) (told_files (F.told shelf.new)) }
+    ensures idle { OnErr result (IsIdle (F.told shelf.old) → IsIdle (F.told shelf.new)) }
+    ensures opened { OnOk result (Finds (F.told shelf.old) name.now true × Becomes (F.told shelf.old) (F.told shelf.new) (file_opened name.now)) }
+    ensures refused { IfErr result (λ refusal. (a : Act) (state : State) → LoadsFile a name.now
+        → Cause refusal a (world state (F.told shelf.old) (F.faults shelf.old)) (world state (F.told shelf.new) (F.faults shelf.new))) }
+{
+    match shelf.open(name) {
+        Err(Failed) => Err(Refusal::ReadFault),
+        Ok(false) => Err(Refusal::NoFile),
+        Ok(true) => Ok(()),
+    }
+}
+
 // The document in the file with this name, folded.
 fn read_file<F: Shelf>(alloc: Global, name: &str, shelf: &mut F) -> Result<Folded, Refusal>
     ensures later { F.faults shelf.old ≤ F.faults shelf.new }
@@ -64,17 +84,13 @@ fn read_file<F: Shelf>(alloc: Global, name: &str, shelf: &mut F) -> Result<Folde
     ensures refused { IfErr result (λ refusal. (state : State)
         → Cause refusal (act.Load name.now) (world state (F.told shelf.old) (F.faults shelf.old)) (world state (F.told shelf.new) (F.faults shelf.new))) }
 {
-    match shelf.open(name) {
-        Err(Failed) => return Err(Refusal::ReadFault),
-        Ok(false) => return Err(Refusal::NoFile),
-        Ok(true) => {}
-    }
+    open_file(name, shelf)?;
     let read = read_document(alloc, shelf);
     shelf.close();
     read
 }
 
-// A folded document as a settled grammar, and its counts. It is refused only for want of memory.
+// A folded document as a settled grammar, with its counts and its index. It is refused only for want of memory.
 fn store_of(alloc: Global, folded: Folded) -> Result<Store, AllocError>
     requires { (t : Tree) × (IsFoldOf t folded × (node_count t < 2 ^ 30)) }
     ensures encoded { IfOk result (λ s. (t : Tree) → IsFoldOf t folded → Encodes t (parts_of s)) }
@@ -90,16 +106,22 @@ fn store_of(alloc: Global, folded: Folded) -> Result<Store, AllocError>
     // The room that settling needed goes: a copy has no more than its rules take.
     let grammar = grammar.copy()?;
     let counts = counts_of(alloc, &grammar, &names)?;
+    let index = build(alloc, &grammar)?;
     Ok(Store {
         grammar,
         names,
         texts,
         counts,
+        index,
     })
 }
 
-// The counts of a grammar whose value is small enough. They are refused only for want of memory.
-fn counts_of(alloc: Global, grammar: &Grammar, names: &Names) -> Result<Counts, AllocError>
+/// The counts of a grammar whose value is small enough. They are refused only for want of memory.
+pub(crate) fn counts_of(
+    alloc: Global,
+    grammar: &Grammar,
+    names: &Names,
+) -> Result<Counts, AllocError>
     requires swept { IsSwept (rules_of grammar.now.rules) }
     requires few { sum_by node_weight (listed (value (rules_of grammar.now.rules)) []) < 2 ^ 63 }
     ensures { IfOk result (AreCounts names.now (rules_of grammar.now.rules)) }

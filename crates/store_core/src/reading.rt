@@ -13,13 +13,13 @@ use tree_outside::{Failed, Shelf};
 use xml_profile::{Reader, XmlError};
 
 /// A file must have fewer bytes than this.
-const FILE_LIMIT: usize = 1 << 30;
+pub(crate) const FILE_LIMIT: usize = 1 << 30;
 
 /// A subterm of the code that is used less often has no rule before settling, which then finds smaller rules.
 const LEAST_USES: usize = 32;
 
 /// How many bytes of a file are read at once.
-const PIECE: usize = 1 << 16;
+pub(crate) const PIECE: usize = 1 << 16;
 
 /// The document that the open file spells, folded while it is read.
 pub(crate) fn read_document<F: Shelf>(alloc: Global, shelf: &mut F) -> Result<Folded, Refusal>

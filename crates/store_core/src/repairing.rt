@@ -8,7 +8,8 @@ ghost use Rattle.store_core.specs.Worlds.{AreLawfulParts, world};
 
 use crate::answer::Answer;
 use crate::store::{RULE_RANK, Store};
-use local_repair::settle;
+use digram_index::build;
+use local_repair::settle_touched;
 use std::alloc::{AllocError, Global};
 
 /// Settles the grammar of a store. It is refused only for want of memory, and what is held then stays.
@@ -23,11 +24,13 @@ pub(crate) fn repair_store(alloc: Global, store: &mut Store) -> Result<Answer, A
 {
     // A copy is settled, so that want of memory halfway changes nothing.
     let mut grammar = store.grammar.copy()?;
-    settle(alloc, &mut grammar, RULE_RANK)?;
+    let mut index = build(alloc, &grammar)?;
+    settle_touched(alloc, &mut grammar, &mut index, RULE_RANK)?;
     let rules = grammar.rules();
     store.counts.reserve(rules)?;
     store.counts.update(&grammar, &store.names);
     let size = grammar.size();
     store.grammar = grammar;
+    store.index = index;
     Ok(Answer::Repaired { rules, size })
 }

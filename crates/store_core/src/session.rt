@@ -6,14 +6,17 @@ ghost use Rattle.tree_outside.specs.Shelf.{Keeps};
 
 use crate::answer::{Answer, Refusal, write_line};
 use crate::command::{Command, Settings};
+use crate::grammar_loading::load_grammar;
+use crate::listing::print_hits;
 use crate::loading::load_document;
 use crate::repairing::repair_store;
 use crate::saving::{save_document, save_grammar};
+use crate::selecting::select;
 use crate::showing::walk_to;
 use crate::store::Store;
 use crate::writing::write_node;
 use read_steps::Steps;
-use std::alloc::Global;
+use std::alloc::{AllocError, Global};
 use std::marker::Model;
 use std::sync::ledger::Ledger;
 use thiserror::Error;
@@ -55,6 +58,7 @@ impl Session {
     ghost use Rattle.store_core.specs.Acts as act;
     ghost use Rattle.store_core.specs.CommandOf.{act_of};
     ghost use Rattle.store_core.specs.Machine.{Comes, Prints, Step};
+    ghost use Rattle.store_core.specs.Reads.{AsksFew};
     ghost use Rattle.store_core.specs.Worlds.{IsIdle, IsLawfulState, world};
     ghost use Rattle.store_core.specs.StoreOf.{IsCounted, parts_of};
     ghost use Rattle.std.specs.Option.{option_map};
@@ -79,7 +83,7 @@ impl Session {
     /// failed; session and shelf are then as after the command, and the sink got a front of the text. Where the shelf tells that
     /// no file was open and none pending, that is so after the command too.
     ///
-    /// The counter counts the reads of `save` and `show`. The settings serve edits, of which there is none yet.
+    /// The counter counts the reads of `save`, `show`, `query` and `count`. The settings serve edits, of which there is none yet.
     pub fn command<K: Sink, F: Shelf, L: Ledger>(
         &mut self,
         alloc: Global,
@@ -98,6 +102,7 @@ impl Session {
         ensures kept { Keeps (K.kept sink.old) (K.kept sink.new) }
         ensures idle { IsIdle (F.told shelf.old) → IsIdle (F.told shelf.new) }
         ensures cause { HasCause (K.faults sink.old) (K.faults sink.new) result }
+        ensures reads { AsksFew (act_of command.entry) self.old steps.old steps.new }
     {
         let outcome = self.outcome(alloc, command, sink, shelf, steps)?;
         write_line(outcome, sink)?;
@@ -119,12 +124,16 @@ impl Session {
         ensures prints { Prints (act_of command.entry) (world self.old (F.told shelf.old) (F.faults shelf.old)) (K.got sink.old) (K.got sink.new) result (world self.new (F.told shelf.new) (F.faults shelf.new)) }
         ensures kept { Keeps (K.kept sink.old) (K.kept sink.new) }
         ensures cause { HasCause (K.faults sink.old) (K.faults sink.new) result }
+        ensures reads { AsksFew (act_of command.entry) self.old steps.old steps.new }
     {
         match command {
             Command::Load { name } => Ok(self.load(alloc, name, shelf)),
+            Command::LoadGrammar { name } => Ok(self.load_grammar(alloc, name, shelf)),
             Command::Save { name } => Ok(self.save(alloc, name, shelf, steps)),
             Command::SaveGrammar { name } => Ok(self.save_grammar(name, shelf)),
             Command::Show { number } => self.show(alloc, number, sink, steps),
+            Command::Query { text } => self.query(alloc, text, sink, steps),
+            Command::Count { text } => Ok(self.count(alloc, text, steps)),
             Command::Repair => Ok(self.repair(alloc)),
         }
     }
@@ -143,6 +152,23 @@ impl Session {
         // A look at the field tells that what was held is lawful, also where the loading is refused.
         let _ = &self.store;
         let loaded = load_document(alloc, name, shelf)?;
+        self.store = Some(loaded.store);
+        Ok(Answer::Nodes(loaded.count))
+    }
+
+    fn load_grammar<F: Shelf>(
+        &mut self,
+        alloc: Global,
+        name: &str,
+        shelf: &mut F,
+    ) -> Result<Answer, Refusal>
+        ensures lawful { IsLawfulState self.old × IsLawfulState self.new }
+        ensures later { F.faults shelf.old ≤ F.faults shelf.new }
+        ensures idle { IsIdle (F.told shelf.old) → IsIdle (F.told shelf.new) }
+        ensures comes { Comes (act.LoadGrammar name.now) (world self.old (F.told shelf.old) (F.faults shelf.old)) [] result (world self.new (F.told shelf.new) (F.faults shelf.new)) }
+    {
+        let _ = &self.store;
+        let loaded = load_grammar(alloc, name, shelf)?;
         self.store = Some(loaded.store);
         Ok(Answer::Nodes(loaded.count))
     }
@@ -212,5 +238,50 @@ impl Session {
         };
         write_node(store, walk, sink, steps)?;
         Ok(Ok(Answer::Shown))
+    }
+
+    // Prints the nodes that the query selects. Where there is no memory for all, some first ones are printed.
+    fn query<K: Sink, L: Ledger>(
+        &self,
+        alloc: Global,
+        text: &[u8],
+        sink: &mut K,
+        steps: &mut Steps<L>,
+    ) -> Result<Result<Answer, Refusal>, Failed>
+        ensures lawful { IsLawfulState self.now }
+        ensures prints { (told : Option Told) (count : ℕ) → Prints (act.Query text.now) (world self.now told count) (K.got sink.old) (K.got sink.new) result (world self.now told count) }
+        ensures kept { Keeps (K.kept sink.old) (K.kept sink.new) }
+        ensures cause { HasCause (K.faults sink.old) (K.faults sink.new) result }
+        ensures reads { AsksFew (act.Query text.now) self.now steps.old steps.new }
+    {
+        let Some(store) = &self.store else {
+            return Ok(Err(Refusal::NoDocument));
+        };
+        let found = match select(alloc, text, store, steps) {
+            Ok(found) => found,
+            Err(refusal) => return Ok(Err(refusal)),
+        };
+        match print_hits(alloc, &found, &store.names, sink)? {
+            Ok(()) => Ok(Ok(Answer::Selected(found.count()))),
+            Err(AllocError) => Ok(Err(Refusal::Memory)),
+        }
+    }
+
+    // Counts the nodes that the query selects.
+    fn count<L: Ledger>(
+        &self,
+        alloc: Global,
+        text: &[u8],
+        steps: &mut Steps<L>,
+    ) -> Result<Answer, Refusal>
+        ensures lawful { IsLawfulState self.now }
+        ensures comes { (told : Option Told) (count : ℕ) → Comes (act.Count text.now) (world self.now told count) [] result (world self.now told count) }
+        ensures reads { AsksFew (act.Count text.now) self.now steps.old steps.new }
+    {
+        let Some(store) = &self.store else {
+            return Err(Refusal::NoDocument);
+        };
+        let found = select(alloc, text, store, steps)?;
+        Ok(Answer::Selected(found.count()))
     }
 }

@@ -1,4 +1,5 @@
 // What a session holds of a document.
+use digram_index::Index;
 use plain_tree::Names;
 use segment_counts::Counts;
 use slt_grammar::Grammar;
@@ -7,11 +8,13 @@ use text_list::TextList;
 /// The greatest rank of a rule that a settling makes.
 pub(crate) const RULE_RANK: usize = 4;
 
-/// A document, held as a grammar over a table of names beside its texts, with the counts of the grammar's segments.
+/// A document, held as a grammar over a table of names beside its texts, with the counts of the grammar's segments and the index of its
+/// digrams.
 #[derive(Drop)]
 pub struct Store {
     pub grammar: Grammar,
     pub names: Names,
     pub texts: TextList,
     pub counts: Counts,
+    pub index: Index,
 }

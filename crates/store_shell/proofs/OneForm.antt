@@ -1,10 +1,11 @@
 -- A line has one form alone.
-use Rattle.std.specs.Prelude.{◌≡◌, ◌≤◌, ◌<◌, ◌-◌, ℕ, List, [], ◌∷◌, ◌++◌, length, take, Bool, true, false, if◌then◌else◌, codes, decimal, nat_eq, get_or, refl}
+use Rattle.std.specs.Prelude.{◌≡◌, ◌==◌, ◌≤◌, ◌<◌, ◌-◌, ◌^◌, ℕ, suc, List, [], ◌∷◌, length, take, Bool, true, false, if◌then◌else◌, codes, decimal, nat_eq, nat_lt, get_or, refl}
+use Rattle.std.specs.Str.{bytes_eq}
 use Rattle.std.proofs.Common.{sym, ap, ◌∙◌, arith}
 use Rattle.std.specs.List.{ends_with}
 use Rattle.std.proofs.lemmas.Fmt.{decimal_injective}
 use Rattle.std.proofs.lemmas.List.{length-take}
-use Rattle.store_core.specs.Acts.{Act, Load, Save, SaveGrammar, Show, Repair}
+use Rattle.store_core.specs.Acts.{Act, Load, LoadGrammar, Save, SaveGrammar, Show, Query, Count, Repair}
 use Rattle.store_shell.specs.Forms.{Form, Empty, Long, Bad, Quit, Command, IsForm, Asks, without_return}
 use Rattle.store_shell.specs.Lines.{longest}
 
@@ -23,88 +24,175 @@ empty_short line e = short line [] e (omega arith)
 quit_short : (line : List ℕ) → without_return line ≡ codes "quit" → length line ≤ longest
 quit_short line e = short line (codes "quit") e (omega arith)
 
--- a byte of the words of a command
-abbrev byte_at : ℕ → Act → ℕ
-byte_at place (Load n) = get_or (codes "load " ++ n) place 0
-byte_at place (Save n) = get_or (codes "save " ++ n) place 0
-byte_at place (SaveGrammar n) = get_or (codes "save-grammar " ++ n) place 0
-byte_at place (Show n) = get_or (codes "show " ++ decimal n) place 0
-byte_at place Repair = get_or (codes "repair") place 0
+-- What stands behind the word that a command begins with: nothing, or a space and a text or a number.
+data Behind : Type 0 where
+  Nothing : Behind
+  Bytes : List ℕ → Behind
+  Number : ℕ → Behind
 
-asked : (words : List ℕ) (place : ℕ) (a : Act) → Asks words a → byte_at place a ≡ get_or words place 0
-asked words place (Load n) h = ap (λ ws. get_or ws place 0) (sym h.1)
-asked words place (Save n) h = ap (λ ws. get_or ws place 0) (sym h.1)
-asked words place (SaveGrammar n) h = ap (λ ws. get_or ws place 0) (sym h.1)
-asked words place (Show n) h = ap (λ ws. get_or ws place 0) (sym h.1)
-asked words place Repair h = ap (λ ws. get_or ws place 0) (sym h)
+abbrev behind : Act → Behind
+behind (Load name) = Bytes name
+behind (LoadGrammar name) = Bytes name
+behind (Save name) = Bytes name
+behind (SaveGrammar name) = Bytes name
+behind (Show number) = Number number
+behind (Query query) = Bytes query
+behind (Count query) = Bytes query
+behind Repair = Nothing
 
-same_byte : (words : List ℕ) (place : ℕ) (a b : Act) → Asks words a → Asks words b → byte_at place a ≡ byte_at place b
-same_byte words place a b h k = asked words place a h ∙ sym (asked words place b k)
+abbrev spelled : Behind → List ℕ
+spelled Nothing = []
+spelled (Bytes bytes) = 32 ∷ bytes
+spelled (Number number) = 32 ∷ decimal number
 
+-- the words that commands begin with, and the place of a command's among them
+abbrev all_words : List (List ℕ)
+all_words = codes "load" ∷ codes "load-grammar" ∷ codes "save" ∷ codes "save-grammar" ∷ codes "show" ∷ codes "query" ∷ codes "count" ∷ codes "repair" ∷ []
+
+abbrev place : Act → ℕ
+place (Load name) = 0
+place (LoadGrammar name) = 1
+place (Save name) = 2
+place (SaveGrammar name) = 3
+place (Show number) = 4
+place (Query query) = 5
+place (Count query) = 6
+place Repair = 7
+
+-- the command at a place, with what stands behind its word
+abbrev with_bytes : (List ℕ → Act) → Behind → Act
+with_bytes act (Bytes bytes) = act bytes
+with_bytes act _ = Repair
+
+abbrev with_number : (ℕ → Act) → Behind → Act
+with_number act (Number number) = act number
+with_number act _ = Repair
+
+abbrev act_at : ℕ → Behind → Act
+act_at p b = get_or (with_bytes Load b ∷ with_bytes LoadGrammar b ∷ with_bytes Save b ∷ with_bytes SaveGrammar b ∷ with_number Show b ∷ with_bytes Query b ∷ with_bytes Count b ∷ []) p Repair
+
+act_again : (a : Act) → act_at (place a) (behind a) ≡ a
+act_again (Load name) = refl
+act_again (LoadGrammar name) = refl
+act_again (Save name) = refl
+act_again (SaveGrammar name) = refl
+act_again (Show number) = refl
+act_again (Query query) = refl
+act_again (Count query) = refl
+act_again Repair = refl
+
+-- which of the three stands there
+abbrev sort : Behind → ℕ
+sort Nothing = 0
+sort (Bytes bytes) = 1
+sort (Number number) = 2
+
+abbrev sort_at : ℕ → ℕ
+sort_at p = get_or (1 ∷ 1 ∷ 1 ∷ 1 ∷ 2 ∷ 1 ∷ 1 ∷ []) p 0
+
+sorted : (a : Act) → sort (behind a) ≡ sort_at (place a)
+sorted (Load name) = refl
+sorted (LoadGrammar name) = refl
+sorted (Save name) = refl
+sorted (SaveGrammar name) = refl
+sorted (Show number) = refl
+sorted (Query query) = refl
+sorted (Count query) = refl
+sorted Repair = refl
+
+placed : (a : Act) → nat_lt (place a) 8 ≡ true
+placed (Load name) = refl
+placed (LoadGrammar name) = refl
+placed (Save name) = refl
+placed (SaveGrammar name) = refl
+placed (Show number) = refl
+placed (Query query) = refl
+placed (Count query) = refl
+placed Repair = refl
+
+-- words up to the first space, and from it on
+abbrev first_word : List ℕ → List ℕ
+first_word [] = []
+first_word (b ∷ bs) = if b == 32 then [] else b ∷ first_word bs
+
+abbrev behind_word : List ℕ → List ℕ
+behind_word [] = []
+behind_word (b ∷ bs) = if b == 32 then b ∷ bs else behind_word bs
+
+-- how many words stand before this one
+abbrev place_in : List (List ℕ) → List ℕ → ℕ
+place_in [] word = 0
+place_in (w ∷ ws) word = if bytes_eq w word then 0 else suc (place_in ws word)
+
+-- both are told by the words
+begins : (words : List ℕ) (a : Act) → Asks words a → place_in all_words (first_word words) ≡ place a
+begins words (Load name) h = ap (λ ws. place_in all_words (first_word ws)) h.1
+begins words (LoadGrammar name) h = ap (λ ws. place_in all_words (first_word ws)) h.1
+begins words (Save name) h = ap (λ ws. place_in all_words (first_word ws)) h.1
+begins words (SaveGrammar name) h = ap (λ ws. place_in all_words (first_word ws)) h.1
+begins words (Show number) h = ap (λ ws. place_in all_words (first_word ws)) h.1
+begins words (Query query) h = ap (λ ws. place_in all_words (first_word ws)) h.1
+begins words (Count query) h = ap (λ ws. place_in all_words (first_word ws)) h.1
+begins words Repair h = ap (λ ws. place_in all_words (first_word ws)) h
+
+goes_on : (words : List ℕ) (a : Act) → Asks words a → behind_word words ≡ spelled (behind a)
+goes_on words (Load name) h = ap behind_word h.1
+goes_on words (LoadGrammar name) h = ap behind_word h.1
+goes_on words (Save name) h = ap behind_word h.1
+goes_on words (SaveGrammar name) h = ap behind_word h.1
+goes_on words (Show number) h = ap behind_word h.1
+goes_on words (Query query) h = ap behind_word h.1
+goes_on words (Count query) h = ap behind_word h.1
+goes_on words Repair h = ap behind_word h
+
+-- a number is below 2^64
+abbrev IsSmall : Behind → Type 0
+IsSmall (Number number) = number < 2 ^ 64
+IsSmall _ = Unit {0}
+
+small : (words : List ℕ) (a : Act) → Asks words a → IsSmall (behind a)
+small words (Load name) h = tt
+small words (LoadGrammar name) h = tt
+small words (Save name) h = tt
+small words (SaveGrammar name) h = tt
+small words (Show number) h = h.0
+small words (Query query) h = tt
+small words (Count query) h = tt
+small words Repair h = tt
+
+behind-one : (x y : Behind) → sort x ≡ sort y → IsSmall x → IsSmall y → spelled x ≡ spelled y → x ≡ y
+behind-one Nothing Nothing e h k same = refl
+behind-one Nothing (Bytes ys) e h k same = cc
+behind-one Nothing (Number n) e h k same = cc
+behind-one (Bytes xs) Nothing e h k same = cc
+behind-one (Bytes xs) (Bytes ys) e h k same = let tails : xs ≡ ys = cc in ap Bytes tails
+behind-one (Bytes xs) (Number n) e h k same = cc
+behind-one (Number m) Nothing e h k same = cc
+behind-one (Number m) (Bytes ys) e h k same = cc
+behind-one (Number m) (Number n) e h k same =
+    let digits : decimal m ≡ decimal n = cc in
+    ap Number (decimal_injective m n h k digits)
+
+-- words ask for one command
 asks-one : (words : List ℕ) (a b : Act) → Asks words a → Asks words b → a ≡ b
-asks-one words (Load n) (Load m) h k =
-    let e : codes "load " ++ n ≡ codes "load " ++ m = sym h.1 ∙ k.1 in
-    let same : n ≡ m = cc in
-    ap Load same
-asks-one words (Save n) (Save m) h k =
-    let e : codes "save " ++ n ≡ codes "save " ++ m = sym h.1 ∙ k.1 in
-    let same : n ≡ m = cc in
-    ap Save same
-asks-one words (SaveGrammar n) (SaveGrammar m) h k =
-    let e : codes "save-grammar " ++ n ≡ codes "save-grammar " ++ m = sym h.1 ∙ k.1 in
-    let same : n ≡ m = cc in
-    ap SaveGrammar same
-asks-one words (Show n) (Show m) h k =
-    let e : codes "show " ++ decimal n ≡ codes "show " ++ decimal m = sym h.1 ∙ k.1 in
-    let digits : decimal n ≡ decimal m = cc in
-    ap Show (decimal_injective n m h.0 k.0 digits)
-asks-one words Repair Repair h k = refl
-asks-one words (Load n) (Save m) h k = let same : ◌≡◌ {A = ℕ} 108 115 = same_byte words 0 (Load n) (Save m) h k in absurd (omega arith)
-asks-one words (Load n) (SaveGrammar m) h k = let same : ◌≡◌ {A = ℕ} 108 115 = same_byte words 0 (Load n) (SaveGrammar m) h k in absurd (omega arith)
-asks-one words (Save n) (Load m) h k = let same : ◌≡◌ {A = ℕ} 115 108 = same_byte words 0 (Save n) (Load m) h k in absurd (omega arith)
-asks-one words (Save n) (SaveGrammar m) h k = let same : ◌≡◌ {A = ℕ} 32 45 = same_byte words 4 (Save n) (SaveGrammar m) h k in absurd (omega arith)
-asks-one words (SaveGrammar n) (Load m) h k = let same : ◌≡◌ {A = ℕ} 115 108 = same_byte words 0 (SaveGrammar n) (Load m) h k in absurd (omega arith)
-asks-one words (SaveGrammar n) (Save m) h k = let same : ◌≡◌ {A = ℕ} 45 32 = same_byte words 4 (SaveGrammar n) (Save m) h k in absurd (omega arith)
-asks-one words (Load n) (Show m) h k = let same : ◌≡◌ {A = ℕ} 108 115 = same_byte words 0 (Load n) (Show m) h k in absurd (omega arith)
-asks-one words (Show n) (Load m) h k = let same : ◌≡◌ {A = ℕ} 115 108 = same_byte words 0 (Show n) (Load m) h k in absurd (omega arith)
-asks-one words (Save n) (Show m) h k = let same : ◌≡◌ {A = ℕ} 97 104 = same_byte words 1 (Save n) (Show m) h k in absurd (omega arith)
-asks-one words (Show n) (Save m) h k = let same : ◌≡◌ {A = ℕ} 104 97 = same_byte words 1 (Show n) (Save m) h k in absurd (omega arith)
-asks-one words (SaveGrammar n) (Show m) h k = let same : ◌≡◌ {A = ℕ} 97 104 = same_byte words 1 (SaveGrammar n) (Show m) h k in absurd (omega arith)
-asks-one words (Show n) (SaveGrammar m) h k = let same : ◌≡◌ {A = ℕ} 104 97 = same_byte words 1 (Show n) (SaveGrammar m) h k in absurd (omega arith)
-asks-one words (Load n) Repair h k = let same : ◌≡◌ {A = ℕ} 108 114 = same_byte words 0 (Load n) Repair h k in absurd (omega arith)
-asks-one words Repair (Load m) h k = let same : ◌≡◌ {A = ℕ} 114 108 = same_byte words 0 Repair (Load m) h k in absurd (omega arith)
-asks-one words (Save n) Repair h k = let same : ◌≡◌ {A = ℕ} 115 114 = same_byte words 0 (Save n) Repair h k in absurd (omega arith)
-asks-one words Repair (Save m) h k = let same : ◌≡◌ {A = ℕ} 114 115 = same_byte words 0 Repair (Save m) h k in absurd (omega arith)
-asks-one words (SaveGrammar n) Repair h k = let same : ◌≡◌ {A = ℕ} 115 114 = same_byte words 0 (SaveGrammar n) Repair h k in absurd (omega arith)
-asks-one words Repair (SaveGrammar m) h k = let same : ◌≡◌ {A = ℕ} 114 115 = same_byte words 0 Repair (SaveGrammar m) h k in absurd (omega arith)
-asks-one words (Show n) Repair h k = let same : ◌≡◌ {A = ℕ} 115 114 = same_byte words 0 (Show n) Repair h k in absurd (omega arith)
-asks-one words Repair (Show m) h k = let same : ◌≡◌ {A = ℕ} 114 115 = same_byte words 0 Repair (Show m) h k in absurd (omega arith)
+asks-one words a b h k =
+    let at = sym (begins words a h) ∙ begins words b k in
+    let sorts = sorted a ∙ (ap sort_at at ∙ sym (sorted b)) in
+    let same = behind-one (behind a) (behind b) sorts (small words a h) (small words b k) (sym (goes_on words a h) ∙ goes_on words b k) in
+    sym (act_again a) ∙ (ap (λ p. act_at p (behind a)) at ∙ (ap (act_at (place b)) same ∙ act_again b))
 
--- no command is asked for by no words
+-- a first word that is no command's asks for none
+asks_none : (words : List ℕ) (a : Act) → Asks words a → place_in all_words (first_word words) ≡ 8 → ⊥
+asks_none words a h e =
+    let at : place a ≡ 8 = sym (begins words a h) ∙ e in
+    let wrong : false ≡ true = ap (λ p. nat_lt p 8) (sym at) ∙ placed a in
+    absurd (cc)
+
 asks_some : (words : List ℕ) (a : Act) → Asks words a → words ≡ [] → ⊥
-asks_some words (Load n) h e = let f : codes "load " ++ n ≡ [] = sym h.1 ∙ e in absurd (cc)
-asks_some words (Save n) h e = let f : codes "save " ++ n ≡ [] = sym h.1 ∙ e in absurd (cc)
-asks_some words (SaveGrammar n) h e = let f : codes "save-grammar " ++ n ≡ [] = sym h.1 ∙ e in absurd (cc)
-asks_some words (Show n) h e = let f : codes "show " ++ decimal n ≡ [] = sym h.1 ∙ e in absurd (cc)
-asks_some words Repair h e = let f : codes "repair" ≡ [] = sym h ∙ e in absurd (cc)
+asks_some words a h e = asks_none words a h (ap (λ ws. place_in all_words (first_word ws)) e)
 
--- quit asks for no command
 asks_no_quit : (words : List ℕ) (a : Act) → Asks words a → words ≡ codes "quit" → ⊥
-asks_no_quit words (Load n) h e =
-    let same : ◌≡◌ {A = ℕ} 108 113 = asked words 0 (Load n) h ∙ ap (λ ws. get_or ws 0 0) e in
-    absurd (omega arith)
-asks_no_quit words (Save n) h e =
-    let same : ◌≡◌ {A = ℕ} 115 113 = asked words 0 (Save n) h ∙ ap (λ ws. get_or ws 0 0) e in
-    absurd (omega arith)
-asks_no_quit words (SaveGrammar n) h e =
-    let same : ◌≡◌ {A = ℕ} 115 113 = asked words 0 (SaveGrammar n) h ∙ ap (λ ws. get_or ws 0 0) e in
-    absurd (omega arith)
-asks_no_quit words (Show n) h e =
-    let same : ◌≡◌ {A = ℕ} 115 113 = asked words 0 (Show n) h ∙ ap (λ ws. get_or ws 0 0) e in
-    absurd (omega arith)
-asks_no_quit words Repair h e =
-    let same : ◌≡◌ {A = ℕ} 114 113 = asked words 0 Repair h ∙ ap (λ ws. get_or ws 0 0) e in
-    absurd (omega arith)
+asks_no_quit words a h e = asks_none words a h (ap (λ ws. place_in all_words (first_word ws)) e)
 
 quit_some : (words : List ℕ) → words ≡ codes "quit" → words ≡ [] → ⊥
 quit_some words h e = let f : codes "quit" ≡ [] = sym h ∙ e in absurd (cc)

@@ -2,7 +2,7 @@
 use Rattle.std.specs.Prelude.{◌≡◌, ◌≢◌, ◌<◌, ◌≤◌, ◌-◌, ◌^◌, ℕ, List, [], ◌∷◌, ◌++◌, All, length, take, if◌then◌else◌, codes, decimal, nat_eq}
 use Rattle.std.specs.List.{ends_with}
 use Rattle.std.specs.Str.{IsUtf8}
-use Rattle.store_core.specs.Acts.{Act, Load, Save, SaveGrammar, Show, Repair}
+use Rattle.store_core.specs.Acts.{Act, Load, LoadGrammar, Save, SaveGrammar, Show, Query, Count, Repair}
 use Rattle.store_shell.specs.Lines.{longest}
 
 pub data Form : Type 0 where
@@ -26,9 +26,12 @@ IsFileName name = (name ≢ []) × IsUtf8 name
 -- the words ask for this
 abbrev pub Asks : List ℕ → Act → Type 0
 Asks words (Load name) = IsFileName name × (words ≡ codes "load " ++ name)
+Asks words (LoadGrammar name) = IsFileName name × (words ≡ codes "load-grammar " ++ name)
 Asks words (Save name) = IsFileName name × (words ≡ codes "save " ++ name)
 Asks words (SaveGrammar name) = IsFileName name × (words ≡ codes "save-grammar " ++ name)
 Asks words (Show number) = (number < 2 ^ 64) × (words ≡ codes "show " ++ decimal number)
+Asks words (Query query) = (query ≢ []) × (words ≡ codes "query " ++ query)
+Asks words (Count query) = (query ≢ []) × (words ≡ codes "count " ++ query)
 Asks words Repair = words ≡ codes "repair"
 
 -- a line has this form

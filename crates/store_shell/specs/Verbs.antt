@@ -5,9 +5,12 @@ use Rattle.store_shell.specs.declared.verb.Verb.TheVariants as verb
 
 abbrev pub verb_word : Verb → List ℕ
 verb_word verb.Load = codes "load"
+verb_word verb.LoadGrammar = codes "load-grammar"
 verb_word verb.Save = codes "save"
 verb_word verb.SaveGrammar = codes "save-grammar"
 verb_word verb.Show = codes "show"
+verb_word verb.Query = codes "query"
+verb_word verb.Count = codes "count"
 
 abbrev pub is_blank : ℕ → Bool
 is_blank byte = byte == 32

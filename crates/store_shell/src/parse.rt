@@ -1,5 +1,5 @@
 // What a line asks for.
-ghost use Rattle.std.specs.Prelude.{◌≡◌, ◌≢◌, ◌<◌, ◌^◌, ◌↔◌, ℕ, true, List, length, IfSome, MatchOption, Some, codes, decimal};
+ghost use Rattle.std.specs.Prelude.{◌≡◌, ◌≢◌, ◌<◌, ◌^◌, ◌↔◌, ℕ, true, List, [], length, IfSome, MatchOption, Some, codes, decimal};
 ghost use Rattle.std.specs.Option.{option_copied};
 ghost use Rattle.std.specs.List.{position};
 ghost use Rattle.store_core.specs.Acts.{Act};
@@ -71,9 +71,12 @@ fn parse_command(words: &[u8]) -> Option<Command<'_>>
     let arguments = &words[space + 1..];
     match verb {
         Verb::Load => file_name(arguments).map(|name| Command::Load { name }),
+        Verb::LoadGrammar => { file_name(arguments).map(|name| Command::LoadGrammar { name }) }
         Verb::Save => file_name(arguments).map(|name| Command::Save { name }),
         Verb::SaveGrammar => file_name(arguments).map(|name| Command::SaveGrammar { name }),
         Verb::Show => number(arguments).map(|number| Command::Show { number }),
+        Verb::Query => query(arguments).map(|text| Command::Query { text }),
+        Verb::Count => query(arguments).map(|text| Command::Count { text }),
     }
 }
 
@@ -99,6 +102,13 @@ fn file_name(bytes: &[u8]) -> Option<&str>
         return None;
     }
     str::from_utf8(bytes).ok()
+}
+
+/// The bytes of a query: any but none.
+fn query(bytes: &[u8]) -> Option<&[u8]>
+    ensures { MatchOption result (bytes.now ≡ []) (λ text. (text.now ≡ bytes.now) × (bytes.now ≢ [])) }
+{
+    if bytes.is_empty() { None } else { Some(bytes) }
 }
 
 /// A number below 2^64 by its digits, without a leading zero.

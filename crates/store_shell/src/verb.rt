@@ -3,9 +3,12 @@
 #[derive(Clone, Copy)]
 pub enum Verb {
     Load,
+    LoadGrammar,
     Save,
     SaveGrammar,
     Show,
+    Query,
+    Count,
 }
 
 impl Verb {
@@ -19,9 +22,12 @@ impl Verb {
     {
         match word {
             b"load" => Some(Verb::Load),
+            b"load-grammar" => Some(Verb::LoadGrammar),
             b"save" => Some(Verb::Save),
             b"save-grammar" => Some(Verb::SaveGrammar),
             b"show" => Some(Verb::Show),
+            b"query" => Some(Verb::Query),
+            b"count" => Some(Verb::Count),
             _ => None,
         }
     }

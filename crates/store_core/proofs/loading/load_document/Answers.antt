@@ -3,9 +3,10 @@ use Rattle.std.proofs.lemmas.Result.{err_from_is_err_and}
 use Rattle.slt_grammar.specs.Grammars.{value}
 use Rattle.slt_grammar.specs.Keyed.{rules_of}
 use Rattle.store_core.specs.declared.answer.Answer.TheVariants.{Nodes}
+use Rattle.store_core.specs.Acts.{Load}
 use Rattle.store_core.specs.StoreOf.{parts_of}
 use Rattle.store_core.specs.Texts.{answer_line}
-use Rattle.store_core.proofs.FoundFiles.{ready_to_load}
+use Rattle.store_core.proofs.FoundFiles.{ready_to_load, load_reads}
 use Rattle.store_core.proofs.Walks.{weight-coded}
 use Rattle.store_core.proofs.loading.load_document.Goals as goal
 
@@ -25,4 +26,4 @@ returns-clause-loads g c = λ state. record {
 pub returns-in_err-store-clause-refused : goal.returns-in_err-store-clause-refused
 returns-in_err-store-clause-refused g c =
     let p = err_from_is_err_and c.from_residual-in_err-store.result c.from_residual-in_err-store.ensures.1 in
-    rw (p.1, p.2) (λ state. let held = c.in_ok-folded.ensures.document.held state in ready_to_load _ c.args.name.now held.bytes held.file)
+    rw (p.1, p.2) (λ state. let held = c.in_ok-folded.ensures.document.held state in ready_to_load (Load c.args.name.now) _ c.args.name.now held.bytes (load_reads c.args.name.now) held.file)

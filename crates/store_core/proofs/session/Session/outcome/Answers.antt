@@ -5,6 +5,9 @@ use Rattle.store_core.proofs.session.Session.outcome.Goals as goal
 pub returns-in-Load-clause-prints : goal.returns-in-Load-clause-prints
 returns-in-Load-clause-prints g c = rw c.in-Load.is ([], Gets-nil (g.K.Sink.got c.args.sink.now), c.load.ensures.comes)
 
+pub returns-in-LoadGrammar-clause-prints : goal.returns-in-LoadGrammar-clause-prints
+returns-in-LoadGrammar-clause-prints g c = rw c.in-LoadGrammar.is ([], Gets-nil (g.K.Sink.got c.args.sink.now), c.load_grammar.ensures.comes)
+
 pub returns-in-Save-clause-prints : goal.returns-in-Save-clause-prints
 returns-in-Save-clause-prints g c = rw c.in-Save.is ([], Gets-nil (g.K.Sink.got c.args.sink.now), c.save.ensures.comes)
 
@@ -14,3 +17,13 @@ returns-in-SaveGrammar-clause-prints g c = rw c.in-SaveGrammar.is ([], Gets-nil 
 pub returns-in-Repair-clause-prints : goal.returns-in-Repair-clause-prints
 returns-in-Repair-clause-prints g c =
     rw c.in-Repair.is ([], Gets-nil (g.K.Sink.got c.args.sink.now), c.repair.ensures.comes (g.F.Shelf.told c.args.shelf.now) (g.F.Shelf.faults c.args.shelf.now))
+
+pub returns-in-Count-clause-prints : goal.returns-in-Count-clause-prints
+returns-in-Count-clause-prints g c =
+    rw c.in-Count.is ([], Gets-nil (g.K.Sink.got c.args.sink.now), c.count.ensures.comes (g.F.Shelf.told c.args.shelf.now) (g.F.Shelf.faults c.args.shelf.now))
+
+pub returns-in-Query-clause-reads : goal.returns-in-Query-clause-reads
+returns-in-Query-clause-reads g c = rw c.in-Query.is c.query.ensures.reads
+
+pub returns-in-Count-clause-reads : goal.returns-in-Count-clause-reads
+returns-in-Count-clause-reads g c = rw c.in-Count.is c.count.ensures.reads

@@ -1,0 +1,157 @@
+-- What commands with a query come to.
+use Rattle.std.proofs.Common.{◌≡◌, ◌≤◌, ◌<◌, ◌+◌, ◌^◌, ◌⊎◌, inl, inr, ℕ, List, [], ◌++◌, length, Option, Some, Result, Ok, All, refl, sym, ap, ◌∙◌, subst, arith, append-nil}
+use Rattle.std.specs.List.{flat_map}
+use Rattle.std.proofs.lemmas.Bool.{cases_lt}
+use Rattle.std.proofs.lemmas.List.{length-map, map-append}
+use Rattle.std.proofs.lemmas.Option.{same_Some}
+use Rattle.plain_tree.specs.Tree.{Tree}
+use Rattle.slt_grammar.specs.Automata.{nodes_in}
+use Rattle.slt_grammar.specs.Grammars.{value}
+use Rattle.slt_grammar.specs.declared.rules.Rule.{Rule}
+use Rattle.segment_counts.specs.Weights.{node_weight}
+use Rattle.rule_runs.specs.Hits.{numbers}
+use Rattle.rule_runs.specs.declared.listing.Hit.{Hit}
+use Rattle.rule_runs.proofs.Lists.{all-split}
+use Rattle.rule_runs.proofs.Sizes.{nodes-weigh}
+use Rattle.selecting_automaton.specs.Sizes.{parts_inside, steps_outside}
+use Rattle.selecting_automaton.proofs.QuerySizes.{inside-meant, outside-meant}
+use Rattle.tree_outside.specs.Outside.{Gets, GetsFront}
+use Rattle.tree_outside.proofs.Beside.{Stays-refl}
+use Rattle.xpath_parser.specs.Limits.{IsLarge, inside, outside}
+use Rattle.xpath_parser.specs.Meant.{meant_paths}
+use Rattle.xpath_parser.specs.Spelled.{Spells}
+use Rattle.xpath_parser.specs.Trees.{Paths}
+use Rattle.xpath_parser.specs.Queries as queries
+use Rattle.xpath_parser.specs.declared.error.QueryError.{QueryError}
+use Rattle.xpath_parser.specs.declared.error.QueryError.TheVariants as error
+use Rattle.store_core.specs.Acts.{Act, Query, Count, query_asked}
+use Rattle.store_core.specs.Machine.{Queries, Counts, PrintsFirst}
+use Rattle.store_core.specs.Printed.{Gathers, hit_line, hit_lines}
+use Rattle.store_core.specs.Reads.{ReadsFew, most_reads}
+use Rattle.store_core.specs.Refusals.{Cause, IsReady}
+use Rattle.store_core.specs.Selecting.{Selects, SpellsNoQuery, SpellsLarge}
+use Rattle.store_core.specs.Stopping.{query_refusal}
+use Rattle.store_core.specs.Texts.{answer_line, selected_line}
+use Rattle.store_core.specs.Worlds.{Parts, AreLawfulParts, State, World, Same}
+use Rattle.store_core.specs.declared.answer.Answer.TheVariants as ok
+use Rattle.store_core.specs.declared.answer.Refusal.TheVariants as no
+use Rattle.store_core.proofs.HitLines.{lines-told}
+use Rattle.store_core.proofs.Sinks.{GetsFront-first}
+use Rattle.store_core.proofs.Walks.{weight-coded}
+
+-- where a document is held, a command with a query is ready
+pub asks_ready : (act : Act) (query : List ℕ) (parts : Parts) (old : World) → query_asked act ≡ Some query → old.state ≡ Some parts → IsReady act old
+asks_ready (Query q) query parts old asked held = record { document = λ needs. rw held refl; file = λ name same. absurd (cc) }
+asks_ready (Count q) query parts old asked held = record { document = λ needs. rw held refl; file = λ name same. absurd (cc) }
+asks_ready act query parts old asked held = absurd (cc)
+
+-- why no query was read is a cause to refuse the command
+pub query_refused :
+    (e : QueryError) (act : Act) (query : List ℕ) (parts : Parts) (old new : World) → (e ≡ error.Bad → SpellsNoQuery query) → (e ≡ error.Large → SpellsLarge query)
+    → query_asked act ≡ Some query → old.state ≡ Some parts → Cause (query_refusal e) act old new
+query_refused error.Bad act query parts old new bad large asked held = (query, asked, asks_ready act query parts old asked held, bad refl)
+query_refused error.Large act query parts old new bad large asked held = (query, asked, asks_ready act query parts old asked held, large refl)
+query_refused error.Memory act query parts old new bad large asked held = asks_ready act query parts old asked held
+
+-- the value of rules that stand for a document has as few nodes
+pub few-nodes : (parts : Parts) → AreLawfulParts parts → nodes_in (value parts.rules) < 2 ^ 63
+few-nodes parts are =
+    let nodes = nodes-weigh node_weight (λ f. refl) refl refl (value parts.rules) in
+    let count = weight-coded parts.names are.tree (value parts.rules) are.stand.code in
+    omega (arith, nodes, count, are.small)
+
+not_more : (n : ℕ) → (64 < n → ⊥) → n ≤ 64
+not_more n never = elim (cases_lt 64 n) [ inl h ↦ absurd (never h) | inr h ↦ h ]
+
+-- a query that isn't large is within the limits when it is written out
+pub within-inside : (bytes : List ℕ) (ps : Paths) (qs : queries.Paths) → Spells bytes ps → (IsLarge ps → ⊥) → qs ≡ meant_paths bytes ps → parts_inside qs ≤ 64
+within-inside bytes ps qs spelled small same =
+    rw (same, inside-meant bytes ps spelled) (not_more (inside ps) (λ h. small (inr h)))
+
+pub within-outside : (bytes : List ℕ) (ps : Paths) (qs : queries.Paths) → Spells bytes ps → (IsLarge ps → ⊥) → qs ≡ meant_paths bytes ps → steps_outside qs ≤ 64
+within-outside bytes ps qs spelled small same =
+    rw (same, outside-meant bytes ps) (not_more (outside ps) (λ h. small (inl h)))
+
+-- reads that are few for the query as it is written out are few for what was spelled
+pub reads-spelled : (bytes : List ℕ) (ps : Paths) (qs : queries.Paths) (G : List Rule) (before now : ℕ) → Spells bytes ps → qs ≡ meant_paths bytes ps → now ≤ before + most_reads G (parts_inside qs) (steps_outside qs) → now ≤ before + most_reads G (inside ps) (outside ps)
+reads-spelled bytes ps qs G before now spelled same h =
+    subst (λ (n : ℕ). now ≤ before + most_reads G n (outside ps)) (ap parts_inside same ∙ inside-meant bytes ps spelled)
+    (subst (λ (n : ℕ). now ≤ before + most_reads G (parts_inside qs) n) (ap steps_outside same ∙ outside-meant bytes ps) h)
+
+-- nothing changes
+pub same_world : (w : World) → Same w w
+same_world w = record { state = refl; files = Stays-refl w.files }
+
+-- nodes that were selected were counted
+pub counts_told : (query : List ℕ) (tree : Tree) (hits : List Hit) (count : ℕ) (w : World) → Selects query w tree (numbers hits) → count ≡ length hits → Counts query w (answer_line (ok.Selected count)) w
+counts_told query tree hits count w selects e = record {
+  tree = tree;
+  answer = numbers hits;
+  selects = selects;
+  same = same_world w;
+  printed = ap (λ n. answer_line (ok.Selected n)) (e ∙ sym (length-map hits (λ h. h.number)));
+}
+
+abbrev IsLined : Parts → Tree → Hit → Type 0
+IsLined parts tree hit = hit_line parts.names hit ≡ selected_line tree hit.number
+
+-- and their lines were printed
+pub queries_told : (query : List ℕ) (parts : Parts) (tree : Tree) (hits : List Hit) (count : ℕ) (w : World) → Selects query w tree (numbers hits) → All (IsLined parts tree) hits → count ≡ length hits
+    → Queries query w (hit_lines parts.names hits ++ answer_line (ok.Selected count)) w
+queries_told query parts tree hits count w selects lined e = record {
+  tree = tree;
+  answer = numbers hits;
+  selects = selects;
+  same = same_world w;
+  printed = ap (λ ls. ls ++ answer_line (ok.Selected count)) (lines-told parts.names tree hits lined) ∙ ap (λ n. flat_map (selected_line tree) (numbers hits) ++ answer_line (ok.Selected n)) (e ∙ sym (length-map hits (λ h. h.number)));
+}
+
+-- the lines of some first nodes were printed
+pub first_told : (query : List ℕ) (parts : Parts) (tree : Tree) (hits first later : List Hit) (text : List ℕ) (w : World) → hits ≡ first ++ later → Selects query w tree (numbers hits) → All (IsLined parts tree) hits
+    → text ≡ hit_lines parts.names first → PrintsFirst query w text
+first_told query parts tree hits first later text w whole selects lined is =
+    let split : numbers hits ≡ numbers first ++ numbers later = ap numbers whole ∙ map-append (λ (h : Hit). h.number) first later in
+    let front = (all-split (IsLined parts tree) first later (subst (λ (hs : List Hit). All (IsLined parts tree) hs) whole lined)).0 in
+    record {
+      tree = tree;
+      first = numbers first;
+      later = numbers later;
+      selects = subst (λ (ns : List ℕ). Selects query w tree ns) split selects;
+      printed = is ∙ lines-told parts.names tree first front;
+    }
+
+-- what was selected in the document that is held, with the lines of its nodes
+pub record IsFound (query : List ℕ) (parts : Parts) (w : World) (hits : List Hit) : Type 0 where
+  pub tree : Tree
+  pub held : w.state ≡ Some parts
+  pub selects : Selects query w tree (numbers hits)
+  pub lined : All (IsLined parts tree) hits
+
+-- all lines were printed
+pub query_done : {E : Type 0} (query : List ℕ) (parts : Parts) (w : World) (hits : List Hit) (before now : Option (List ℕ)) (count : ℕ) (done : Result (Unit {0}) E) (u : Unit {0}) → IsFound query parts w hits → Gathers before now parts.names hits done [] → done ≡ Ok u
+    → count ≡ length hits → (text : List ℕ) × Gets before now text × Queries query w (text ++ answer_line (ok.Selected count)) w
+query_done query parts w hits before now count done u found g is e =
+    let all : g.later ≡ [] = rw is at g.all in
+    let whole : hits ≡ g.first = g.whole ∙ (ap (λ hs. g.first ++ hs) all ∙ append-nil g.first) in
+    let same : hit_lines parts.names hits ≡ g.got = ap (hit_lines parts.names) whole ∙ (g.lines ∙ append-nil g.got) in
+    (g.got, g.gets, subst (λ (text : List ℕ). Queries query w (text ++ answer_line (ok.Selected count)) w) same (queries_told query parts found.tree hits count w found.selects found.lined e))
+
+-- those of some first nodes were
+pub query_stops : {E : Type 0} (query : List ℕ) (parts : Parts) (w : World) (hits : List Hit) (before now : Option (List ℕ)) (done : Result (Unit {0}) E) → IsFound query parts w hits → Gathers before now parts.names hits done []
+    → (text : List ℕ) × Gets before now text × (((text ≡ []) ⊎ ((no.Memory ≡ no.Memory) × PrintsFirst query w text)) × IsReady (Query query) w × Same w w)
+query_stops query parts w hits before now done found g =
+    let first = first_told query parts found.tree hits g.first g.later g.got w g.whole found.selects found.lined (sym (g.lines ∙ append-nil g.got)) in
+    (g.got, g.gets, (inr (refl, first), asks_ready (Query query) query parts w refl found.held, same_world w))
+
+-- the sink failed meanwhile
+pub query_fails : (query : List ℕ) (parts : Parts) (w : World) (hits : List Hit) (before now : Option (List ℕ)) → IsFound query parts w hits → GetsFront before now (hit_lines parts.names hits) → (out : List ℕ) × GetsFront before now out × Queries query w out w
+query_fails query parts w hits before now found front =
+    let line : List ℕ = answer_line (ok.Selected (length hits)) in
+    (hit_lines parts.names hits ++ line, GetsFront-first before now (hit_lines parts.names hits) line front, queries_told query parts found.tree hits (length hits) w found.selects found.lined refl)
+
+-- few reads for the query and the rules that are held are few for those that a command names
+pub asks_few : (text query : List ℕ) (state : State) (parts other : Parts) (before now : ℕ) → ReadsFew text parts.rules before now → state ≡ Some parts → Some text ≡ Some query → state ≡ Some other → ReadsFew query other.rules before now
+asks_few text query state parts other before now few held asked named =
+    let same : text ≡ query = same_Some text query asked in
+    let rules : parts ≡ other = same_Some parts other (sym held ∙ named) in
+    subst (λ (q : List ℕ). ReadsFew q other.rules before now) same (subst (λ (p : Parts). ReadsFew text p.rules before now) rules few)

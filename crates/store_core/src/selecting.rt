@@ -1,0 +1,69 @@
+// Finding what a query selects.
+ghost use Rattle.std.specs.Prelude.{◌≡◌, ◌<◌, ◌≤◌, ◌+◌, ◌^◌, ℕ, All, Some, IfOk, IfErr, slice_get};
+ghost use Rattle.plain_tree.specs.Tree.{Tree};
+ghost use Rattle.slt_grammar.specs.Automata.{hits, nodes_in};
+ghost use Rattle.slt_grammar.specs.Grammars.{value};
+ghost use Rattle.slt_grammar.specs.Keyed.{rules_of};
+ghost use Rattle.rule_runs.specs.Hits.{numbers, symbols_in};
+ghost use Rattle.selecting_automaton.specs.Bounds.{HasFewStates};
+ghost use Rattle.store_core.specs.Acts.{Act, query_asked};
+ghost use Rattle.store_core.specs.Printed.{hit_line};
+ghost use Rattle.store_core.specs.Reads.{ReadsFew, most_reads};
+ghost use Rattle.store_core.specs.Refusals.{Cause};
+ghost use Rattle.store_core.specs.Selecting.{Selects};
+ghost use Rattle.store_core.specs.Texts.{selected_line};
+ghost use Rattle.store_core.specs.StoreOf.{parts_of};
+ghost use Rattle.store_core.specs.Worlds.{AreLawfulParts, PartsStandFor, World};
+
+use crate::answer::Refusal;
+use crate::store::Store;
+use read_steps::Steps;
+use rule_runs::{FallTable, fall, rise};
+use selecting_automaton::{Selector, compile};
+use slt_grammar::{Falling, Grammar, Rising};
+use std::alloc::{AllocError, Global};
+use std::sync::ledger::Ledger;
+use xpath_parser::{parse, spells_one};
+
+/// The nodes that the query selects, found over the rules. It is refused with `BadQuery` where the text is no query, with
+/// `LargeQuery` where it is one that passes the limits, and with `Memory` for want of that.
+///
+/// Each rule is read once for each list of states in which runs meet it, whatever is answered.
+pub(crate) fn select<L: Ledger>(
+    alloc: Global,
+    text: &[u8],
+    store: &Store,
+    steps: &mut Steps<L>,
+) -> Result<FallTable, Refusal>
+    requires held { AreLawfulParts (parts_of store.now) }
+    ensures selects { IfOk result (λ found. (tree : Tree) (w : World) → w.state ≡ Some (parts_of store.now) → PartsStandFor (parts_of store.now) tree → Selects text.now w tree (numbers found)) }
+    ensures lines { IfOk result (λ found. (tree : Tree) → PartsStandFor (parts_of store.now) tree → All (λ hit. hit_line store.now.names hit ≡ selected_line tree hit.number) found) }
+    ensures refused { IfErr result (λ refusal. (act : Act) (old new : World) → query_asked act ≡ Some text.now → old.state ≡ Some (parts_of store.now) → Cause refusal act old new) }
+    ensures reads { ReadsFew text.now (rules_of store.now.grammar.rules) steps.old steps.new }
+{
+    // The call tells that the text spells one query alone.
+    spells_one();
+    let query = parse(alloc, text)?;
+    let selector = compile(alloc, &query, &store.names)?;
+    let found = run(alloc, &selector, &store.grammar, steps)?;
+    Ok(found)
+}
+
+// The nodes that the selector hits of all that the grammar stands for. It is refused only for want of memory.
+fn run<L: Ledger>(
+    alloc: Global,
+    selector: &Selector,
+    grammar: &Grammar,
+    steps: &mut Steps<L>,
+) -> Result<FallTable, AllocError>
+    requires { nodes_in (value (rules_of grammar.now.rules)) < 2 ^ 63 }
+    ensures hits { IfOk result (λ found. numbers found ≡ hits (⟦<Selector as Rising>⟧.algebra selector.now) (⟦<Selector as Falling>⟧.downward selector.now) (value (rules_of grammar.now.rules))) }
+    ensures symbols { IfOk result (λ found. All (λ hit. slice_get (symbols_in (value (rules_of grammar.now.rules))) hit.number ≡ Some hit.symbol) found) }
+    ensures reads { (parts steps_outside : ℕ) → HasFewStates (⟦<Selector as Rising>⟧.algebra selector.now) (⟦<Selector as Falling>⟧.downward selector.now) parts steps_outside
+        → steps.new ≤ steps.old + most_reads (rules_of grammar.now.rules) parts steps_outside }
+{
+    // The call tells that the rules are a grammar.
+    let _rules = grammar.rules();
+    let risen = rise(alloc, grammar, selector, steps)?;
+    fall(alloc, grammar, selector, &risen, steps)
+}

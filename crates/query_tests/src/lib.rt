@@ -1,4 +1,4 @@
-//! Tests of queries, and of runs over shared rules. The `automaton` that runs is no test
+//! Tests of queries, of runs over shared rules, and of the selectors that run to answer queries. The `automaton` that runs is no test
 //! itself, since definitions speak of its states.
 #![tactic(auto)]
 
@@ -7,3 +7,5 @@ pub mod automaton;
 mod queries;
 #[cfg(test)]
 mod runs;
+#[cfg(test)]
+mod selecting;

@@ -68,7 +68,7 @@ fn list(alloc: Global, fallen: &FallTable) -> Result<Vec<Hit>, AllocError> {
 }
 
 // The numbers of all answers, of which each second one is asked for its number alone.
-fn list_numbers(alloc: Global, fallen: &FallTable) -> Result<Vec<u64>, AllocError> {
+pub(crate) fn list_numbers(alloc: Global, fallen: &FallTable) -> Result<Vec<u64>, AllocError> {
     let mut numbers = Vec::new(alloc);
     let mut answers = Answers::new(alloc, fallen)?;
     for _pair in 0..fallen.count() {

@@ -8,7 +8,7 @@ use Rattle.slt_grammar.specs.Standing.{StandsFor}
 use Rattle.slt_grammar.specs.Terms.{Term}
 use Rattle.slt_grammar.specs.declared.rules.Rule.{Rule}
 use Rattle.segment_counts.specs.Weights.{node_weight}
-use Rattle.preorder_address.proofs.TreePlaces.{nodes-coded}
+use Rattle.segment_counts.proofs.Coded.{nodes-coded}
 use Rattle.grammar_file.specs.Files.{IsFileOf}
 use Rattle.grammar_file.proofs.Unique.{equal-files}
 

@@ -1,5 +1,5 @@
 // The names of a file.
-ghost use Rattle.std.specs.Prelude.{◌≡◌, ◌↔◌, [], ◌∷◌, IsTrue};
+ghost use Rattle.std.specs.Prelude.{◌≡◌, [], ◌∷◌};
 ghost use Rattle.plain_tree.specs.Lawful.{IsLawfulName};
 ghost use Rattle.plain_tree.specs.Tree.{kind_code};
 ghost use Rattle.grammar_file.specs.FileBytes.{list_bytes, name_bytes};
@@ -10,7 +10,7 @@ use crate::error::FileError;
 use crate::scan::Scan;
 use plain_tree::{Kind, Names};
 use std::alloc::Global;
-use xml_tokens::{is_name, is_xml};
+use xml_nodes::is_lawful_name;
 
 /// The names, in order.
 pub(crate) fn read_names(alloc: Global, scan: &mut Scan<'_>) -> Result<Names, FileError>
@@ -51,15 +51,5 @@ fn read_kind(scan: &mut Scan<'_>) -> Result<Kind, FileError>
         4 => Ok(Kind::Comment),
         5 => Ok(Kind::Instruction),
         _ => Err(FileError::Bad),
-    }
-}
-
-fn is_lawful_name(kind: Kind, name: &[u8]) -> bool
-    ensures { IsTrue result ↔ IsLawfulName kind name.now }
-{
-    match kind {
-        Kind::Element | Kind::Attribute => is_name(name),
-        Kind::Instruction => is_name(name) && !is_xml(name),
-        Kind::Document | Kind::Text | Kind::Comment => name.is_empty(),
     }
 }

@@ -16,7 +16,7 @@ use std::alloc::{AllocError, Global};
 use std::marker::Brand;
 use std::sync::ledger::{Blank, Ledger};
 use text_list::TextList;
-use xml_profile::lawful;
+use xml_nodes::lawful;
 
 /// Whether the list has exactly one lawful text for each node of the value that has one, in document order.
 ///

@@ -20,7 +20,8 @@ use Rattle.segment_counts.proofs.Telling.{total-told}
 use Rattle.preorder_address.specs.Chains.{IsAt}
 use Rattle.preorder_address.specs.Numberings.{AreCountsOf}
 use Rattle.preorder_address.specs.TreeNumbers.{kind_at}
-use Rattle.preorder_address.proofs.TreePlaces.{NodePlace, node-place, nodes-coded}
+use Rattle.preorder_address.proofs.TreePlaces.{NodePlace, node-place}
+use Rattle.segment_counts.proofs.Coded.{nodes-coded}
 
 -- what counts as a node is a symbol
 pub symbol-of : (l : Label) → 0 < node_weight l → (f : ℕ) × (l ≡ Symbol f)

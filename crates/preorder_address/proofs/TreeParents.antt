@@ -24,7 +24,8 @@ use Rattle.preorder_address.proofs.Lading.{listed-term}
 use Rattle.preorder_address.proofs.Naming.{value-last}
 use Rattle.preorder_address.proofs.ParentLists.{among-append, behind-terms}
 use Rattle.preorder_address.proofs.Sited.{laden-alone}
-use Rattle.preorder_address.proofs.TreePlaces.{listed-append, nodes-coded}
+use Rattle.preorder_address.proofs.TreePlaces.{listed-append}
+use Rattle.segment_counts.proofs.Coded.{nodes-coded}
 
 pub length-parents : (up : Option ℕ) (first : ℕ) (ts : Trees) → length (parents up first ts) ≡ node_count_all ts
 length-parents up first none = refl

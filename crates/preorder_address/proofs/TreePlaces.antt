@@ -14,6 +14,7 @@ use Rattle.slt_grammar.specs.Segments.{listed}
 use Rattle.slt_grammar.specs.Terms.{Term, Leaf, Node, Hole}
 use Rattle.slt_grammar.proofs.Standing.{values_of-append, texts_all-more, own}
 use Rattle.segment_counts.specs.Weights.{node_weight, text_weight, all_weight, valued}
+use Rattle.segment_counts.proofs.Coded.{nodes-coded}
 use Rattle.preorder_address.specs.TreeNumbers.{placed, siblings_behind}
 
 listed-before : (t : Term) (j k : List Label) → listed t j ++ k ≡ listed t (j ++ k)
@@ -74,13 +75,7 @@ own-first Comment n v ks = refl
 own-first Instruction n v ks = refl
 
 module _ (names : List (Kind × List ℕ)) where
-  -- the code of a list of trees has as many nodes as the trees
-  pub nodes-coded : (ts : Trees) (term : Term) → Codes names ts term → (k : List Label) → sum_by node_weight (listed term k) ≡ node_count_all ts + sum_by node_weight k
-  nodes-coded none term c k = ap (λ t. sum_by node_weight (listed t k)) c ∙ omega (arith, sum_by-cons node_weight Bottom k)
-  nodes-coded (more (node kind n v ks) ts) term c k =
-      ap (λ t. sum_by node_weight (listed t k)) c.6 ∙ omega (arith, sum_by-cons node_weight (Symbol c.0) (listed c.1 (listed c.2 k)), nodes-coded ks c.1 c.4 (listed c.2 k), nodes-coded ts c.2 c.5 k)
-
-  -- and with the bottoms twice as many labels and one
+  -- the code of a list of trees has, with the bottoms, twice as many labels as the trees have nodes, and one
   pub all-coded : (ts : Trees) (term : Term) → Codes names ts term → (k : List Label) → sum_by all_weight (listed term k) ≡ 2 * node_count_all ts + 1 + sum_by all_weight k
   all-coded none term c k = ap (λ t. sum_by all_weight (listed t k)) c ∙ omega (arith, sum_by-cons all_weight Bottom k)
   all-coded (more (node kind n v ks) ts) term c k =
@@ -173,7 +168,7 @@ module _ (names : List (Kind × List ℕ)) where
   of-others kind n v ks ts s e below c before f after p =
       let lb : List Label = listed below [] ++ before in
       let m : sum_by node_weight (Symbol s ∷ lb) ≡ suc (node_count_all ks + sum_by node_weight before) =
-      omega (arith, sum_by-cons node_weight (Symbol s) lb, sum_by-append node_weight (listed below []) before, nodes-coded ks below c []) in
+      omega (arith, sum_by-cons node_weight (Symbol s) lb, sum_by-append node_weight (listed below []) before, nodes-coded names ks below c []) in
       record {
         kind = p.kind;
         name = p.name;

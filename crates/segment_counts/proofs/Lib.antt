@@ -4,3 +4,4 @@ pub mod Tallying
 pub mod Sizes
 pub mod Rows
 pub mod Telling
+pub mod Coded

@@ -36,7 +36,7 @@ use Rattle.store_core.specs.Worlds.{Parts, AreLawfulParts, State, World, Same}
 use Rattle.store_core.specs.declared.answer.Answer.TheVariants as ok
 use Rattle.store_core.specs.declared.answer.Refusal.TheVariants as no
 use Rattle.store_core.proofs.HitLines.{lines-told}
-use Rattle.store_core.proofs.Sinks.{GetsFront-first}
+use Rattle.tree_outside.proofs.Sinks.{GetsFront-first}
 use Rattle.store_core.proofs.Walks.{weight-coded}
 
 -- where a document is held, a command with a query is ready

@@ -7,7 +7,7 @@ use Rattle.rule_runs.specs.declared.listing.Hit.{Hit}
 use Rattle.tree_outside.specs.Outside.{Gets, GetsFront, Writes}
 use Rattle.store_core.specs.Printed.{Gathers, Passes, hit_line, hit_lines}
 use Rattle.store_core.specs.Texts.{kind_word, node_line}
-use Rattle.store_core.proofs.Sinks.{Gets-append, GetsFront-after, GetsFront-first}
+use Rattle.tree_outside.proofs.Sinks.{Gets-append, GetsFront-after, GetsFront-first}
 
 -- bytes that pass, and then others
 pub passes-after : {E : Type 0} (a b c : Option (List ℕ)) (old x mid y new : List ℕ) (u : Unit {0}) (r : Result (Unit {0}) E)

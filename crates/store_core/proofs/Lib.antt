@@ -3,7 +3,6 @@ pub mod Feeds
 pub mod Folds
 pub mod FoundFiles
 pub mod GrammarFiles
-pub mod Sinks
 pub mod LeafTexts
 pub mod Rooms
 pub mod Walks

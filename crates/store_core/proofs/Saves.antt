@@ -6,7 +6,7 @@ use Rattle.value_cursor.specs.declared.cursor.Token.{Token}
 use Rattle.xml_nodes.specs.Pen.{Call, Pen, call_text, calls_text, new_pen}
 use Rattle.store_core.specs.Saving.{Place, start_place, call_at, place_after, with_call, token_calls, tokens_text, depth_of, text_at, most_text, pen_past, count_past}
 use Rattle.store_core.proofs.Rooms.{reserved, token_room}
-use Rattle.store_core.proofs.Sinks.{Gets-nil, Gets-append, GetsFront-first, GetsFront-after}
+use Rattle.tree_outside.proofs.Sinks.{Gets-nil, Gets-append, GetsFront-first, GetsFront-after}
 
 -- one call, and then the others
 pub calls_text-with_call : (pen : Pen) (call : Option Call) (cs : List Call) → calls_text pen (with_call call cs) ≡ text_at pen call ++ calls_text (pen_past pen call) cs

@@ -5,5 +5,4 @@ pub mod OneCut
 pub mod OneForm
 pub mod Pieces
 pub mod Runs
-pub mod Sinks
 pub mod Words

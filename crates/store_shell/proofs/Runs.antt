@@ -11,7 +11,7 @@ use Rattle.store_shell.specs.Forms.{Form, Empty, Long, Bad, Quit, Command, IsFor
 use Rattle.store_shell.specs.Runs.{One, DoesLine, Run}
 use Rattle.store_shell.specs.Serving.{Did, Stops, Quits}
 use Rattle.store_shell.proofs.OneForm.{no_quit}
-use Rattle.store_shell.proofs.Sinks.{Gets-append, Gets-nil}
+use Rattle.tree_outside.proofs.Sinks.{Gets-append, Gets-stays}
 
 -- the line isn't quit
 abbrev NoQuit : List ℕ → Type 0
@@ -29,7 +29,7 @@ Run-append (l ∷ ls) ms w m v a b h k =
     (h.0, h.1, h.2 ++ b, h.3, Run-append ls ms h.0 m v h.2 b h.4 k, ap (λ z. z ++ b) h.5 ∙ append_assoc h.1 h.2 b)
 
 pub Did-nil : (w : World) (x y : Option (List ℕ)) → Stays x y → Did [] w w x y
-Did-nil w x y h = record { no_quit = All-nil NoQuit; out = []; ran = (refl, refl); got = Gets-nil x y h }
+Did-nil w x y h = record { no_quit = All-nil NoQuit; out = []; ran = (refl, refl); got = Gets-stays x y h }
 
 pub Did-one : (line : List ℕ) (w v : World) (out : List ℕ) (x y : Option (List ℕ)) → Goes line w out v → Gets x y out → Did (line ∷ []) w v x y
 Did-one line w v out x y h g = record { no_quit = All-cons NoQuit line [] h.no_quit (All-nil NoQuit); out = out; ran = Run-one line w v out h.does; got = g }

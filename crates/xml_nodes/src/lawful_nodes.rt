@@ -14,7 +14,8 @@ pub fn lawful(kind: Kind, name: &[u8], value: &[u8]) -> bool
     is_lawful_name(kind, name) && is_lawful_value(kind, value)
 }
 
-fn is_lawful_name(kind: Kind, name: &[u8]) -> bool
+/// Whether a node of this kind may have this name.
+pub fn is_lawful_name(kind: Kind, name: &[u8]) -> bool
     ensures { IsTrue result ↔ IsLawfulName kind name.now }
 {
     match kind {

@@ -16,7 +16,7 @@ mod stage;
 mod writer;
 
 pub use builder::Builder;
-pub use lawful_nodes::lawful;
+pub use lawful_nodes::{is_lawful_name, lawful};
 pub use laws::{
     calls_save_document, calls_write_tree, document_leads, fragment_leads, leads_to_document,
     leads_to_fragment, saved_is_spelled, spells_document, spells_fragment, spells_one,

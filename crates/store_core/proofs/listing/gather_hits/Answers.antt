@@ -2,7 +2,7 @@ use Rattle.std.proofs.Common.{arith}
 use Rattle.std.proofs.lemmas.Result.{err_from_is_err_and}
 use Rattle.tree_outside.proofs.Beside.{Keeps-trans}
 use Rattle.store_core.proofs.Gathering.{gathering-begins, gathering-ends, gathering-fails, gathering-goes}
-use Rattle.store_core.proofs.Sinks.{Gets-nil}
+use Rattle.tree_outside.proofs.Sinks.{Gets-nil}
 use Rattle.store_core.proofs.listing.gather_hits.Goals as goal
 
 pub returns-in-Err-clause-gathers : goal.returns-in-Err-clause-gathers

@@ -3,7 +3,7 @@ use Rattle.std.proofs.lemmas.Result.{err_from_is_err_and}
 use Rattle.store_core.specs.CommandOf.{act_of}
 use Rattle.store_core.specs.Texts.{line_of}
 use Rattle.store_core.proofs.Printing.{comes_step}
-use Rattle.store_core.proofs.Sinks.{Gets-append, GetsFront-after}
+use Rattle.tree_outside.proofs.Sinks.{Gets-append, GetsFront-after}
 use Rattle.store_core.proofs.session.Session.command.Goals as goal
 
 pub returns-clause-step : goal.returns-clause-step

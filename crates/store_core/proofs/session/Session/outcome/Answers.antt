@@ -1,5 +1,5 @@
 use Rattle.std.proofs.Common.{[]}
-use Rattle.store_core.proofs.Sinks.{Gets-nil}
+use Rattle.tree_outside.proofs.Sinks.{Gets-nil}
 use Rattle.store_core.proofs.session.Session.outcome.Goals as goal
 
 pub returns-in-Load-clause-prints : goal.returns-in-Load-clause-prints

@@ -7,7 +7,7 @@ use Rattle.store_core.specs.Walking.{walk_text}
 use Rattle.store_core.specs.Worlds.{AreLawfulParts, world}
 use Rattle.store_core.specs.declared.answer.Answer.TheVariants.{Shown}
 use Rattle.store_core.proofs.Printing.{node_shown}
-use Rattle.store_core.proofs.Sinks.{GetsFront-first}
+use Rattle.tree_outside.proofs.Sinks.{GetsFront-first}
 use Rattle.store_core.proofs.session.Session.show.Goals as goal
 
 pub returns-in_err-write_node-clause-prints : goal.returns-in_err-write_node-clause-prints

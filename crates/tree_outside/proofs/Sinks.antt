@@ -1,12 +1,18 @@
 -- What a sink gets, over several writes.
-use Rattle.std.specs.Prelude.{ℕ, List, [], ◌++◌, Option, Some, None, Result, Ok, Err}
+use Rattle.std.specs.Prelude.{ℕ, List, [], ◌++◌, Option, Some, None}
 use Rattle.std.proofs.Common.{sym, ap, ◌∙◌, subst}
 use Rattle.std.proofs.lemmas.List.{append_assoc, append-nil}
-use Rattle.tree_outside.specs.Outside.{Gets, GetsFront, Writes}
+use Rattle.tree_outside.specs.Outside.{Gets, GetsFront, Stays}
 
+-- a sink that nobody writes to gets nothing
 pub Gets-nil : (a : Option (List ℕ)) → Gets a a []
 Gets-nil None = tt
 Gets-nil (Some got) = ap Some (sym (append-nil got))
+
+-- nor does one that only stays
+pub Gets-stays : (a b : Option (List ℕ)) → Stays a b → Gets a b []
+Gets-stays None b h = tt
+Gets-stays (Some got) b h = h ∙ ap Some (sym (append-nil got))
 
 pub Gets-append : (a b c : Option (List ℕ)) (x y : List ℕ) → Gets a b x → Gets b c y → Gets a c (x ++ y)
 Gets-append None b c x y h k = tt
@@ -27,8 +33,3 @@ GetsFront-after (Some got) b (Some now) x y h k =
     let P : Option (List ℕ) → Type 0 = λ o. GetsFront o (Some now) y in
     let r = subst P h k in
     (x ++ r.0, (r.1.0, ap (λ z. x ++ z) r.1.1 ∙ sym (append_assoc x r.0 r.1.0)), r.2 ∙ append_assoc got x r.0)
-
--- a write after these bytes
-pub Writes-after : {E : Type 0} (r : Result (Unit {0}) E) (a b c : Option (List ℕ)) (x y : List ℕ) → Gets a b x → Writes b c r y → Writes a c r (x ++ y)
-Writes-after (Ok u) a b c x y h k = Gets-append a b c x y h k
-Writes-after (Err e) a b c x y h k = GetsFront-after a b c x y h k

@@ -32,17 +32,17 @@ pub larger-within : (more most : ℕ) (G H : List Rule) → more ≤ most → Is
 larger-within more most G H l N = record { same = N.same; nodes = N.nodes; together = omega (arith, N.together, l); swept = N.swept }
 
 -- what a grammar became lighter it may become heavier again: both numbers are as great as a number can be
-pub no-larger-again : (G H J : List KeyedRule) (begin now slack : ℕ) → IsNoLarger (rules_of G) (rules_of H) → begin ≡ min (size (rules_of G) + length G) (2 ^ 64 - 1) → now ≡ min (size (rules_of H) + length H) (2 ^ 64 - 1)
-    → slack ≡ begin - now → IsLargerAtMost slack (rules_of H) (rules_of J) → IsNoLarger (rules_of G) (rules_of J)
-no-larger-again G H J begin now slack N b n s M = record {
+pub no-larger-again : (G H J : List KeyedRule) (begin times : ℕ) → IsNoLarger (rules_of G) (rules_of H) → begin ≡ min (size (rules_of G) + length G) (2 ^ 64 - 1)
+    → times ≤ begin - min (size (rules_of H) + length H) (2 ^ 64 - 1) → IsLargerAtMost times (rules_of H) (rules_of J) → IsNoLarger (rules_of G) (rules_of J)
+no-larger-again G H J begin times N b t M = record {
   same = M.same ∙ N.same;
   nodes = omega (arith, N.nodes, M.nodes);
-  together = within (size (rules_of G) + length (rules_of G)) (size (rules_of H) + length (rules_of H)) _ begin now slack (2 ^ 64 - 1) N.together (let l = length-rules_of G in omega (arith, b, l)) (let l = length-rules_of H in omega (arith, n, l)) s M.together;
+  together = within (size (rules_of G) + length (rules_of G)) (size (rules_of H) + length (rules_of H)) _ begin times (2 ^ 64 - 1) N.together (let l = length-rules_of G in omega (arith, b, l)) (let l = length-rules_of H in omega (arith, t, l)) M.together;
   swept = λ s. M.swept (N.swept s);
 }
   where
-    within : (g h j begin now slack top : ℕ) → h ≤ g → begin ≡ min g top → now ≡ min h top → slack ≡ begin - now → j ≤ h + slack → j ≤ g
-    within g h j begin now slack top l b n s m = omega (arith, l, b, n, s, m)
+    within : (g h j begin times top : ℕ) → h ≤ g → begin ≡ min g top → times ≤ begin - min h top → j ≤ h + times → j ≤ g
+    within g h j begin times top l b t m = omega (arith, l, b, t, m)
 
 module _ (G H : List KeyedRule) (v : value (rules_of H) ≡ value (rules_of G)) (w : IsSwept (rules_of G) → IsSwept (rules_of H)) where
   -- with one rule more, and less in size by one at least

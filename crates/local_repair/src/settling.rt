@@ -16,8 +16,8 @@ use std::alloc::{AllocError, Global};
 /// Settles a grammar for digrams of a rank within the bound, which is at most 8. The value stays, and the grammar isn't larger. It fails
 /// where memory is refused; the value is then the same too, and the grammar no larger.
 ///
-/// A settled grammar can become smaller still where a part stands in two rules and nowhere else. So the digrams that stand twice become
-/// rules too, once, and the grammar is settled again.
+/// A settled grammar can become smaller still where a part stands in two rules and nowhere else. So digrams that stand twice become rules
+/// too, once, as far as that takes no longer than settling did, and the grammar is settled again.
 pub fn settle(alloc: Global, grammar: &mut Grammar, bound: usize) -> Result<(), AllocError>
     requires { bound ≤ 8 }
     ensures settled { OnOk result (IsSettled (rules_of grammar.new.rules) bound) }
@@ -42,8 +42,8 @@ pub fn settle_touched(
 {
     let begin = weight(grammar);
     alternate(alloc, grammar, index, bound)?;
-    let slack = begin.saturating_sub(weight(grammar));
-    replace_twice(alloc, grammar, index, bound, slack)?;
+    let times = patience(grammar, begin);
+    replace_twice(alloc, grammar, index, bound, times)?;
     alternate(alloc, grammar, index, bound)
 }
 
@@ -52,6 +52,17 @@ fn weight(grammar: &Grammar) -> u64
     ensures { result ≡ min (size (rules_of grammar.now.rules) + length grammar.now.rules) (2 ^ 64 - 1) }
 {
     grammar.size().saturating_add(grammar.rules() as u64)
+}
+
+// How often digrams that stand twice may be replaced, so that size and rules together aren't more than at the beginning. Each time the
+// rules behind the new one move, so it is less often where there are many rules: in all, so many rules move as the grammar had nodes, and
+// some times as many.
+fn patience(grammar: &Grammar, begin: u64) -> u64
+    ensures { result ≤ begin - min (size (rules_of grammar.now.rules) + length grammar.now.rules) (2 ^ 64 - 1) }
+{
+    let rules = (grammar.rules() as u64).max(1);
+    let moves = (begin / rules).saturating_mul(16);
+    begin.saturating_sub(weight(grammar)).min(moves)
 }
 
 // Prunes and replaces in turn, until neither is left.

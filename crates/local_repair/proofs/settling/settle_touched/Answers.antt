@@ -3,11 +3,11 @@ use Rattle.local_repair.proofs.settling.settle_touched.Goals as goal
 
 pub returns-in_err-replace_twice-clause-kept : goal.returns-in_err-replace_twice-clause-kept
 returns-in_err-replace_twice-clause-kept c =
-    no-larger-again c.args.grammar.now.rules c.alternate.new.grammar.rules c.replace_twice.new.grammar.rules c.weight-begin.result c.weight.result c.saturating_sub-slack.result c.in_ok-alternate.ensures.kept c.weight-begin.ensures c.weight.ensures
-    c.saturating_sub-slack.ensures c.in_err-replace_twice.ensures.kept
+    no-larger-again c.args.grammar.now.rules c.alternate.new.grammar.rules c.replace_twice.new.grammar.rules c.weight-begin.result c.patience-times.result c.in_ok-alternate.ensures.kept c.weight-begin.ensures c.patience-times.ensures
+    c.in_err-replace_twice.ensures.kept
 
 pub returns-clause-kept : goal.returns-clause-kept
 returns-clause-kept c =
     no-larger-then _ _ _
-    (no-larger-again c.args.grammar.now.rules c.alternate.new.grammar.rules c.replace_twice.new.grammar.rules c.weight-begin.result c.weight.result c.saturating_sub-slack.result c.in_ok-alternate.ensures.kept c.weight-begin.ensures c.weight.ensures
-    c.saturating_sub-slack.ensures c.in_ok-replace_twice.ensures.kept) c.alternate-2.ensures.kept
+    (no-larger-again c.args.grammar.now.rules c.alternate.new.grammar.rules c.replace_twice.new.grammar.rules c.weight-begin.result c.patience-times.result c.in_ok-alternate.ensures.kept c.weight-begin.ensures c.patience-times.ensures
+    c.in_ok-replace_twice.ensures.kept) c.alternate-2.ensures.kept

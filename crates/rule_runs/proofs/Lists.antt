@@ -1,14 +1,28 @@
 -- Laws of lists and numbers.
-use Rattle.std.proofs.Common.{◌≡◌, ◌≢◌, ℕ, zero, suc, ◌+◌, ◌*◌, ◌^◌, ◌<◌, ◌≤◌, List, [], ◌∷◌, ◌++◌, length, reverse, sum_by, map, All, Some, None, Option, ◌⊎◌, inl, inr, slice_get, get_or, refl, sym, ap, arith, AllPairs}
+use Rattle.std.proofs.Common.{◌≡◌, ◌≢◌, ℕ, zero, suc, ◌+◌, ◌*◌, ◌^◌, ◌<◌, ◌≤◌, List, [], ◌∷◌, ◌++◌, length, take, drop, reverse, sum_by, map, All, Some, None, Option, ◌⊎◌, inl, inr, slice_get, get_or, refl, sym, ap, ◌∙◌, arith, AllPairs}
 use Rattle.std.proofs.lemmas.List.Elements.{All-append, All-cons, All-head, All-nil, All-tail, All-weaker}
 use Rattle.std.proofs.lemmas.Bool.{cases_lt}
-use Rattle.std.proofs.lemmas.List.{reverse-append}
+use Rattle.std.proofs.lemmas.List.{reverse-append, take-append-drop, length-reverse, length-drop}
+use Rattle.std.proofs.Math.Seq.{take-suc, drop-append_seam}
 use Rattle.std.proofs.lemmas.List.Kept.{AllPairs-cons}
 use Rattle.std.proofs.lemmas.List.Sums.{sum_by-append}
 use Rattle.std.proofs.Math.Nat.{pow-le-pow_right, mul-le-mul_right, one-le-pow, pow-succ'}
 
 pub reverse-push : {X : Type 0} (xs : List X) (x : X) → reverse (xs ++ x ∷ []) ≡ x ∷ reverse xs
 reverse-push xs x = reverse-append xs (x ∷ [])
+
+-- what is left of a reversed list behind so many
+pub reverse-front : {X : Type 0} (xs : List X) (k n : ℕ) → k + n ≡ length xs → reverse (take k xs) ≡ drop n (reverse xs)
+reverse-front xs k n e =
+    let r : reverse xs ≡ reverse (drop k xs) ++ reverse (take k xs) = ap reverse (sym (take-append-drop k xs)) ∙ reverse-append (take k xs) (drop k xs) in
+    let l : n ≡ length (reverse (drop k xs)) = omega (arith, length-reverse (drop k xs), length-drop k xs, e) in
+    sym (ap (drop n) r ∙ ap (λ m. drop m (reverse (drop k xs) ++ reverse (take k xs))) l ∙ drop-append_seam (reverse (drop k xs)) (reverse (take k xs)))
+
+-- one item more of two lists that begin alike
+pub take-alike : {X : Type 0} (xs ys : List X) (i : ℕ) (x : X) → take i xs ≡ take i ys → i < length xs → i < length ys → get_or xs i x ≡ get_or ys i x → take (i + 1) xs ≡ take (i + 1) ys
+take-alike xs ys i x e l m g =
+    let s : i + 1 ≡ suc i = omega arith in
+    rw s (take-suc xs i x l ∙ ap (λ zs. zs ++ get_or xs i x ∷ []) e ∙ ap (λ z. take i ys ++ z ∷ []) g ∙ sym (take-suc ys i x m))
 
 pub empty_reverse : {X : Type 0} (xs : List X) → length xs ≡ 0 → reverse xs ≡ []
 empty_reverse [] e = refl

@@ -2,7 +2,8 @@
 use Rattle.std.specs.Map.{lookup}
 use Rattle.std.proofs.lemmas.List.Elements.{All-cons, All-head, All-nil, All-tail}
 use Rattle.std.proofs.lemmas.Bool.{eqb-true, eq-eqb}
-use Rattle.std.proofs.Common.{◌≡◌, ◌≢◌, ◌&&◌, Bool, true, false, nat_eq, ℕ, suc, List, [], ◌∷◌, Some, None, Contains, refl, sym, ap, ◌∙◌, arith, cond, All}
+use Rattle.std.proofs.lemmas.Option.{slice_get_within, get_or_from_slice_get}
+use Rattle.std.proofs.Common.{◌≡◌, ◌≢◌, ◌&&◌, Bool, true, false, nat_eq, ℕ, suc, List, [], ◌∷◌, Some, None, Contains, slice_get, refl, sym, ap, ◌∙◌, arith, cond, All}
 use Rattle.rule_runs.specs.declared.spots.Spot.{Spot}
 use Rattle.rule_runs.proofs.Entries.{both}
 
@@ -29,6 +30,10 @@ module _ {K X : Type 0} (E : K → K → Bool) where
   pub found-in : ((a b : K) → E a b ≡ true → a ≡ b) → (p : K) (es : List (K × X)) (x : X) → Some x ≡ lookup (E p) es → Contains es (p, x)
   found-in same p [] x f = absurd (cc)
   found-in same p (e ∷ es) x f = cons-found (E p e.0) p e es x (same p e.0) f (found-in same p es x)
+
+  -- an entry that is found by its place
+  pub noted-in : ((a b : K) → E a b ≡ true → a ≡ b) → (p k : K) (es : List (K × X)) (i : ℕ) (x : X) → slice_get es i ≡ Some (k, x) → E k p ≡ true → Contains es (p, x)
+  noted-in same p k es i x e t = (i, slice_get_within es i (k, x) e, get_or_from_slice_get es i (k, x) (p, x) e ∙ ap (λ (k : K). (k, x)) (same k p t))
 
   cons-absent : (b : Bool) (p : K) (e : K × X) (es : List (K × X)) → (p ≡ e.0 → b ≡ true) → None ≡ cond b (Some e.1) (lookup (E p) es) → (None ≡ lookup (E p) es → All (λ e. e.0 ≢ p) es) → All (λ e. e.0 ≢ p) (e ∷ es)
   cons-absent true p e es k f rest = absurd (cc)

@@ -67,6 +67,11 @@ pub record Asks {S : Type 0} (G : List Rule) (l : Label) (before : List S) (pair
   pub others : rest ≡ drop (rank_at G pair.rule) before
   pub count : length pair.states.items ≡ rank_at G pair.rule
 
+-- the pair of a call of this rule over the topmost states is known, with this state at this place, and the others are left
+pub record IsKnownCall {S : Type 0} (G : List Rule) (known : List (RuleStates S × S)) (rule : ℕ) (before : List S) (place : ℕ) (state : S) (rest : List S) : Type 0 where
+  pub there : slice_get known place ≡ Some ((rule, take (rank_at G rule) before), state)
+  pub others : rest ≡ drop (rank_at G rule) before
+
 -- the frames' pairs
 abbrev pub keys_of : {S : Type 0} → List (Frame S) → List (RuleStates S)
 keys_of fs = map (λ f. key_of f.pair) fs

@@ -9,8 +9,9 @@ ghost use Rattle.rule_runs.specs.Risen.{IsPair, IsKnown, AreKnown, state_at};
 ghost use Rattle.rule_runs.specs.Frames.{Stands, Asks, Waits, AreKnownBut};
 
 use crate::body::read_body;
+use crate::calls::{Called, take_call};
 use crate::memo::{Memo, Pair};
-use crate::stack::{copy_at, pop_pair, pop_two};
+use crate::stack::{copy_at, pop_two};
 use read_steps::Steps;
 use slt_grammar::{Grammar, Label, Rising, RunState};
 use std::alloc::{AllocError, Global};
@@ -129,16 +130,13 @@ fn label_state<A: Rising>(
             stack.push(automaton.node(symbol, &kids, &rest)?)?;
             Ok(None)
         }
-        Label::Call(rule) => {
-            let pair = pop_pair(alloc, grammar, rule, stack)?;
-            match known.find(&pair) {
-                Some((_, state)) => {
-                    stack.push(state.copy()?)?;
-                    Ok(None)
-                }
-                None => Ok(Some(pair)),
+        Label::Call(rule) => match take_call(alloc, grammar, known, rule, stack)? {
+            Called::Known(_, state) => {
+                stack.push(state)?;
+                Ok(None)
             }
-        }
+            Called::Unknown(pair) => Ok(Some(pair)),
+        },
         _ => {
             stack.push(automaton.bottom()?)?;
             Ok(None)

@@ -14,12 +14,14 @@
 
 mod answers;
 mod body;
+mod calls;
 mod descent;
 mod falling;
 mod frame;
 mod listing;
 mod memo;
 mod notes;
+mod numbers;
 mod rising;
 mod spots;
 mod stack;

@@ -1,8 +1,10 @@
 // What a run upward knows of rules at states of their arguments.
-ghost use Rattle.std.specs.Prelude.{◌≡◌, ◌≢◌, ◌++◌, ◌<◌, [], ◌∷◌, length, slice_get, Some, IfSome, IfNone, IsSome, OnOk, All};
+ghost use Rattle.std.specs.Prelude.{◌≡◌, ◌≢◌, ◌++◌, ◌<◌, ◌≤◌, [], ◌∷◌, length, get_or, slice_get, take, reverse, vec_len, Some, IfSome, IfNone, IsSome, OnOk, All};
 ghost use Rattle.rule_runs.specs.Entries.{key_of};
 ghost use Rattle.rule_runs.specs.Risen.{keys, pair_at};
 
+use crate::numbers::put;
+use crate::stack::are_topmost;
 use indexmap::IndexMap;
 use slt_grammar::RunState;
 use std::alloc::{AllocError, Global};
@@ -19,6 +21,8 @@ pub(crate) struct Pair<S> {
 #[derive(Drop)]
 pub(crate) struct Memo<S: RunState> {
     known: IndexMap<Pair<S>, S>,
+    // For each rule the place where a pair of it was noted last. It is where to look first, and no more than that.
+    latest: Vec<usize>,
 }
 
 impl<S: RunState> Model for Memo<S> {
@@ -37,6 +41,22 @@ impl<S: RunState> Memo<S> {
     {
         Memo {
             known: IndexMap::new(alloc),
+            latest: Vec::new(alloc),
+        }
+    }
+
+    // The place and the state of the pair of a rule that was noted last, if it has the topmost states. Most pairs are found so, without a
+    // list of their states and without a hash.
+    pub(crate) fn latest(&self, rule: usize, rank: usize, stack: &Vec<S>) -> Option<(usize, &S)>
+        requires { rank ≤ vec_len stack.now }
+        ensures { IfSome result (λ r. slice_get self.now r.0 ≡ Some ((rule, take rank (reverse stack.now.items)), r.1.now)) }
+    {
+        let place = *self.latest.get(rule)?;
+        let (pair, state) = self.known.get_index(place)?;
+        if pair.rule == rule && are_topmost(&pair.states, rank, stack) {
+            Some((place, state))
+        } else {
+            None
         }
     }
 
@@ -74,6 +94,7 @@ impl<S: RunState> Memo<S> {
         requires { All (λ e. e.0 ≢ key_of pair) self.old }
         ensures ok { OnOk result (self.new ≡ self.old ++ (key_of pair, state) ∷ []) }
     {
+        put(&mut self.latest, pair.rule, self.known.len())?;
         match self.known.insert(pair, state) {
             Ok(_) => Ok(()),
             Err(_) => Err(AllocError),

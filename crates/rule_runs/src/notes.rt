@@ -8,8 +8,9 @@ ghost use Rattle.rule_runs.specs.Entries.{key_of};
 ghost use Rattle.rule_runs.specs.Risen.{IsPair, IsKnown, AreKnown, state_at, keys};
 ghost use Rattle.rule_runs.specs.Notes.{NoteIs, AreNotes};
 
+use crate::calls::{Called, take_call};
 use crate::memo::{Memo, Pair};
-use crate::stack::{copy_at, pop_pair, pop_two};
+use crate::stack::{copy_at, pop_two};
 use slt_grammar::{Grammar, Label, Rising, RunState};
 use std::alloc::{AllocError, Global};
 
@@ -45,17 +46,14 @@ fn note_label<A: Rising>(
             stack.push(automaton.node(symbol, &kids, &rest)?)?;
             Ok(Note::Symbol(symbol, kids, rest))
         }
-        Label::Call(rule) => {
-            let pair = pop_pair(alloc, grammar, rule, stack)?;
-            match known.find(&pair) {
-                Some((place, state)) => {
-                    stack.push(state.copy()?)?;
-                    Ok(Note::Call(place))
-                }
-                // The table knows each call.
-                None => unreachable!(),
+        Label::Call(rule) => match take_call(alloc, grammar, known, rule, stack)? {
+            Called::Known(place, state) => {
+                stack.push(state)?;
+                Ok(Note::Call(place))
             }
-        }
+            // The table knows each call.
+            Called::Unknown(_) => unreachable!(),
+        },
         _ => {
             stack.push(automaton.bottom()?)?;
             Ok(Note::Bottom)

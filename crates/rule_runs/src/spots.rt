@@ -1,6 +1,7 @@
 // What a run downward knows of pairs at down states of their roots.
 ghost use Rattle.std.specs.Prelude.{◌≡◌, ◌≢◌, ◌++◌, [], ◌∷◌, slice_get, Some, IfSome, IfNone, OnOk, Contains, All};
 
+use crate::numbers::put;
 use crate::told::Told;
 use indexmap::IndexMap;
 use slt_grammar::RunState;
@@ -25,6 +26,8 @@ pub(crate) struct Outcome<D: Drop> {
 #[derive(Drop)]
 pub(crate) struct Spots<D: RunState> {
     known: IndexMap<Spot<D>, Outcome<D>>,
+    // For each pair the place where a spot of it was noted last. It is where to look first, and no more than that.
+    latest: Vec<usize>,
 }
 
 impl<D: RunState> Model for Spots<D> {
@@ -43,13 +46,26 @@ impl<D: RunState> Spots<D> {
     {
         Spots {
             known: IndexMap::new(alloc),
+            latest: Vec::new(alloc),
         }
+    }
+
+    // The outcome of the spot of its pair that was noted last, if it is that one.
+    fn latest(&self, spot: &Spot<D>) -> Option<&Outcome<D>>
+        ensures { IfSome result (λ outcome. Contains self.now (spot.now, outcome.now)) }
+    {
+        let place = *self.latest.get(spot.pair)?;
+        let (noted, outcome) = self.known.get_index(place)?;
+        if noted == spot { Some(outcome) } else { None }
     }
 
     pub(crate) fn find(&self, spot: &Spot<D>) -> Option<&Outcome<D>>
         ensures found { IfSome result (λ outcome. Contains self.now (spot.now, outcome.now)) }
         ensures absent { IfNone result (All (λ e. e.0 ≢ spot.now) self.now) }
     {
+        if let Some(outcome) = self.latest(spot) {
+            return Some(outcome);
+        }
         match self.known.get(spot) {
             Some(outcome) => Some(outcome),
             None => None,
@@ -61,6 +77,7 @@ impl<D: RunState> Spots<D> {
         requires { All (λ e. e.0 ≢ spot) self.old }
         ensures ok { OnOk result (self.new ≡ self.old ++ (spot, outcome) ∷ []) }
     {
+        put(&mut self.latest, spot.pair, self.known.len())?;
         match self.known.insert(spot, outcome) {
             Ok(_) => Ok(()),
             Err(_) => Err(AllocError),

@@ -1,5 +1,5 @@
 // States of terms on a stack, that of the last term at the bottom.
-ghost use Rattle.std.specs.Prelude.{◌≡◌, ◌++◌, ◌<◌, ◌≤◌, ◌∷◌, get_or, reverse, vec_len, length, IfOk};
+ghost use Rattle.std.specs.Prelude.{◌≡◌, ◌++◌, ◌<◌, ◌≤◌, ◌∷◌, true, get_or, take, drop, reverse, vec_len, length, IfOk};
 ghost use Rattle.slt_grammar.specs.Grammars.{rank_at};
 ghost use Rattle.slt_grammar.specs.Keyed.{rules_of};
 ghost use Rattle.rule_runs.specs.Frames.{Asks};
@@ -41,6 +41,30 @@ fn pop_many<S: Drop>(alloc: Global, stack: &mut Vec<S>, count: usize) -> Result<
         taken.push(state)?;
     }
     Ok(taken)
+}
+
+// Whether these are the topmost states, so many, the topmost first.
+pub(crate) fn are_topmost<S: RunState>(states: &Vec<S>, count: usize, stack: &Vec<S>) -> bool
+    requires { count ≤ vec_len stack.now }
+    ensures { result ≡ true → states.now.items ≡ take count (reverse stack.now.items) }
+{
+    if states.len() != count {
+        return false;
+    }
+    'states: for i in 0..count {
+        if states[i] != stack[stack.len() - 1 - i] {
+            return false;
+        }
+    }
+    true
+}
+
+// Takes the topmost states off.
+pub(crate) fn drop_top<S: Drop>(stack: &mut Vec<S>, count: usize)
+    requires { count ≤ vec_len stack.old }
+    ensures { reverse stack.new.items ≡ drop count (reverse stack.old.items) }
+{
+    stack.truncate(stack.len() - count);
 }
 
 // The pair of a call over the topmost states, which are taken off.

@@ -1,6 +1,5 @@
 -- Cells of an index, and rules that get other places.
 use Rattle.std.proofs.Common.{◌≡◌, ◌≢◌, ◌<◌, ◌≤◌, ◌+◌, ◌⊎◌, inl, inr, ℕ, zero, suc, List, [], ◌∷◌, map, length, get_or, Option, Some, None, Result, Ok, Err, OnOk, OnErr, refl, ap, sym, ◌∙◌, subst, arith}
-use Rattle.std.proofs.Common.{set, length-set, get_or-set_same, get_or-set_other}
 use Rattle.std.proofs.lemmas.Bool.{cases_lt, cases_eq}
 use Rattle.std.proofs.lemmas.List.{get_or_past}
 use Rattle.rule_arena.specs.declared.key.Key.{Key}
@@ -14,7 +13,7 @@ use Rattle.slt_grammar.specs.declared.digram.Digram.{Digram}
 use Rattle.digram_index.specs.Numbers.{Numbering, place_of, IsGiven}
 use Rattle.digram_index.specs.Spots.{Spot, Entered, spot_at}
 use Rattle.digram_index.specs.Digrams.{Cell}
-use Rattle.digram_index.specs.Linked.{label_of, IsKnown, digram_of, cell_of, AreKnown, AreNamed, no_key, shifted_cell, unshifted_cell}
+use Rattle.digram_index.specs.Linked.{label_of, IsKnown, digram_of, cell_of, AreKnown, shifted_cell, unshifted_cell}
 
 pub cell-at : (ns : List ℕ) (ss : List (Option Spot)) (k : ℕ) → get_or (map (cell_of ns) ss) k None ≡ cell_of ns (get_or ss k None)
 cell-at ns [] k = refl
@@ -132,26 +131,12 @@ cell-unshifted n n' e place K M L k =
         let l = label-unshifted n.numbers n'.numbers place s.pattern.lower M (K.lower k s x) N.1 in
         ap (cell_of n'.numbers) x ∙ (rw (u, l) refl) ∙ ap (λ (o : Option Spot). unshifted_cell place (cell_of n.numbers o)) (sym x)
 
--- a key that stands at its number is there
-named-within : (keys : List Key) (k : ℕ) → (get_or keys k (no_key k)).number ≡ k → k < length keys
-named-within keys k e = at (cases_lt k (length keys))
-  where
-    at : (k < length keys) ⊎ (length keys ≤ k) → k < length keys
-    at (inl h) = h
-    at (inr h) = absurd (let z = ap (λ (x : Key). x.number) (get_or_past keys k (no_key k) h) in omega arith)
-
 -- more room changes no occurrence
 pub knowns-spots : (n n' : Numbering) (e e' : Entered) → AreKnown n e → ((k : ℕ) → spot_at e' k ≡ spot_at e k) → n'.numbers ≡ n.numbers → AreKnown n' e'
 knowns-spots n n' e e' K q m = record {
   upper = λ k s h. subst (λ ns. IsKnown ns s.pattern.upper) (sym m) (K.upper k s (sym (q k) ∙ h));
   lower = λ k s h. subst (λ ns. IsKnown ns s.pattern.lower) (sym m) (K.lower k s (sym (q k) ∙ h));
   small = λ k s h. K.small k s (sym (q k) ∙ h);
-}
-
-pub named-grown : (e e' : Entered) (keys keys' : List Key) → AreNamed e keys → ((k : ℕ) → spot_at e' k ≡ spot_at e k) → ((k : ℕ) (d : Key) → k < length keys → get_or keys' k d ≡ get_or keys k d) → length e'.spots ≤ length keys' → AreNamed e' keys'
-named-grown e e' keys keys' N q kept l = record {
-  named = λ k s h. let z = N.named k s (sym (q k) ∙ h) in ap (λ (x : Key). x.number) (kept k (no_key k) (named-within keys k z)) ∙ z;
-  room = l;
 }
 
 pub by-result : {X E : Type 0} (A B : Type 0) (r : Result X E) → OnOk r A → OnErr r B → A ⊎ B
@@ -180,35 +165,21 @@ knowns-added n e e' j u p K here others ku kl kr = record {
         (subst (λ (r : Pattern). IsKnown n.numbers r.upper) (sym q) ku, subst (λ (r : Pattern). IsKnown n.numbers r.lower) (sym q) kl, subst (λ (r : Pattern). r.rank < 16) (sym q) kr)
     all k s h (inr x) = let o = sym (others k x) ∙ h in (K.upper k s o, K.lower k s o, K.small k s o)
 
-pub named-added : (e e' : Entered) (keys : List Key) (j : ℕ) (key : Key) → AreNamed e keys → j ≡ key.number → j < length e.spots → length e'.spots ≡ length e.spots → ((k : ℕ) → k ≢ j → spot_at e' k ≡ spot_at e k) → AreNamed e' (set keys j key)
-named-added e e' keys j key N q h l others = record {
-  named = λ k s x. at k s x (cases_eq k j);
-  room = let r = N.room in let z = length-set keys j key in omega arith;
-}
+-- a linked number is one of those for which there is room
+pub spot-within : (e : Entered) (k : ℕ) (s : Spot) → spot_at e k ≡ Some s → k < length e.spots
+spot-within e k s h = at (cases_lt k (length e.spots))
   where
-    at : (k : ℕ) (s : Spot) → spot_at e' k ≡ Some s → (k ≡ j) ⊎ (k ≡ j → ⊥) → (get_or (set keys j key) k (no_key k)).number ≡ k
-    at k s x (inl z) =
-        let g = get_or-set_same keys j key (no_key k) (let r = N.room in omega arith) in
-        ap (λ i. (get_or (set keys j key) i (no_key k)).number) z ∙ ap (λ (m : Key). m.number) g ∙ sym q ∙ sym z
-    at k s x (inr z) = ap (λ (m : Key). m.number) (get_or-set_other keys j k key (no_key k) z) ∙ N.named k s (sym (others k z) ∙ x)
-
--- a key that is read at a linked number
-pub named-read : (keys : List Key) (k : ℕ) (key : Key) → (get_or keys k (no_key k)).number ≡ k → key ≡ get_or keys k key → key.number ≡ k
-named-read keys k key e x = ap (λ (m : Key). m.number) (x ∙ any keys k key (no_key k) (named-within keys k e)) ∙ e
-  where
-    any : (xs : List Key) (k : ℕ) (a b : Key) → k < length xs → get_or xs k a ≡ get_or xs k b
-    any [] k a b h = absurd (omega arith)
-    any (x ∷ xs) zero a b h = refl
-    any (x ∷ xs) (suc k) a b h = any xs k a b (omega arith)
+    at : (k < length e.spots) ⊎ (length e.spots ≤ k) → k < length e.spots
+    at (inl l) = l
+    at (inr l) = absurd (let z : None ≡ Some s = sym (get_or_past e.spots k None l) ∙ h in cc)
 
 -- the linked occurrence of a spot
-pub spot-linked : (n : Numbering) (e : Entered) (keys : List Key) (k : ℕ) (key : Key) (u : ℕ) (p : Pattern) (d : Digram) → AreNamed e keys → spot_at e k ≡ Some (record { pattern = p; upper = u }) → key ≡ get_or keys k key → digram_of n.numbers p ≡ d
+pub spot-linked : (n : Numbering) (e : Entered) (k : ℕ) (key : Key) (u : ℕ) (p : Pattern) (d : Digram) → spot_at e k ≡ Some (record { pattern = p; upper = u }) → key.number ≡ k → digram_of n.numbers p ≡ d
     → (o : Cell) × ((get_or (map (cell_of n.numbers) e.spots) key.number None ≡ Some o) × (o.digram ≡ d))
-spot-linked n e keys k key u p d N s x q =
-    let z = named-read keys k key (N.named k (record { pattern = p; upper = u }) s) x in (
-      record { digram = digram_of n.numbers p; rank = p.rank; upper = u },
-      (ap (λ j. get_or (map (cell_of n.numbers) e.spots) j None) z ∙ cell-spot n e k (record { pattern = p; upper = u }) s, q),
-    )
+spot-linked n e k key u p d s z q = (
+  record { digram = digram_of n.numbers p; rank = p.rank; upper = u },
+  (ap (λ j. get_or (map (cell_of n.numbers) e.spots) j None) z ∙ cell-spot n e k (record { pattern = p; upper = u }) s, q),
+)
 
 -- a digram that no known pattern has is in no cell
 pub unknown-nowhere : (n : Numbering) (e : Entered) (d : Digram) → AreKnown n e → ((p : Pattern) → IsKnown n.numbers p.upper → IsKnown n.numbers p.lower → digram_of n.numbers p ≢ d)

@@ -1,6 +1,6 @@
 -- What contracts see of an index, and how it is kept.
 use Rattle.slt_grammar.specs.contracts.digram.DigramPartialEq.TheImpl as eqs
-use Rattle.std.specs.Prelude.{◌≡◌, ◌≢◌, ◌<◌, ◌≤◌, ◌+◌, if◌then◌else◌, ℕ, suc, List, [], ◌∷◌, length, get_or, Option, Some, None}
+use Rattle.std.specs.Prelude.{◌≡◌, ◌≢◌, ◌<◌, ◌+◌, if◌then◌else◌, ℕ, List, [], ◌∷◌, length, get_or, Option, Some, None}
 use Rattle.rule_arena.specs.declared.key.Key.{Key}
 use Rattle.rule_arena.specs.declared.label.Label.{Label}
 use Rattle.rule_arena.specs.declared.label.Label.TheVariants.{Bottom, Symbol, Call, Param}
@@ -63,15 +63,6 @@ pub record AreKnown (n : Numbering) (e : Entered) : Type 0 where
   pub upper : (k : ℕ) (s : Spot) → spot_at e k ≡ Some s → IsKnown n.numbers s.pattern.upper
   pub lower : (k : ℕ) (s : Spot) → spot_at e k ≡ Some s → IsKnown n.numbers s.pattern.lower
   pub small : (k : ℕ) (s : Spot) → spot_at e k ≡ Some s → s.pattern.rank < 16
-
--- where no key is
-abbrev pub no_key : ℕ → Key
-no_key k = record { number = suc k }
-
--- each linked lower node's key stands at its number
-pub record AreNamed (e : Entered) (keys : List Key) : Type 0 where
-  pub named : (k : ℕ) (s : Spot) → spot_at e k ≡ Some s → (get_or keys k (no_key k)).number ≡ k
-  pub room : length e.spots ≤ length keys
 
 -- an occurrence once a rule was put before the rule at place
 abbrev pub shifted_digram : ℕ → Digram → Digram

@@ -1,5 +1,5 @@
 // The index of the digrams of a grammar.
-ghost use Rattle.std.specs.Prelude.{◌≡◌, ◌≢◌, ◌+◌, ◌<◌, ◌≤◌, ℕ, [], length, get_or, Some, None, OnOk, OnErr, IfOk, IfSome, IfNone, IsOk, MatchBool};
+ghost use Rattle.std.specs.Prelude.{◌≡◌, ◌≢◌, ◌+◌, ◌<◌, ◌≤◌, ℕ, [], length, Some, None, OnOk, OnErr, IfOk, IfSome, IfNone, IsOk, MatchBool};
 ghost use Rattle.slt_grammar.specs.Algebras.{ranks_of};
 ghost use Rattle.slt_grammar.specs.Keyed.{rules_of};
 ghost use Rattle.slt_grammar.specs.Names.{Call};
@@ -22,8 +22,6 @@ use std::sync::ledger::{Blank, Ledger};
 pub struct Index {
     numbers: Numbers,
     entries: Entries,
-    // for each lower node its key
-    keys: Vec<Key>,
 }
 
 impl Model for Index {
@@ -32,7 +30,7 @@ impl Model for Index {
 
     ghost Value = { Linked };
 
-    ghost use Rattle.digram_index.specs.Linked.{cell_of, AreKnown, AreNamed};
+    ghost use Rattle.digram_index.specs.Linked.{cell_of, AreKnown};
 
     ghost view = { λ a. record {
       rules = length a.numbers.numbers;
@@ -41,7 +39,7 @@ impl Model for Index {
       spare_rules = a.numbers.spare;
     } };
 
-    ghost invariant = { λ a. AreKnown a.numbers a.entries × AreNamed a.entries a.keys.items };
+    ghost invariant = { λ a. AreKnown a.numbers a.entries };
 }
 
 impl Index {
@@ -60,11 +58,7 @@ impl Index {
     {
         let numbers = Numbers::new(alloc, rules)?;
         let entries = Entries::new(alloc)?;
-        Ok(Index {
-            numbers,
-            entries,
-            keys: Vec::new(alloc),
-        })
+        Ok(Index { numbers, entries })
     }
 
     /// Makes room for more occurrences of nodes whose numbers are below the grammar's limit, and for more rules.
@@ -82,9 +76,7 @@ impl Index {
     {
         self.numbers.reserve(rules)?;
         self.entries.reserve(more)?;
-        let limit = grammar.limit();
-        fill_keys(&mut self.keys, limit)?;
-        self.entries.extend(limit)
+        self.entries.extend(grammar.limit())
     }
 
     /// Adds one occurrence of the grammar, named by its lower node.
@@ -104,7 +96,7 @@ impl Index {
         let reading = read::<Brand>(grammar, lower, Blank::new(1));
         let number = lower.number();
         self.extend(grammar, number)?;
-        self.add(lower, reading.upper.number(), reading.digram, reading.rank)
+        self.add(number, reading.upper, reading.digram, reading.rank)
     }
 
     /// Whether a node is the lower node of a linked occurrence.
@@ -142,6 +134,8 @@ impl Index {
         ensures occurs { IfSome result (λ key. (o : Cell) × (OccursAt grammar.now.rules key o × (o.digram ≡ digram))) }
     {
         let _limit = grammar.limit();
+        // The call tells that the numbers of lower nodes are small.
+        let _len = self.entries.len();
         if !is_known(&self.numbers, digram.upper) {
             return None;
         }
@@ -155,7 +149,7 @@ impl Index {
             rank: rank_of(grammar, digram),
         };
         match self.entries.first(pattern) {
-            Some(number) => Some(self.keys[number]),
+            Some(number) => Some(Key::of(number)),
             None => None,
         }
     }
@@ -221,9 +215,7 @@ impl Index {
         if number < self.entries.len() {
             return Ok(());
         }
-        let limit = grammar.limit();
-        fill_keys(&mut self.keys, limit)?;
-        self.entries.extend(limit)
+        self.entries.extend(grammar.limit())
     }
 
     /// Takes an occurrence away, named by its lower node.
@@ -241,20 +233,20 @@ impl Index {
     // Adds an occurrence whose labels were read.
     fn add(
         &mut self,
-        lower: Key,
-        upper: usize,
+        lower: usize,
+        upper: Key,
         digram: Digram,
         rank: usize,
     ) -> Result<(), AllocError>
-        requires room { lower.number < length self.old.cells }
-        requires free { cell self.old lower.number ≡ None }
+        requires room { lower < length self.old.cells }
+        requires free { cell self.old lower ≡ None }
         requires upper { (q : ℕ) → digram.upper ≡ Call q → q < self.old.rules }
         requires lower { (q : ℕ) → digram.lower ≡ Call q → q < self.old.rules }
         requires small { rank < 16 }
-        ensures ok { OnOk result (cell self.new lower.number ≡ Some (record { digram = digram; rank = rank; upper = upper })) }
-        ensures err { OnErr result (cell self.new lower.number ≡ None) }
+        ensures ok { OnOk result (cell self.new lower ≡ Some (record { digram = digram; rank = rank; upper = upper.number })) }
+        ensures err { OnErr result (cell self.new lower ≡ None) }
         ensures rules { self.new.rules ≡ self.old.rules }
-        ensures others { (k : ℕ) → k ≢ lower.number → cell self.new k ≡ cell self.old k }
+        ensures others { (k : ℕ) → k ≢ lower → cell self.new k ≡ cell self.old k }
         ensures room { length self.new.cells ≡ length self.old.cells }
         ensures spare { (self.old.spare_links ≤ self.new.spare_links + 1) × (self.new.spare_rules ≡ self.old.spare_rules) }
         ensures succeeds { 0 < self.old.spare_links → IsOk result }
@@ -265,9 +257,7 @@ impl Index {
             lower: mark_of(&self.numbers, digram.lower),
             rank,
         };
-        let number = lower.number();
-        self.keys[number] = lower;
-        self.entries.add(number, upper, pattern)
+        self.entries.add(lower, upper, pattern)
     }
 
     /// Gives a number to a rule that is put before the rule at a place.
@@ -294,23 +284,6 @@ impl Index {
     {
         self.numbers.remove(place);
     }
-}
-
-// Adds keys until there are `limit`.
-fn fill_keys(keys: &mut Vec<Key>, limit: usize) -> Result<(), AllocError>
-    ensures kept { (k : ℕ) (d : Key) → k < length keys.old.items → get_or keys.new.items k d ≡ get_or keys.old.items k d }
-    ensures more { length keys.old.items ≤ length keys.new.items }
-    ensures room { OnOk result (limit ≤ length keys.new.items) }
-    ensures succeeds { limit ≤ length keys.old.items → IsOk result }
-{
-    let count = keys.len();
-    if count < limit {
-        keys.reserve_exact(limit - count)?;
-    }
-    for _ in count..limit {
-        keys.push(Key::default())?;
-    }
-    Ok(())
 }
 
 // Whether a label is no call, or one of a rule that the index knows.

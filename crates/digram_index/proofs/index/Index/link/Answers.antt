@@ -5,6 +5,5 @@ use Rattle.digram_index.proofs.index.Index.link.Goals as goal
 
 pub returns-clause-linked : goal.returns-clause-linked
 returns-clause-linked c = on-ok _ _ c.add.result (λ e o O.
-    e
-    ∙ ap (λ u. Some (record { digram = c.read-reading.result.digram; rank = c.read-reading.result.rank; upper = u })) c.number.ensures
+    rw (← c.number-number.ensures) e
     ∙ ap (λ (x : Cell). Some x) (sym (c.read-reading.ensures.told o O))) c.add.ensures.ok

@@ -7,7 +7,7 @@ use Rattle.rule_arena.specs.Cutting.{Freed}
 use Rattle.rule_arena.specs.Slots.{KeysFit}
 use Rattle.rule_arena.specs.Terms.{Node}
 use Rattle.rule_arena.specs.declared.key.Key.{Key}
-use Rattle.rule_arena.specs.declared.cell.Cell.{Cell}
+use Rattle.rule_arena.specs.Linked.{Cell}
 use Rattle.rule_arena.proofs.CellLemmas.{has, some_of}
 use Rattle.rule_arena.proofs.ChangeLemmas.{changed-none}
 use Rattle.rule_arena.proofs.CutLemmas.{among}

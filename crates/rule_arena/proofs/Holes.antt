@@ -4,7 +4,7 @@ use Rattle.std.proofs.lemmas.Bool.{eq-eqb}
 use Rattle.std.proofs.lemmas.Bool.Decides.{eqb_tells}
 use Rattle.rule_arena.specs.declared.label.Label.{Label}
 use Rattle.rule_arena.specs.declared.key.Key.{Key}
-use Rattle.rule_arena.specs.declared.cell.Cell.{Cell}
+use Rattle.rule_arena.specs.Linked.{Cell}
 use Rattle.rule_arena.specs.Terms.{Node, key_in}
 use Rattle.rule_arena.specs.Taking.{regrown}
 use Rattle.rule_arena.specs.Cutting.{Lacks}

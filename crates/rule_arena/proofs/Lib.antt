@@ -3,6 +3,10 @@ pub mod ListLemmas
 pub mod PreorderLemmas
 pub mod RoomLemmas
 pub mod ChangeLemmas
+pub mod ShapeLemmas
+pub mod SeenLemmas
+pub mod TiedLemmas
+pub mod KidWrites
 pub mod StandingLemmas
 pub mod PathLemmas
 pub mod Told
@@ -18,11 +22,13 @@ pub mod Spliced
 pub mod AddLemmas
 pub mod Added
 pub mod FreeLemmas
+pub mod FreeTied
 pub mod CutLemmas
 pub mod FitLemmas
 pub mod NodeCounts
 pub mod Rises
 pub mod Climbs
+pub mod SiblingClimbs
 pub mod Puts
 pub mod Holes
 pub mod PutLemmas

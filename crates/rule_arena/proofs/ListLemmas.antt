@@ -1,5 +1,5 @@
 -- Items of lists by their places.
-use Rattle.std.proofs.Common.{◌≡◌, ◌⊎◌, inl, inr, ℕ, zero, suc, ◌+◌, ◌-◌, ◌<◌, ◌≤◌, List, [], ◌∷◌, ◌++◌, length, take, drop, Some, slice_get, refl, ap, arith}
+use Rattle.std.proofs.Common.{◌≡◌, ◌≢◌, ◌⊎◌, inl, inr, ℕ, zero, suc, ◌+◌, ◌-◌, ◌<◌, ◌≤◌, List, [], ◌∷◌, ◌++◌, length, take, drop, set, Some, None, slice_get, refl, ap, arith}
 
 -- an item of two lists is from one of them
 pub get-append : {X : Type 0} (xs ys : List X) (j : ℕ) (k : X) → slice_get (xs ++ ys) j ≡ Some k → ((j < length xs) × (slice_get xs j ≡ Some k)) ⊎ ((length xs ≤ j) × (slice_get ys (j - length xs) ≡ Some k))
@@ -27,3 +27,21 @@ pub length-take-within : {X : Type 0} (n : ℕ) (xs : List X) (k : X) → slice_
 length-take-within zero xs k e = refl
 length-take-within (suc n) [] k e = absurd (cc)
 length-take-within (suc n) (x ∷ xs) k e = ap suc (length-take-within n xs k e)
+
+pub get-past : {X : Type 0} (xs : List X) (j : ℕ) → length xs ≤ j → slice_get xs j ≡ None
+get-past [] j h = refl
+get-past (x ∷ xs) zero h = absurd (omega arith)
+get-past (x ∷ xs) (suc j) h = get-past xs j (omega arith)
+
+-- an item that is set, and the others
+pub set_same : {X : Type 0} (xs : List X) (j : ℕ) (x y : X) → slice_get (set xs j x) j ≡ Some y → y ≡ x
+set_same [] j x y e = absurd (cc)
+set_same (m ∷ xs) zero x y e = cc
+set_same (m ∷ xs) (suc j) x y e = set_same xs j x y e
+
+pub set_other : {X : Type 0} (xs : List X) (j : ℕ) (x : X) (i : ℕ) → i ≢ j → slice_get xs i ≡ slice_get (set xs j x) i
+set_other [] j x i n = refl
+set_other (m ∷ xs) zero x zero n = absurd (n refl)
+set_other (m ∷ xs) zero x (suc i) n = refl
+set_other (m ∷ xs) (suc j) x zero n = refl
+set_other (m ∷ xs) (suc j) x (suc i) n = set_other xs j x i (λ e. n (ap suc e))

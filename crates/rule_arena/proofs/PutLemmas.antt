@@ -4,7 +4,7 @@ use Rattle.std.proofs.lemmas.Bool.{cases_eq}
 use Rattle.slab.specs.Slab.{Slab, get}
 use Rattle.rule_arena.specs.declared.key.Key.{Key}
 use Rattle.rule_arena.specs.declared.label.Label.{Label}
-use Rattle.rule_arena.specs.declared.cell.Cell.{Cell}
+use Rattle.rule_arena.specs.Linked.{Cell}
 use Rattle.rule_arena.specs.Preorder.{subterm, with_subterm}
 use Rattle.rule_arena.specs.Terms.{Node, term_at, key_in, kids_of}
 use Rattle.rule_arena.specs.Taking.{regrown}

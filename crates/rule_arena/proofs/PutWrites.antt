@@ -3,9 +3,10 @@ use Rattle.std.proofs.Common.{◌≡◌, ◌≢◌, ◌⊎◌, inl, inr, ℕ, su
 use Rattle.slab.specs.Slab.{Slab, get}
 use Rattle.rule_arena.specs.Changing.{changed, adopted, with_kids}
 use Rattle.rule_arena.specs.declared.key.Key.{Key}
-use Rattle.rule_arena.specs.declared.cell.Cell.{Cell}
+use Rattle.rule_arena.specs.Linked.{Cell}
 use Rattle.rule_arena.specs.Terms.{Apart, AreDistinctKeys}
 use Rattle.rule_arena.specs.Cutting.{Lacks}
+use Rattle.rule_arena.specs.Siblings.{Tied, parent_at}
 use Rattle.rule_arena.specs.Slots.{Forest, tops, flatten, Lies}
 use Rattle.rule_arena.specs.Slots.Forest.{End}
 use Rattle.rule_arena.proofs.ListLemmas.{get-append, get-take, get-drop, length-take-within}
@@ -73,7 +74,7 @@ module _ (slots : Slab Cell) (x : Key) (Y : Family (get slots) x) (A : Above (ge
       let p : c.parent ≡ Some Z.link = ap (λ (z : Cell). z.parent) (same_cell c Z.cell (get slots k.number) e s) ∙ Z.parent in
       other j Z.link p (record { cell = Z.cell; link = Z.link; slot = s; parent = Z.parent; from = Z.from }) refl
 
-  apart_x : Apart ks x.number
+  pub apart_x : Apart ks x.number
   apart_x = not_slot x Y.cell Y.slot (λ j u p Z e.
       let v : Some (Y.up, Y.place) ≡ Some u = sym Y.parent ∙ p in
       let w : (Y.up, Y.place) ≡ Z.link = at u v ∙ e in
@@ -90,7 +91,7 @@ module _ (slots : Slab Cell) (x : Key) (Y : Family (get slots) x) (A : Above (ge
       at : (u : Key × ℕ) → (let v : Key × ℕ = (Y.up, Y.place) in Some v ≡ Some u → v ≡ u)
       at u e = cc
 
-  apart_up : Apart ks Y.up.number
+  pub apart_up : Apart ks Y.up.number
   apart_up = not_slot Y.up Y.above Y.up_slot (λ j u p Z e. elim Z.from [
     | inl a ↦ A.no_loop u.1 (p ∙ ap (λ (k : Key). let o : Key × ℕ = (k, u.1) in Some o) (ap (λ (z : Key × ℕ). z.0) e ∙ a.0))
     | inr a ↦ elim a [
@@ -129,6 +130,22 @@ module _ (slots : Slab Cell) (x : Key) (Y : Family (get slots) x) (A : Above (ge
               | inr g ↦ omega (arith, p, a.1, g.1)
             ]
           ]
+        ]
+      ]
+
+  -- no other node has one of them as a child, but the one that loses all
+  pub only_here : Tied slots → (n : ℕ) (c : Cell) (i : ℕ) (y : Key) → n ≢ Y.up.number → get slots n ≡ Some c → slice_get c.kids i ≡ Some y → (j : ℕ) (k : Key) → slice_get ks j ≡ Some k → k.number ≡ y.number → (n ≡ x.number) × (W.left ≡ End)
+  only_here T n c i y far e f j k g h =
+      let Z = was j k g in
+      let v : Key × ℕ = (record { number = n }, suc i) in
+      let u : Some v ≡ Some Z.link = sym (T n c i y e f) ∙ ap (λ (m : ℕ). parent_at (get slots m)) (sym h) ∙ ap parent_at Z.slot ∙ Z.parent in
+      let w : v ≡ Z.link = cc in
+      let l : n ≡ Z.link.0.number = ap (λ (z : Key × ℕ). z.0.number) w in
+      elim Z.from [
+        | inl a ↦ absurd (far (l ∙ ap (λ (z : Key). z.number) a.0))
+        | inr a ↦ elim a [
+          | inl d ↦ (l ∙ ap (λ (z : Key). z.number) d.0, d.2)
+          | inr d ↦ absurd (far (l ∙ ap (λ (z : Key). z.number) d.0))
         ]
       ]
 

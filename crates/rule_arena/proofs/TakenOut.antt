@@ -4,10 +4,12 @@ use Rattle.std.proofs.lemmas.Option.{slice_get_within}
 use Rattle.slab.specs.Slab.{Slab, get, slab_len}
 use Rattle.rule_arena.specs.Changing.{changed, adopted, with_kids}
 use Rattle.rule_arena.specs.declared.key.Key.{Key}
-use Rattle.rule_arena.specs.declared.cell.Cell.{Cell}
+use Rattle.rule_arena.specs.Linked.{Cell}
 use Rattle.rule_arena.specs.Preorder.{subterm, with_subterm}
-use Rattle.rule_arena.specs.Terms.{Node, Terms, At, term_at, key_in, kids_in, parent_in, kids_of}
+use Rattle.rule_arena.specs.Terms.{Node, Terms, Apart, AreDistinctKeys, At, term_at, key_in, kids_in, parent_in, kids_of}
 use Rattle.rule_arena.specs.Taking.{IsInner, regrown}
+use Rattle.rule_arena.specs.Siblings.{Tied}
+use Rattle.rule_arena.specs.Slots.Forest.{End}
 use Rattle.rule_arena.specs.Slots.{tops, flatten, Lies, Standing, terms_of, room, RootAt}
 use Rattle.rule_arena.proofs.ChangeLemmas.{changed-len, changed-capacity}
 use Rattle.rule_arena.proofs.AddLemmas.{adopted-len, adopted-capacity}
@@ -19,7 +21,8 @@ use Rattle.rule_arena.proofs.CellLemmas.{has, same_cell}
 use Rattle.rule_arena.proofs.Families.{Family, family_in, Above, above_is}
 use Rattle.rule_arena.proofs.Puts.{Puts}
 use Rattle.rule_arena.proofs.PutLemmas.{standing, term_freed, term_was, term_moved, term_other}
-use Rattle.rule_arena.proofs.PutWrites.{Share, puts, kids_there, x_then}
+use Rattle.rule_arena.proofs.PutWrites.{Share, puts, kids_there, x_then, apart_x, apart_up, only_here}
+use Rattle.rule_arena.proofs.PutWrites as writes
 
 -- a family whose parent and place have other names
 abbrev pub named : (H : ℕ → Option Cell) (x : Key) (Y : Family H x) (u : Key × ℕ) → u ≡ (Y.up, Y.place) → Family H x
@@ -120,6 +123,19 @@ module _ (slots : Slab Cell) (s : Standing slots) (a : Terms) (v : terms_of slot
         pub all_there : (j : ℕ) (k : Key) → slice_get ks j ≡ Some k → IsSome (get slots k.number)
         all_there j k e = let c = kids_there slots at Y over W ks row j k e in has _ c.0 c.1
 
+        pub all_distinct : AreDistinctKeys ks
+        all_distinct = writes.distinct slots at Y over W ks row
+
+        pub all_apart : Apart ks u.0.number
+        all_apart = apart_up slots at Y over W ks row
+
+        pub apart_at : Apart ks at.number
+        apart_at = apart_x slots at Y over W ks row
+
+        -- only the node itself may have one of them as a child, and then it loses all
+        pub free_but : Tied slots → (n : ℕ) (z : Cell) (i : ℕ) (y : Key) → n ≢ u.0.number → get slots n ≡ Some z → slice_get z.kids i ≡ Some y → (j : ℕ) (k : Key) → slice_get ks j ≡ Some k → k.number ≡ y.number → (n ≡ at.number) × (W.left ≡ End)
+        free_but = only_here slots at Y over W ks row
+
         -- the slots after each write
         module _ (S2 : Slab Cell) (i2 : S2 ≡ changed (adopted slots u.0 1 ks) u.0.number (with_kids ks)) where
           pub at_still : IsSome (get S2 at.number)
@@ -129,7 +145,7 @@ module _ (slots : Slab Cell) (s : Standing slots) (a : Terms) (v : terms_of slot
             root_is : F Y.cell ≡ record { label = Y.cell.label; parent = None; kids = tops W.left }
             root_is = subst (λ (x : Cell). F x ≡ record { label = x.label; parent = None; kids = tops W.left }) cell_is iF
 
-            P : Puts (get slots) (get S3) at W.moved W.left u.0 u.1 ks
+            pub P : Puts (get slots) (get S3) at W.moved W.left u.0 u.1 ks
             P = puts slots at Y over W ks row S2 i2 F root_is S3 i3
 
             pub stands : Standing S3

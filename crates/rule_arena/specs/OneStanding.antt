@@ -6,7 +6,8 @@ use Rattle.slab.specs.Slab.{Slab, get}
 use Rattle.rule_arena.specs.declared.label.Label.{Label}
 use Rattle.rule_arena.specs.declared.label.Label.TheVariants.{Bottom, Symbol, Call, Param}
 use Rattle.rule_arena.specs.declared.key.Key.{Key}
-use Rattle.rule_arena.specs.declared.cell.Cell.{Cell}
+use Rattle.rule_arena.specs.Linked.{Cell}
+use Rattle.rule_arena.specs.Siblings.{Tied, parent_at}
 use Rattle.rule_arena.specs.Slots.{Forest, End, Grow, tops, Lies, RootHas, Stands, Standing}
 
 -- one forest lies under a node with these children
@@ -103,3 +104,10 @@ Stands-prop H k (Some c) = RootHas-prop H k c c.parent
 
 pub Standing-prop : (slots : Slab Cell) → IsProp (Standing slots)
 Standing-prop slots = Π_prop (λ k. Stands-prop (get slots) k (get slots k))
+
+link_code : Coded (Option (Key × ℕ))
+link_code = coded_option (coded× key_code coded_ℕ)
+
+pub Tied-prop : (slots : Slab Cell) → IsProp (Tied slots)
+Tied-prop slots =
+    Π_prop (λ n. Π_prop (λ c. Π_prop (λ i. Π_prop (λ k. Π_prop (λ e. Π_prop (λ f. Coded-set link_code (parent_at (get slots k.number)) (Some (record { number = n }, suc i))))))))

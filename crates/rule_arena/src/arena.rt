@@ -1,15 +1,15 @@
 // The arena: linked nodes in slots, seen as terms in preorder.
 ghost use Rattle.std.specs.Prelude.{◌≡◌, ◌≢◌, ◌+◌, ◌^◌, ◌<◌, ◌≤◌, ℕ, None, Some, length, OnOk, IsOk, List, slice_get, [], ◌∷◌};
 ghost use Rattle.rule_arena.specs.declared.key.Key.{Key};
-ghost use Rattle.rule_arena.specs.OneStanding.{Standing-prop};
+ghost use Rattle.rule_arena.specs.OneStanding.{Standing-prop, Tied-prop};
+ghost use Rattle.rule_arena.specs.Siblings.{seen, Tied};
 ghost use Rattle.rule_arena.specs.Slots.{KeysFit, Standing, room};
 
-use crate::cell::Cell;
+use crate::cell::RawCell;
 use crate::item::Item;
 use crate::key::Key;
-use crate::kids::Kids;
 use crate::label::Label;
-use crate::slots::{adopt, cell_of, free, read, set_kid, set_kids, set_label, set_parent, strip};
+use crate::slots::{cell_of, free, kids_of, read, set_kid, set_kids, set_label, set_parent, strip};
 use read_steps::Steps;
 use slab::Slab;
 use std::alloc::{AllocError, Global};
@@ -26,10 +26,10 @@ const MOST_NODES: usize = 1 << 32;
 /// number of every node. A key names its node until that node is freed, whatever happens to the nodes around it.
 #[derive(Drop)]
 pub struct Arena {
-    alloc: Global,
-    slots: Slab<Cell>,
-    ghost standing: { Standing slots } by { Standing-prop slots },
-    ghost fitting: { KeysFit slots },
+    slots: Slab<RawCell>,
+    ghost standing: { Standing (seen slots) } by { Standing-prop (seen slots) },
+    ghost fitting: { KeysFit (seen slots) },
+    ghost tied: { Tied (seen slots) } by { Tied-prop (seen slots) },
 }
 
 impl Model for Arena {
@@ -38,8 +38,9 @@ impl Model for Arena {
     ghost Value = { Terms };
 
     ghost use Rattle.rule_arena.specs.Slots.{terms_of};
+    ghost use Rattle.rule_arena.specs.Siblings.{seen};
 
-    ghost view = { λ a. terms_of a.slots a.standing };
+    ghost view = { λ a. terms_of (seen a.slots) a.standing };
 }
 
 impl Arena {
@@ -54,7 +55,6 @@ impl Arena {
         ensures limit { result.limit ≡ 0 }
     {
         Arena {
-            alloc,
             slots: Slab::new(alloc),
         }
     }
@@ -118,9 +118,8 @@ impl Arena {
         ensures limit { self.new.limit ≡ self.old.limit }
         ensures below { result.number < self.new.limit }
     {
-        let cell = Cell::new(label, Kids::of(self.alloc, kids));
-        let key = Key::of(self.slots.insert_reserved(cell));
-        adopt(&mut self.slots, key, kids);
+        let key = Key::of(self.slots.insert_reserved(RawCell::new(label)));
+        set_kids(&mut self.slots, key, kids);
         key
     }
 
@@ -137,7 +136,7 @@ impl Arena {
         Item {
             label: cell.label(),
             parent: cell.parent(),
-            kids: cell.kids().copy(self.alloc),
+            kids: kids_of(&self.slots, cell),
         }
     }
 
@@ -158,17 +157,19 @@ impl Arena {
         ensures step { steps.new ≡ steps.old + 1 }
     {
         let here = read(&self.slots, key, steps);
-        if let Some(first) = here.kids().get(0) {
-            return Some(first);
+        if here.count() > 0 {
+            return Some(here.first());
         }
         let mut at = here.parent();
+        let mut next = here.next();
         while let Some(link) = at {
             let (up, place) = link;
             let above = cell_of(&self.slots, up);
-            if let Some(next) = above.kids().get(place) {
+            if place < above.count() {
                 return Some(next);
             }
             at = above.parent();
+            next = above.next();
         }
         None
     }
@@ -198,9 +199,9 @@ impl Arena {
         ensures limit { self.new.limit ≡ self.old.limit }
     {
         let (up, place) = cell_of(&self.slots, at).parent().unwrap();
+        set_kid(&mut self.slots, up, place - 1, at, root);
         set_parent(&mut self.slots, at, None);
         set_parent(&mut self.slots, root, Some((up, place)));
-        set_kid(&mut self.slots, up, place - 1, root);
     }
 
     /// Takes the node `at`, which is no root, out of its term. With what stands below it, it becomes a root; its parent has one child
@@ -215,9 +216,9 @@ impl Arena {
         ensures limit { self.new.limit ≡ self.old.limit }
     {
         let (up, place) = cell_of(&self.slots, at).parent().unwrap();
-        let above = cell_of(&self.slots, up);
-        let kids = above.kids().without(self.alloc, place - 1);
-        set_kids(&mut self.slots, up, kids);
+        let above = kids_of(&self.slots, cell_of(&self.slots, up));
+        let kids = above.without(place - 1);
+        set_kids(&mut self.slots, up, kids.as_slice());
         set_parent(&mut self.slots, at, None);
     }
 
@@ -235,10 +236,11 @@ impl Arena {
     {
         let cell = cell_of(&self.slots, at);
         let (up, place) = cell.parent().unwrap();
-        let above = cell_of(&self.slots, up);
-        let kids = above.kids().with_others(self.alloc, place - 1, cell.kids());
-        set_kids(&mut self.slots, up, kids);
+        let mine = kids_of(&self.slots, cell);
+        let above = kids_of(&self.slots, cell_of(&self.slots, up));
+        let kids = above.with_others(place - 1, &mine);
         strip(&mut self.slots, at);
+        set_kids(&mut self.slots, up, kids.as_slice());
     }
 
     /// Frees a whole term.
@@ -257,8 +259,8 @@ impl Arena {
 }
 
 // How many more nodes have room.
-fn room_in(slots: &Slab<Cell>) -> usize
-    ensures { result ≡ room slots.now }
+fn room_in(slots: &Slab<RawCell>) -> usize
+    ensures { result ≡ room (seen slots.now) }
 {
     let capacity = slots.capacity();
     if capacity > MOST_NODES {

@@ -1,9 +1,8 @@
-// What the arena keeps of a node, in 64 bytes.
-ghost use Rattle.std.specs.Prelude.{◌≡◌, ◌<◌, [], length, slice_set, None};
+// What the arena keeps of a node, in 24 bytes.
+ghost use Rattle.std.specs.Prelude.{◌≡◌, ◌≤◌, None};
 ghost use Rattle.rule_arena.specs.Linked.{label_of, IsPlaced};
 
 use crate::key::Key;
-use crate::kids::Kids;
 use crate::label::Label;
 use std::marker::Model;
 
@@ -16,40 +15,52 @@ pub(crate) enum LabelKind {
     Param,
 }
 
-// A node: `place` is 0 for a root, and `up` then means nothing.
+// A node: `place` is 0 for a root, and `up` then means nothing. Its children are `count` nodes: `first`, and then each one's `next`.
+// So `first` means nothing where there is no child, and `next` nothing for a root and a last child.
 #[derive(Drop)]
-pub(crate) struct Cell {
+pub(crate) struct RawCell {
     number: usize,
     up: Key,
+    first: Key,
+    next: Key,
     place: u8,
+    count: u8,
     kind: LabelKind,
-    kids: Kids,
 }
 
-impl Model for Cell {
-    ghost use Rattle.rule_arena.specs.Linked.{Linked, label_of, parent_of};
+impl Model for RawCell {
+    ghost use Rattle.std.specs.Prelude.{◌≤◌};
+    ghost use Rattle.rule_arena.specs.Linked.{Raw, label_of, parent_of};
 
-    ghost Value = { Linked };
+    ghost Value = { Raw };
 
     ghost view = { λ c. record {
       label = label_of c.kind c.number;
       parent = parent_of c.place c.up;
-      kids = c.kids;
+      first = c.first;
+      count = c.count;
+      next = c.next;
     } };
+
+    ghost invariant = { λ c. c.count ≤ 8 };
 }
 
-impl Cell {
-    // A root over these children.
-    pub(crate) fn new(label: Label, kids: Kids) -> Cell
-        ensures { result ≡ record { label = label; parent = None; kids = kids } }
+impl RawCell {
+    // A root with no children.
+    pub(crate) fn new(label: Label) -> RawCell
+        ensures label { result.label ≡ label }
+        ensures root { result.parent ≡ None }
+        ensures empty { result.count ≡ 0 }
     {
         let (kind, number) = split(label);
-        Cell {
+        RawCell {
             number,
             up: Key::of(0),
+            first: Key::of(0),
+            next: Key::of(0),
             place: 0,
+            count: 0,
             kind,
-            kids,
         }
     }
 
@@ -75,10 +86,26 @@ impl Cell {
         }
     }
 
-    pub(crate) fn kids(&self) -> &Kids
-        ensures { result.now ≡ self.now.kids }
+    // The first child, where there is one.
+    pub(crate) fn first(&self) -> Key
+        ensures { result ≡ self.now.first }
     {
-        &self.kids
+        self.first
+    }
+
+    // How many children there are.
+    pub(crate) fn count(&self) -> usize
+        ensures value { result ≡ self.now.count }
+        ensures few { result ≤ 8 }
+    {
+        self.count as usize
+    }
+
+    // The next child of the parent, where there is one.
+    pub(crate) fn next(&self) -> Key
+        ensures { result ≡ self.now.next }
+    {
+        self.next
     }
 
     pub(crate) fn set_label(&mut self, label: Label)
@@ -102,25 +129,32 @@ impl Cell {
         }
     }
 
-    pub(crate) fn set_kids(&mut self, kids: Kids)
-        ensures { self.new ≡ record self.old { kids = kids } }
+    pub(crate) fn set_first(&mut self, first: Key)
+        ensures { self.new ≡ record self.old { first = first } }
     {
-        self.kids = kids;
+        self.first = first;
+    }
+
+    pub(crate) fn set_next(&mut self, next: Key)
+        ensures { self.new ≡ record self.old { next = next } }
+    {
+        self.next = next;
+    }
+
+    pub(crate) fn set_kids(&mut self, first: Key, count: usize)
+        requires { count ≤ 8 }
+        ensures { self.new ≡ record self.old { first = first; count = count } }
+    {
+        self.first = first;
+        self.count = count as u8;
     }
 
     // It is a root with no children from now on.
     pub(crate) fn strip(&mut self)
-        ensures { self.new ≡ record { label = self.old.label; parent = None; kids = [] } }
+        ensures { self.new ≡ record self.old { parent = None; count = 0 } }
     {
-        self.kids.clear();
+        self.count = 0;
         self.place = 0;
-    }
-
-    pub(crate) fn set_kid(&mut self, at: usize, key: Key)
-        requires { at < length self.old.kids }
-        ensures { self.new ≡ record self.old { kids = slice_set self.old.kids at key } }
-    {
-        self.kids.set(at, key);
     }
 }
 

@@ -100,7 +100,7 @@ module _ (g : Keyed) (K : IsKeyed g) (q : ℕ) where
     some-copy =
         let h = some-key (first-of n W.given W.keys) (rest-of n ns W.given W.keys ++ W.back) (omega (arith, wide, piece-width label n (get_or W.keys 0 n.key) W.given)) in
         let z : W.place + 0 ≡ W.place = omega arith in
-        let e : Some h.0 ≡ copy = sym h.1 ∙ ap (λ (xs : List Node). key_in xs 0) (sym rest) ∙ key-drop (nodes_at g.rules W.rule) W.place 0 ∙ ap (λ (k : ℕ). key_at g.rules W.rule k) z ∙ W.copy_at in
+        let e : Some h.0 ≡ copy = sym h.1 ∙ ap (λ (xs : List Node). key_in xs 0) (sym rest) ∙ key-drop (nodes_at g.rules W.rule) W.place 0 ∙ ap (λ (k : ℕ). key_at g.rules W.rule k) z ∙ W.copy_at refl in
         subst (λ (o : Option Key). IsSome o) e refl
       where
         some-key : (xs ys : List Node) → 0 < length xs → (k : Key) × (key_in (xs ++ ys) 0 ≡ Some k)
@@ -112,16 +112,15 @@ module _ (g : Keyed) (K : IsKeyed g) (q : ℕ) where
 
     module _ (key : Key) (is_key : copy ≡ Some key) where
       pub copy-there : key_at g.rules W.rule W.place ≡ Some key
-      copy-there = W.copy_at ∙ is_key
+      copy-there = W.copy_at refl ∙ is_key
 
       pub copy-stands : Stands g.rules key
       copy-stands = record { rule = W.rule; place = W.place; there = copy-there }
 
-      module _ (J : Linked) (part : IsPartOf g J) (right : IsRight g.rules J key) (others : (k : ℕ) → k ≢ key.number → cell J k ≡ cell I k) (next model : Option Key)
-          (is_model : (p : ℕ) → key_at g.rules q p ≡ Some node → key_at g.rules q (p + 1) ≡ model)
-          (is_argument : label ≡ Param → (r p : ℕ) → key_at g.rules r p ≡ Some key → key_at g.rules r (end_of (nodes_at g.rules r) p) ≡ next)
+      -- the next one that came
+      module _ (next : Option Key) (is_argument : label ≡ Param → (r p : ℕ) → key_at g.rules r p ≡ Some key → key_at g.rules r (end_of (nodes_at g.rules r) p) ≡ next)
           (is_node : label ≢ Param → (r p : ℕ) → key_at g.rules r p ≡ Some key → key_at g.rules r (p + 1) ≡ next) where
-        next-at : key_at g.rules W.rule (W.place + width label W.given) ≡ next
+        pub next-at : key_at g.rules W.rule (W.place + width label W.given) ≡ next
         next-at = by (kind-of n ns W.given many)
           where
             by : Kind n W.given → key_at g.rules W.rule (W.place + width label W.given) ≡ next
@@ -134,6 +133,8 @@ module _ (g : Keyed) (K : IsKeyed g) (q : ℕ) where
                 ∙ ap (λ (k : ℕ). W.place + k) (span-append kids_of 1 x (rest-of n ns W.given W.keys ++ W.back) u.0 ∙ sym (ap length f) ∙ piece-width label n (get_or W.keys 0 n.key) W.given) in
                 ap (λ (k : ℕ). key_at g.rules W.rule k) (sym l) ∙ is_argument e W.rule W.place copy-there
 
+      module _ (J : Linked) (part : IsPartOf g J) (right : IsRight g.rules J key) (others : (k : ℕ) → k ≢ key.number → cell J k ≡ cell I k) (next model : Option Key)
+          (is_model : (p : ℕ) → key_at g.rules q p ≡ Some node → key_at g.rules q (p + 1) ≡ model) (is_next : IsSome model → key_at g.rules W.rule (W.place + width label W.given) ≡ next) where
         todo : (k : Key) → Stands g.rules k → IsRight g.rules I k ⊎ ((t : ℕ) × (Meets (drop W.at (nodes_at g.rules q)) W.given t × (key_at g.rules W.rule (W.place + t) ≡ Some k)))
             → IsRight g.rules J k ⊎ ((t : ℕ) × (Meets ns (drop (hole label) W.given) t × (key_at g.rules W.rule (W.place + width label W.given + t) ≡ Some k)))
         todo k S (inl R) = inl (kept-right g key I J right others k R)
@@ -154,7 +155,7 @@ module _ (g : Keyed) (K : IsKeyed g) (q : ℕ) where
           keys = drop 1 W.keys;
           back = W.back;
           model_at = is_model W.at W.model_at;
-          copy_at = next-at;
+          copy_at = is_next;
           within = length-drop-item (nodes_at g.rules q) W.at n here;
           rest = drop-plus (nodes_at g.rules W.rule) W.place (width label W.given) ∙ ap (λ (xs : List Node). drop (width label W.given) xs) rest
               ∙ drop-front (first-of n W.given W.keys) (rest-of n ns W.given W.keys ++ W.back) (width label W.given) (piece-width label n (get_or W.keys 0 n.key) W.given);

@@ -112,7 +112,7 @@ module _ (g h : Keyed) (K : IsKeyed g) (K' : IsKeyed h) (call : Key) (C : Stands
       keys = J.keys;
       back = back;
       model_at = e;
-      copy_at = f;
+      copy_at = λ s. f;
       within = omega arith;
       rest = ap (λ (xs : List Node). drop p xs) (news g h K K' call C follow moved J) ∙ ap (λ (j : ℕ). drop j (around front callee args J.keys back)) (sym (cut g h K K' call C follow moved J).place) ∙ drop-front front (copied callee args J.keys ++ back)
           ∙ ap (λ (xs : List Node). copied xs args J.keys ++ back) (sym (callee-same g h K K' call C follow moved J));

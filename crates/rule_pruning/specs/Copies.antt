@@ -1,5 +1,5 @@
 -- Nodes that came in the place of a call: copies of a rule's nodes, with the call's arguments in the places of its parameters.
-use Rattle.std.specs.Prelude.{◌≡◌, ◌≤◌, ◌+◌, ◌⊎◌, ℕ, List, [], ◌∷◌, ◌++◌, length, drop, get_or, slice_get, Option, Some}
+use Rattle.std.specs.Prelude.{◌≡◌, ◌≤◌, ◌+◌, ◌⊎◌, ℕ, List, [], ◌∷◌, ◌++◌, length, drop, get_or, slice_get, Option, Some, IsSome}
 use Rattle.rule_arena.specs.Preorder.{AreTerms, span}
 use Rattle.rule_arena.specs.Terms.{Node, kids_of}
 use Rattle.rule_arena.specs.declared.key.Key.{Key}
@@ -48,7 +48,7 @@ pub record IsCopyLinked (g : Keyed) (I : Linked) (q : ℕ) (model copy : Option 
   pub keys : List Key
   pub back : List Node
   pub model_at : key_at g.rules q at ≡ model
-  pub copy_at : key_at g.rules rule place ≡ copy
+  pub copy_at : IsSome model → key_at g.rules rule place ≡ copy
   pub within : at ≤ length (nodes_at g.rules q)
   pub rest : drop place (nodes_at g.rules rule) ≡ copied (drop at (nodes_at g.rules q)) given keys ++ back
   pub terms : AreEachTerms given

@@ -1,5 +1,5 @@
 // The occurrences near a call that gives way to a body: of the call, its arguments and the copied nodes.
-ghost use Rattle.std.specs.Prelude.{◌≡◌, ◌≢◌, ◌+◌, ◌<◌, ◌≤◌, ◌⊎◌, ℕ, Some, None, length};
+ghost use Rattle.std.specs.Prelude.{◌≡◌, ◌≢◌, ◌+◌, ◌<◌, ◌≤◌, ◌⊎◌, ℕ, Some, None, true, length};
 ghost use Rattle.rule_arena.specs.Terms.{Apart};
 ghost use Rattle.rule_arena.specs.declared.key.Key.{Key};
 ghost use Rattle.slt_grammar.specs.Names.{Param};
@@ -55,17 +55,21 @@ pub(crate) fn link_copy<L: Ledger>(
         let here = copy.unwrap();
         link_node(index, grammar, here);
         let label = grammar.label(node, &mut steps);
-        copy = next_of_copy(grammar, here, label);
         model = grammar.next_in_preorder(node, &mut steps);
+        copy = next_of_copy(grammar, here, label, model.is_some());
     }
 }
 
-// The next node that came, behind the one in the place of a node with this label.
-fn next_of_copy(grammar: &Grammar, here: Key, label: Label) -> Option<Key>
+// The next node that came, behind the one in the place of a node with this label, where there is more of the body. Where there is not,
+// a look for it would climb as far as the rule is high.
+fn next_of_copy(grammar: &Grammar, here: Key, label: Label, more: bool) -> Option<Key>
     requires { (r : ℕ) × (p : ℕ) × (key_at grammar.now.rules r p ≡ Some here) }
-    ensures argument { label ≡ Param → (r p : ℕ) → key_at grammar.now.rules r p ≡ Some here → key_at grammar.now.rules r (end_of (nodes_at grammar.now.rules r) p) ≡ result }
-    ensures node { label ≢ Param → (r p : ℕ) → key_at grammar.now.rules r p ≡ Some here → key_at grammar.now.rules r (p + 1) ≡ result }
+    ensures argument { more ≡ true → label ≡ Param → (r p : ℕ) → key_at grammar.now.rules r p ≡ Some here → key_at grammar.now.rules r (end_of (nodes_at grammar.now.rules r) p) ≡ result }
+    ensures node { more ≡ true → label ≢ Param → (r p : ℕ) → key_at grammar.now.rules r p ≡ Some here → key_at grammar.now.rules r (p + 1) ≡ result }
 {
+    if !more {
+        return None;
+    }
     match label {
         Label::Param => behind(grammar, here),
         _ => following(grammar, here),

@@ -50,11 +50,3 @@ stops-preserved g c =
     let x : Node = record { key = c.stops.walk.key; label = c.item-item.result.label; kids = length c.item-item.result.kids } in
     tallied-next a.names.now a.grammar.now c.requires.keyed a.rule c.requires.rule a.counts.now.rows c.requires.counts c.stops.walk c.stops.tallies a.steps.now c.stops.steps i x c.item-item.ensures.node c.weights-weights.result c.weights-weights.ensures c.add.new.self (c.if-not-add.ensures.adds refl) c.advance.new.self c.advance.new.steps (c.if-not-advance.ensures.next a.rule i.here i.left i.stands) (c.if-not-add.ensures.small refl)
     (omega (arith, c.item-item.ensures.step, c.advance.ensures.step))
-
-pub stops-preserved-else-not-advance : goal.stops-preserved-else-not-advance
-stops-preserved-else-not-advance g c =
-    let a = c.args in
-    let i = c.stops.invariant in
-    let x : Node = record { key = c.stops.walk.key; label = c.item-item.result.label; kids = length c.item-item.result.kids } in
-    tallied-next a.names.now a.grammar.now c.requires.keyed a.rule c.requires.rule a.counts.now.rows c.requires.counts c.stops.walk c.stops.tallies a.steps.now c.stops.steps i x c.item-item.ensures.node c.weights-weights.result c.weights-weights.ensures c.add.new.self (c.if-not-add.ensures.adds refl) c.advance.new.self c.advance.new.steps (c.if-not-advance.ensures.next a.rule i.here i.left i.stands) (c.if-not-add.ensures.small refl)
-    (omega (arith, c.item-item.ensures.step, c.advance.ensures.step))

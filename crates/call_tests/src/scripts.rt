@@ -10,7 +10,9 @@ use store_core::Session;
 use store_shell::{Status, serve};
 use tree_outside::{MemorySink, MemorySource, Shelf, Source};
 
+mod asking;
 mod faults;
+mod grammars;
 mod large;
 mod limits;
 mod long_files;

@@ -54,15 +54,15 @@ fn weight(grammar: &Grammar) -> u64
     grammar.size().saturating_add(grammar.rules() as u64)
 }
 
-// How often digrams that stand twice may be replaced, so that size and rules together aren't more than at the beginning. Each may bring
-// another round of pruning, which goes over the whole grammar: so it is no more often than some times the factor by which the
-// grammar became smaller, and all these rounds read some times as many nodes as there were.
+// How often digrams that stand twice may be replaced, so that size and rules together aren't more than at the beginning. Each time the
+// rules behind the new one move, so it is less often where there are many rules: in all no more than some rules move for each node that
+// there was.
 fn patience(grammar: &Grammar, begin: u64) -> u64
     ensures { result ≤ begin - min (size (rules_of grammar.now.rules) + length grammar.now.rules) (2 ^ 64 - 1) }
 {
-    let now = weight(grammar);
-    let rounds = (begin / now.max(1)).saturating_mul(16);
-    begin.saturating_sub(now).min(rounds)
+    let rules = (grammar.rules() as u64).max(1);
+    let moves = (begin / rules).saturating_mul(16);
+    begin.saturating_sub(weight(grammar)).min(moves)
 }
 
 // Prunes and replaces in turn, until neither is left.

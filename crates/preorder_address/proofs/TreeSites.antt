@@ -20,7 +20,8 @@ use Rattle.preorder_address.specs.TreeNumbers.{extent_at, text_rank_at}
 use Rattle.preorder_address.proofs.Lading.{Alike, laden-alike, before-append, below-append, first-term, listed-term}
 use Rattle.preorder_address.proofs.Naming.{NumberedNode, numbered, past-count, value-last}
 use Rattle.preorder_address.proofs.Sited.{laden-alone}
-use Rattle.preorder_address.proofs.TreePlaces.{listed-append, nodes-coded, all-coded}
+use Rattle.preorder_address.proofs.TreePlaces.{listed-append, all-coded}
+use Rattle.segment_counts.proofs.Coded.{nodes-coded}
 
 -- each number of labels is a symbol's
 number-at : (ls : List Label) (n : ℕ) → n < sum_by node_weight ls → (f : Label) × (0 < node_weight f) × IsAt node_weight ls n f

@@ -37,7 +37,7 @@ use Rattle.store_core.specs.declared.answer.Answer.TheVariants as ok
 use Rattle.store_core.specs.declared.answer.Refusal.TheVariants as no
 use Rattle.store_core.proofs.HitLines.{lines-told}
 use Rattle.tree_outside.proofs.Sinks.{GetsFront-first}
-use Rattle.store_core.proofs.Walks.{weight-coded}
+use Rattle.segment_counts.proofs.Coded.{weight-coded}
 
 -- where a document is held, a command with a query is ready
 pub asks_ready : (act : Act) (query : List ℕ) (parts : Parts) (old : World) → query_asked act ≡ Some query → old.state ≡ Some parts → IsReady act old

@@ -4,10 +4,10 @@ use Rattle.std.proofs.lemmas.List.Sums.{sum_by-cons, sum_by-append}
 use Rattle.plain_tree.specs.declared.kind.Kind.{Kind}
 use Rattle.plain_tree.specs.Numbers.{nodes}
 use Rattle.plain_tree.specs.Tree.{Tree, node, none, more, node_count}
-use Rattle.preorder_address.proofs.TreePlaces.{nodes-coded}
 use Rattle.rule_arena.specs.declared.label.Label.{Label}
 use Rattle.rule_arena.specs.declared.label.Label.TheVariants.{Symbol}
 use Rattle.segment_counts.specs.Weights.{node_weight}
+use Rattle.segment_counts.proofs.Coded.{weight-coded}
 use Rattle.slt_grammar.specs.Coding.{Codes}
 use Rattle.slt_grammar.specs.Grammars.{value}
 use Rattle.slt_grammar.specs.Keyed.{KeyedRule, rules_of}
@@ -25,10 +25,6 @@ use Rattle.store_core.specs.declared.store.Store.{Store}
 use Rattle.store_core.specs.declared.walking.NodeWalk.{NodeWalk}
 use Rattle.store_core.proofs.NodeCalls.{document_saves}
 use Rattle.store_core.proofs.Rooms.{opens-few}
-
--- a tree's code has as many symbols as the tree has nodes
-pub weight-coded : (names : List (Kind × List ℕ)) (t : Tree) (term : Term) → Codes names (more t none) term → sum_by node_weight (listed term []) ≡ node_count t
-weight-coded names t term code = omega (arith, nodes-coded names (more t none) term code [])
 
 pub count-some : (t : Tree) → 0 < node_count t
 count-some (node k n v ks) = omega arith

@@ -1,7 +1,8 @@
 use Rattle.std.proofs.Common.{ap, Err, arith}
 use Rattle.slt_grammar.specs.Grammars.{value}
 use Rattle.slt_grammar.specs.Keyed.{rules_of}
-use Rattle.grammar_file.proofs.FileDocuments.{no-document, weight-coded}
+use Rattle.segment_counts.proofs.Coded.{weight-coded}
+use Rattle.grammar_file.proofs.FileDocuments.{no-document}
 use Rattle.grammar_file.proofs.document.read.Goals as goal
 
 pub returns-then-not-branch-clause-bad : goal.returns-then-not-branch-clause-bad

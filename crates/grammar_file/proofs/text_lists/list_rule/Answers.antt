@@ -30,19 +30,6 @@ stops-preserved g c =
     listed-next a.names.now a.grammar.now c.requires.keyed a.rule c.requires.rule c.stops.walk s.done.items s.begun.items a.steps.now c.stops.steps i x c.item-item.ensures.node t.done.items t.begun.items n
     c.advance.new.self c.advance.new.steps (c.if-not-advance.ensures.next a.rule i.here i.left i.stands) (omega (arith, c.item-item.ensures.step, c.advance.ensures.step))
 
-pub stops-preserved-else-not-advance : goal.stops-preserved-else-not-advance
-stops-preserved-else-not-advance g c =
-    let a = c.args in
-    let i = c.stops.invariant in
-    let s = c.stops.listing in
-    let t = c.add.new.self in
-    let x : Node = record { key = c.stops.walk.key; label = c.item-item.result.label; kids = length c.item-item.result.kids } in
-    let below = calls-below a.names.now a.grammar.now c.requires.keyed a.rule c.requires.rule c.stops.walk s.done.items s.begun.items a.steps.now c.stops.steps i x c.item-item.ensures.node in
-    let part = c.part_at-part.ensures (rules_of a.grammar.now.rules) a.rule c.requires.lists below in
-    let n = behind-here a.names.now a.grammar.now c.requires.keyed a.rule c.requires.rule c.stops.walk s.done.items s.begun.items a.steps.now c.stops.steps i x c.item-item.ensures.node s t c.part_at-part.result refl refl x.label refl c.in_ok-add.ensures part in
-    listed-next a.names.now a.grammar.now c.requires.keyed a.rule c.requires.rule c.stops.walk s.done.items s.begun.items a.steps.now c.stops.steps i x c.item-item.ensures.node t.done.items t.begun.items n
-    c.advance.new.self c.advance.new.steps (c.if-not-advance.ensures.next a.rule i.here i.left i.stands) (omega (arith, c.item-item.ensures.step, c.advance.ensures.step))
-
 pub returns-then-not-advance : goal.returns-then-not-advance
 returns-then-not-advance g c =
     let a = c.args in

@@ -35,13 +35,6 @@ unreachable-requires g c =
     let t = there a.grammar.now c.requires.keyed (told_weight a.by a.counts.now) a.wanted.rule c.requires.rule a.wanted.number c.loop-number.walk c.loop-number.number a.steps.now c.loop-number.steps c.loop-number.invariant x c.item-item.ensures.node c.weight-weight.result c.weight-weight.ensures in
     never-last a.grammar.now c.requires.keyed (told_weight a.by a.counts.now) a.wanted.rule c.requires.rule a.wanted.number c.loop-number.walk c.loop-number.number a.steps.now c.loop-number.steps c.loop-number.invariant x c.item-item.ensures.node c.weight-weight.result c.weight-weight.ensures (omega (arith, c.if-number-weight.false)) (c.if-not-advance.ensures.next a.wanted.rule t.here t.others t.stands)
 
-pub loop-number-preserved-else-not-advance : goal.loop-number-preserved-else-not-advance
-loop-number-preserved-else-not-advance g c =
-    let a = c.args in
-    let x : Node = record { key = c.loop-number.walk.key; label = c.item-item.result.label; kids = length c.item-item.result.kids } in
-    let t = there a.grammar.now c.requires.keyed (told_weight a.by a.counts.now) a.wanted.rule c.requires.rule a.wanted.number c.loop-number.walk c.loop-number.number a.steps.now c.loop-number.steps c.loop-number.invariant x c.item-item.ensures.node c.weight-weight.result c.weight-weight.ensures in
-    seeks-more a.grammar.now c.requires.keyed (told_weight a.by a.counts.now) a.wanted.rule c.requires.rule a.wanted.number c.loop-number.walk c.loop-number.number a.steps.now c.loop-number.steps c.loop-number.invariant x c.item-item.ensures.node c.weight-weight.result c.weight-weight.ensures (omega (arith, c.if-number-weight.false)) c.advance.new.self c.advance.new.steps (c.if-not-advance.ensures.next a.wanted.rule t.here t.others t.stands) (omega (arith, c.item-item.ensures.step, c.advance.ensures.step))
-
 pub loop-number-preserved : goal.loop-number-preserved
 loop-number-preserved g c =
     let a = c.args in

@@ -67,17 +67,6 @@ unreachable-requires g c =
     let x : Node = record { key = c.stops.walk.key; label = c.item-item.result.label; kids = length c.item-item.result.kids } in
     never-end a.grammar.now c.requires.keyed (weight_of a.weigher.now) a.args.now a.rule a.key c.stops.walk c.stops.passed.weight c.stops.passed.params a.steps.now c.stops.steps by x c.item-item.ensures.node (c.if-not-advance.ensures.next a.rule by.here (by.ahead ++ stop by.node 0 ∷ by.behind) by.stands)
 
-pub stops-preserved-else-not-advance : goal.stops-preserved-else-not-advance
-stops-preserved-else-not-advance g c =
-    let a = c.args in
-    let by = passing-by a.grammar.now c.requires.keyed (weight_of a.weigher.now) a.args.now a.rule a.key c.stops.walk c.stops.passed.weight c.stops.passed.params a.steps.now c.stops.steps c.stops.invariant (c.if-begins_at.ensures.no refl) in
-    let x : Node = record { key = c.stops.walk.key; label = c.item-item.result.label; kids = length c.item-item.result.kids } in
-    let b = by-calls a.grammar.now c.requires.keyed (weight_of a.weigher.now) a.args.now a.rule a.key c.stops.walk c.stops.passed.weight c.stops.passed.params a.steps.now c.stops.steps by x c.item-item.ensures.node in
-    let n = c.part_weight.ensures (rules_of a.grammar.now.rules) c.requires.counts b in
-    let v = passing-next a.grammar.now c.requires.keyed (weight_of a.weigher.now) a.args.now a.rule a.key c.stops.walk c.stops.passed.weight c.stops.passed.params a.steps.now c.stops.steps by x c.item-item.ensures.node c.part_weight.result n c.advance.new.self c.advance.new.steps (c.if-not-advance.ensures.next a.rule by.here (by.ahead ++ stop by.node 0 ∷ by.behind) by.stands)
-    (omega (arith, c.item-item.ensures.step, c.advance.ensures.step)) in
-    subst (λ (n : ℕ). Passing a.grammar.now.rules (weight_of a.weigher.now) a.args.now a.rule a.key c.advance.new.self (c.stops.passed.weight + c.part_weight.result) (c.stops.passed.params + n) a.steps.now c.advance.new.steps) (sym c.params_of.ensures) v
-
 pub stops-preserved : goal.stops-preserved
 stops-preserved g c =
     let a = c.args in

@@ -6,7 +6,7 @@ use Rattle.store_core.specs.declared.answer.Answer.TheVariants.{Nodes}
 use Rattle.store_core.specs.StoreOf.{parts_of}
 use Rattle.store_core.specs.Texts.{answer_line}
 use Rattle.store_core.proofs.GrammarFiles.{no_store}
-use Rattle.store_core.proofs.Walks.{weight-coded}
+use Rattle.segment_counts.proofs.Coded.{weight-coded}
 use Rattle.store_core.proofs.grammar_loading.load_grammar.Goals as goal
 
 pub returns-in_err-store-clause-refused : goal.returns-in_err-store-clause-refused

@@ -3,7 +3,7 @@ use Rattle.std.proofs.lemmas.Result.{err_from_is_err_and}
 use Rattle.slt_grammar.specs.Grammars.{value}
 use Rattle.slt_grammar.specs.Keyed.{rules_of}
 use Rattle.store_core.proofs.GrammarFiles.{file_refused}
-use Rattle.store_core.proofs.Walks.{weight-coded}
+use Rattle.segment_counts.proofs.Coded.{weight-coded}
 use Rattle.store_core.proofs.grammar_loading.store_of_file.Goals as goal
 
 pub returns-in_err-grammar-clause-refused : goal.returns-in_err-grammar-clause-refused

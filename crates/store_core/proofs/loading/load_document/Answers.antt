@@ -7,7 +7,7 @@ use Rattle.store_core.specs.Acts.{Load}
 use Rattle.store_core.specs.StoreOf.{parts_of}
 use Rattle.store_core.specs.Texts.{answer_line}
 use Rattle.store_core.proofs.FoundFiles.{ready_to_load, load_reads}
-use Rattle.store_core.proofs.Walks.{weight-coded}
+use Rattle.segment_counts.proofs.Coded.{weight-coded}
 use Rattle.store_core.proofs.loading.load_document.Goals as goal
 
 pub returns-clause-loads : goal.returns-clause-loads

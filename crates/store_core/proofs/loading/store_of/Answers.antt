@@ -3,7 +3,7 @@ use Rattle.slt_grammar.specs.Grammars.{value}
 use Rattle.slt_grammar.specs.Keyed.{rules_of}
 use Rattle.slt_grammar.specs.Digrams.{IsSettled}
 use Rattle.store_core.proofs.Encoded.{stands-same}
-use Rattle.store_core.proofs.Walks.{weight-coded}
+use Rattle.segment_counts.proofs.Coded.{weight-coded}
 use Rattle.store_core.proofs.loading.store_of.Goals as goal
 
 pub counts_of-requires-clause-few : goal.counts_of-requires-clause-few

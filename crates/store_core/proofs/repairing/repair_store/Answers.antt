@@ -8,7 +8,7 @@ use Rattle.store_core.specs.Texts.{answer_line}
 use Rattle.store_core.specs.Worlds.{told_files}
 use Rattle.store_core.specs.declared.answer.Answer.TheVariants.{Repaired}
 use Rattle.store_core.proofs.Encoded.{stands-same}
-use Rattle.store_core.proofs.Walks.{weight-coded}
+use Rattle.segment_counts.proofs.Coded.{weight-coded}
 use Rattle.store_core.proofs.repairing.repair_store.Goals as goal
 
 pub update-requires-clause-few : goal.update-requires-clause-few

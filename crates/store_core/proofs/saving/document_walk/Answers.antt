@@ -1,7 +1,8 @@
 use Rattle.std.proofs.Common.{arith}
 use Rattle.slt_grammar.specs.Grammars.{value}
 use Rattle.slt_grammar.specs.Keyed.{rules_of}
-use Rattle.store_core.proofs.Walks.{count-some, walk-few, walk_saves, weight-coded}
+use Rattle.segment_counts.proofs.Coded.{weight-coded}
+use Rattle.store_core.proofs.Walks.{count-some, walk-few, walk_saves}
 use Rattle.store_core.proofs.saving.document_walk.Goals as goal
 
 pub returns-clause-text : goal.returns-clause-text

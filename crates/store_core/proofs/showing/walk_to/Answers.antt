@@ -5,7 +5,7 @@ use Rattle.slt_grammar.specs.Grammars.{value}
 use Rattle.slt_grammar.specs.Keyed.{rules_of}
 use Rattle.store_core.specs.StoreOf.{parts_of}
 use Rattle.store_core.proofs.Shown.{no_rank, not_below, walk_shows}
-use Rattle.store_core.proofs.Walks.{weight-coded}
+use Rattle.segment_counts.proofs.Coded.{weight-coded}
 use Rattle.store_core.proofs.showing.walk_to.Goals as goal
 
 pub returns-in_default-clause-refused : goal.returns-in_default-clause-refused

@@ -20,16 +20,6 @@ returns-then-not-advance-clause-none g c =
     let x : Node = record { key = c.loop-params.walk.key; label = c.item-item.result.label; kids = length c.item-item.result.kids } in
     enters-none c.args.grammar.now c.requires.keyed c.args.rule c.args.part c.requires.rule c.loop-params.walk c.loop-params.params c.loop-params.invariant x c.item-item.ensures.node c.loop-params-test.true c.params_behind-params.result c.params_behind-params.ensures c.advance.new.self c.if-not-advance.ensures.next
 
-pub loop-params-smaller-else-not-advance : goal.loop-params-smaller-else-not-advance
-loop-params-smaller-else-not-advance g c =
-    let x : Node = record { key = c.loop-params.walk.key; label = c.item-item.result.label; kids = length c.item-item.result.kids } in
-    enters-fewer c.args.grammar.now c.requires.keyed c.args.rule c.args.part c.requires.rule c.loop-params.walk c.loop-params.params c.loop-params.invariant x c.item-item.ensures.node c.loop-params-test.true c.params_behind-params.result c.params_behind-params.ensures c.advance.new.self c.if-not-advance.ensures.next
-
-pub loop-params-preserved-else-not-advance : goal.loop-params-preserved-else-not-advance
-loop-params-preserved-else-not-advance g c =
-    let x : Node = record { key = c.loop-params.walk.key; label = c.item-item.result.label; kids = length c.item-item.result.kids } in
-    enters-more c.args.grammar.now c.requires.keyed c.args.rule c.args.part c.requires.rule c.loop-params.walk c.loop-params.params c.loop-params.invariant x c.item-item.ensures.node c.loop-params-test.true c.params_behind-params.result c.params_behind-params.ensures c.advance.new.self c.if-not-advance.ensures.next
-
 pub loop-params-smaller : goal.loop-params-smaller
 loop-params-smaller g c =
     let x : Node = record { key = c.loop-params.walk.key; label = c.item-item.result.label; kids = length c.item-item.result.kids } in

@@ -49,10 +49,6 @@ returns-then-advance-clause-work g c =
     let m = moved-work_behind G c.requires.keyed c.pop.new.self.items c.in-Some.field-0 a c.advance.new.self c.if-advance.ensures.next in
     omega (arith, m, i.work, ap (work_behind G.rules) c.in-Some.ensures.items)
 
-pub loop-rule-preserved-else-advance : goal.loop-rule-preserved-else-advance
-loop-rule-preserved-else-advance g c =
-    leaves-more c.args.grammar.now c.requires.keyed c.args.self.now c.loop-rule.self (record { here = c.loop-rule.self.here; calls = c.pop.new.self; opened = c.loop-rule.self.opened }) c.in-Some.field-0 c.in-Some.ensures.items c.pop.ensures.capacity refl c.loop-rule.invariant c.advance.new.self c.if-advance.ensures.next
-
 pub loop-rule-preserved : goal.loop-rule-preserved
 loop-rule-preserved g c =
     leaves-more c.args.grammar.now c.requires.keyed c.args.self.now c.loop-rule.self (record { here = c.loop-rule.self.here; calls = c.pop.new.self; opened = c.loop-rule.self.opened }) c.in-Some.field-0 c.in-Some.ensures.items c.pop.ensures.capacity refl c.loop-rule.invariant c.advance.new.self c.if-advance.ensures.next

@@ -26,11 +26,11 @@ pub returns-then-advance-clause-work : goal.returns-then-advance-clause-work
 returns-then-advance-clause-work g c =
     moved-work c.args.grammar.now c.requires.keyed c.args.self.now.calls.items c.args.stop c.requires.stops c.advance.new.self c.if-advance.ensures.next
 
-pub returns-clause-left : goal.returns-clause-left
-returns-clause-left g c =
+pub returns-else-advance-clause-left : goal.returns-else-advance-clause-left
+returns-else-advance-clause-left g c =
     c.leave.ensures.left
     ∙ sym (ap (λ (ls : List Label). ls ++ behind c.args.grammar.now.rules c.args.self.now.calls.items []) (none-left c.args.grammar.now c.requires.keyed c.args.self.now.calls.items c.args.stop c.requires.stops c.advance.new.self c.if-advance.ensures.next))
 
-pub returns-clause-work : goal.returns-clause-work
-returns-clause-work g c =
+pub returns-else-advance-clause-work : goal.returns-else-advance-clause-work
+returns-else-advance-clause-work g c =
     omega (arith, c.leave.ensures.work, some-work c.args.grammar.now c.requires.keyed c.args.self.now.calls.items c.args.stop c.requires.stops)

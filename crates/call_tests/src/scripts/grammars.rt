@@ -269,7 +269,10 @@ fn rows_that_are_doubled_are_not_unfolded(rt: HostRuntime) -> Result<(), Fail> {
     for row in &DOUBLED {
         let file = file_of(alloc, row)?;
         let mut shelf = shelf_of(alloc, &file, 4096, Vec::new(alloc))?;
-        let mut source = whole(alloc, b"load-grammar a\nsave-grammar d\ncount //a\n".to_vec(alloc)?);
+        let mut source = whole(
+            alloc,
+            b"load-grammar a\nsave-grammar d\ncount //a\n".to_vec(alloc)?,
+        );
         assert_serves(
             &rt,
             alloc,

@@ -11,6 +11,7 @@ use store_shell::{Status, serve};
 use tree_outside::{MemorySink, MemorySource, Shelf, Source};
 
 mod asking;
+mod doubled;
 mod faults;
 mod grammars;
 mod large;

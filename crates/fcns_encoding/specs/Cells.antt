@@ -1,7 +1,11 @@
 -- The table of subterms: each is a symbol over two subterms that stand earlier. Number 0 is bottom, number k + 1 the cell at k.
-use Rattle.std.specs.Prelude.{◌≡◌, ℕ, ◌+◌, ◌<◌, ◌≤◌, ◌⊎◌, List, [], ◌∷◌, ◌++◌, Some, length, slice_get, get_or}
+use Rattle.std.specs.Prelude.{◌≡◌, ℕ, ◌+◌, ◌*◌, ◌^◌, ◌<◌, ◌≤◌, ◌⊎◌, List, [], ◌∷◌, ◌++◌, Some, length, slice_get, get_or}
 use Rattle.slt_grammar.specs.Terms.{Term, Leaf, Node}
 use Rattle.fcns_encoding.specs.declared.subterms.Cell.{Cell}
+
+-- what is hashed of a cell: its three numbers
+abbrev pub cell_code : Cell → ℕ
+cell_code c = (c.symbol * 2 ^ 32 + c.first) * 2 ^ 32 + c.second
 
 -- What all numbers have, one after another, where a cell's is made of its own number, the cell and what its two numbers have: behind
 -- that of the numbers before.

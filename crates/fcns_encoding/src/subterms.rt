@@ -1,18 +1,41 @@
 // The subterms of a code, each once.
 ghost use Rattle.std.specs.Prelude.{◌≡◌, ◌≤◌, ◌<◌, ◌+◌, ◌^◌, [], ℕ, length, Some, slice_get, IfOk, OnOk};
+ghost use Rattle.std.specs.Hash as fed;
+ghost use Rattle.std.specs.Cmp.Rules.{hashing};
+ghost use Rattle.std.proofs.Common.{rules};
 ghost use Rattle.slt_grammar.specs.Terms.{Term, Node};
-ghost use Rattle.fcns_encoding.specs.Cells.{terms_of, KeepsTerms, AreEarlier, AreDistinctCells, Extends};
+ghost use Rattle.fcns_encoding.specs.Cells.{cell_code, terms_of, KeepsTerms, AreEarlier, AreDistinctCells, Extends};
 
 use indexmap::IndexSet;
 use std::alloc::{AllocError, Global};
+use std::hash::{Hash, Hasher};
 use std::marker::Model;
 
 // A symbol over two subterms, by their numbers.
-#[derive(Clone, Copy, PartialEq, Eq, Hash, Drop)]
+#[derive(Clone, Copy, PartialEq, Eq, Drop)]
 pub(crate) struct Cell {
     pub(crate) symbol: u32,
     pub(crate) first: u32,
     pub(crate) second: u32,
+}
+
+impl Cell {
+    // The three numbers in one, so that a hash takes one write.
+    fn code(self) -> u128
+        ensures { result ≡ cell_code self }
+    {
+        (self.symbol as u128 * (1 << 32) + self.first as u128) * (1 << 32) + self.second as u128
+    }
+}
+
+impl Hash for Cell {
+    ghost hash_input = { λ c. fed.u128 (cell_code c) };
+
+    ghost respects_eq = { Prim.search (hashing, rules) };
+
+    fn hash<H: Hasher>(&self, state: &mut H) {
+        state.write_u128(self.code());
+    }
 }
 
 // The table of subterms: number 0 is bottom, number k + 1 the cell at k.

@@ -1,9 +1,12 @@
 // The calls of documents, which are the same in pieces of any size.
+ghost use Rattle.std.specs.Prelude.{◌≡◌, true};
+
 use super::pieces::{Log, SIZES, read};
+use fcns_encoding::Folder;
 use std::alloc::Global;
 use std::process::Abort;
 use std::test::Fail;
-use xml_profile::{Reader, TreeBuilder, XmlError};
+use xml_profile::{Builder, Reader, TreeBuilder, XmlError};
 
 // A document, and its calls.
 static ROWS: [(&[u8], &[u8]); 3] = [
@@ -21,25 +24,37 @@ static ROWS: [(&[u8], &[u8]); 3] = [
     ),
 ];
 
-fn assert_calls(rt: &impl Abort, alloc: Global, document: &[u8], calls: &[u8]) {
-    for &size in &SIZES {
-        let mut log = Log {
-            inner: TreeBuilder::new(alloc),
-            calls: Vec::new(alloc),
-        };
-        let answer = read(alloc, document, size, &mut log);
-        assert_eq!(*rt;
-            (answer, log.calls.as_slice()),
-            (Ok(()), calls),
-            "in pieces of {size}"
-        );
-    }
+fn assert_calls<B: Builder + Drop>(
+    rt: &impl Abort,
+    alloc: Global,
+    size: usize,
+    builder: B,
+    document: &[u8],
+    calls: &[u8],
+)
+    requires sound { B.sound builder ≡ true }
+    requires new { B.depth builder ≡ 0 }
+{
+    let mut log = Log {
+        inner: builder,
+        calls: Vec::new(alloc),
+    };
+    let answer = read(alloc, document, size, &mut log);
+    assert_eq!(*rt;
+        (answer, log.calls.as_slice()),
+        (Ok(()), calls),
+        "in pieces of {size}"
+    );
 }
 
 #[test]
 fn calls_are_the_same_in_pieces(rt: HostRuntime) {
+    let alloc = rt.alloc();
     for (document, calls) in &ROWS {
-        assert_calls(&rt, rt.alloc(), document, calls);
+        for &size in &SIZES {
+            assert_calls(&rt, alloc, size, TreeBuilder::new(alloc), document, calls);
+            assert_calls(&rt, alloc, size, Folder::new(alloc), document, calls);
+        }
     }
 }
 

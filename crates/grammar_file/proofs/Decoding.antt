@@ -1,10 +1,10 @@
--- A term whose chain is not broken codes lawful trees, with any texts that are lawful at its symbols.
+-- A term whose chain is not broken, with unlike attributes, codes lawful trees, with any texts that are lawful at its symbols.
 use Rattle.std.proofs.Common.{◌≡◌, ◌≢◌, ℕ, Bool, true, false, List, [], ◌∷◌, ◌++◌, Option, Some, None, option_map, slice_get, refl, sym, ap, ◌∙◌, subst, append_assoc, if◌then◌else◌}
 use Rattle.std.proofs.lemmas.Option.{slice_get-map}
 use Rattle.plain_tree.specs.declared.kind.Kind.{Kind}
 use Rattle.plain_tree.specs.declared.kind.Kind.TheVariants.{Document, Element, Attribute, Text, Comment, Instruction}
 use Rattle.plain_tree.specs.Tree.{node, Trees, none, more}
-use Rattle.plain_tree.specs.Lawful.{IsLawfulName, IsLawfulValue, AreKids, AreLawfulTrees}
+use Rattle.plain_tree.specs.Lawful.{IsLawfulName, IsLawfulValue, IsNew, AreElementKids, AreKids, AreLawfulTrees}
 use Rattle.plain_tree.specs.Numbers.{texts_all}
 use Rattle.plain_tree.specs.NameTable.{AreDistinct}
 use Rattle.rule_arena.specs.declared.label.Label.{Label}
@@ -16,7 +16,10 @@ use Rattle.grammar_file.specs.declared.chains.Chain.{Chain}
 use Rattle.grammar_file.specs.declared.chains.Chain.TheVariants.{Broken, Empty, Whole, Aside, Rooted, Content, Tagged}
 use Rattle.grammar_file.specs.Chains.{is_empty, is_of_element, document, behind_element, behind_text, behind_aside, behind_attribute, behind_node, chain_of}
 use Rattle.grammar_file.specs.TextSymbols.{if_valued, text_symbols, IsTextOf, AreTextsOf}
-use Rattle.grammar_file.proofs.ChainLemmas.{IsChainOf, none-empty, of-element, before-element, before-text, before-comment, before-instruction, before-attribute}
+use Rattle.grammar_file.specs.Marks.{mark_at, marks}
+use Rattle.grammar_file.specs.Unlike.{AreUnlike}
+use Rattle.grammar_file.proofs.AttributeLemmas.{marks-listed, unlike-left, unlike-right, new-first}
+use Rattle.grammar_file.proofs.ChainLemmas.{IsChainOf, none-empty, of-element, before-element, before-text, before-comment, before-instruction, before-attribute, behind-attribute}
 
 -- the kind of a pair
 abbrev pub kind_in : Option (Kind × List ℕ) → Option Kind
@@ -96,13 +99,13 @@ module _ (names : List (Kind × List ℕ)) where
   document-is Rooted Aside h = absurd (h refl)
   document-is Rooted Rooted h = absurd (h refl)
   document-is Rooted Content h = absurd (h refl)
-  document-is Rooted (Tagged fs) h = absurd (h refl)
+  document-is Rooted Tagged h = absurd (h refl)
   document-is Broken kb h = absurd (h refl)
   document-is Empty kb h = absurd (h refl)
   document-is Whole kb h = absurd (h refl)
   document-is Aside kb h = absurd (h refl)
   document-is Content kb h = absurd (h refl)
-  document-is (Tagged fs) kb h = absurd (h refl)
+  document-is Tagged kb h = absurd (h refl)
 
   element-not : (c : Chain) → is_of_element c ≡ true → c ≢ Broken
   element-not c e b = let s : false ≡ true = sym (ap is_of_element b) ∙ e in cc
@@ -114,94 +117,96 @@ module _ (names : List (Kind × List ℕ)) where
   behind-not g c e h b = h (ap g b ∙ e)
 
   -- neither the kids nor what is behind is broken
-  pub both : (kind : Kind) (n : List ℕ) (f : ℕ) (ka kb : Chain) → behind_node (Some kind) f ka kb ≢ Broken → (ka ≢ Broken) × (kb ≢ Broken)
-  both Document n f ka kb h =
+  pub both : (kind : Kind) (ka kb : Chain) → behind_node (Some kind) ka kb ≢ Broken → (ka ≢ Broken) × (kb ≢ Broken)
+  both Document ka kb h =
       let d = document-is ka kb h in
       ((λ b. let s : Rooted ≡ Broken = sym d.0 ∙ b in cc), (λ b. let s : Empty ≡ Broken = sym d.1 ∙ b in cc))
-  both Element n f ka kb h = let i = broken-if (is_of_element ka) (behind_element kb) h in (element-not ka i.0, behind-not behind_element kb refl i.1)
-  both Attribute n f ka kb h = let i = broken-if (is_empty ka) (behind_attribute f kb) h in (empty-not ka i.0, behind-not (behind_attribute f) kb refl i.1)
-  both Text n f ka kb h = let i = broken-if (is_empty ka) (behind_text kb) h in (empty-not ka i.0, behind-not behind_text kb refl i.1)
-  both Comment n f ka kb h = let i = broken-if (is_empty ka) (behind_aside kb) h in (empty-not ka i.0, behind-not behind_aside kb refl i.1)
-  both Instruction n f ka kb h = let i = broken-if (is_empty ka) (behind_aside kb) h in (empty-not ka i.0, behind-not behind_aside kb refl i.1)
+  both Element ka kb h = let i = broken-if (is_of_element ka) (behind_element kb) h in (element-not ka i.0, behind-not behind_element kb refl i.1)
+  both Attribute ka kb h = let i = broken-if (is_empty ka) (behind_attribute kb) h in (empty-not ka i.0, behind-not behind_attribute kb refl i.1)
+  both Text ka kb h = let i = broken-if (is_empty ka) (behind_text kb) h in (empty-not ka i.0, behind-not behind_text kb refl i.1)
+  both Comment ka kb h = let i = broken-if (is_empty ka) (behind_aside kb) h in (empty-not ka i.0, behind-not behind_aside kb refl i.1)
+  both Instruction ka kb h = let i = broken-if (is_empty ka) (behind_aside kb) h in (empty-not ka i.0, behind-not behind_aside kb refl i.1)
 
   -- the node has lawful kids, and with it in front the trees are what the chain says
   pub record Goes (kind : Kind) (n v : List ℕ) (ks ts : Trees) (c : Chain) : Type 0 where
     pub kids : AreKids kind ks
-    pub chain : IsChainOf names c (more (node kind n v ks) ts)
+    pub chain : IsChainOf c (more (node kind n v ks) ts)
 
-  pub goes : AreDistinct names → (kind : Kind) (n v : List ℕ) (f : ℕ) (ks ts : Trees) (ka kb : Chain) → slice_get names f ≡ Some (kind, n) → IsChainOf names ka ks → IsChainOf names kb ts
-      → behind_node (Some kind) f ka kb ≢ Broken → Goes kind n v ks ts (behind_node (Some kind) f ka kb)
-  goes one Document n v f ks ts ka kb e h k b =
+  pub goes : (kind : Kind) (n v : List ℕ) (ks ts : Trees) (ka kb : Chain) → IsChainOf ka ks → IsChainOf kb ts → (kind ≡ Attribute → ks ≡ none → AreElementKids true ts → IsNew n ts)
+      → behind_node (Some kind) ka kb ≢ Broken → Goes kind n v ks ts (behind_node (Some kind) ka kb)
+  goes Document n v ks ts ka kb h k new b =
       let d = document-is ka kb b in
-      let r = subst (λ c. IsChainOf names c ks) d.0 h in
-      let t : ts ≡ none = subst (λ c. IsChainOf names c ts) d.1 k in
+      let r = subst (λ c. IsChainOf c ks) d.0 h in
+      let t : ts ≡ none = subst (λ c. IsChainOf c ts) d.1 k in
       let w : document ka kb ≡ Whole = rw (d.0, d.1) refl in
-      record { kids = r.1; chain = subst (λ c. IsChainOf names c (more (node Document n v ks) ts)) (sym w) (node Document n v ks, ap (λ x. more (node Document n v ks) x) t, refl) }
-  goes one Element n v f ks ts ka kb e h k b =
+      record { kids = r.1; chain = subst (λ c. IsChainOf c (more (node Document n v ks) ts)) (sym w) (node Document n v ks, ap (λ x. more (node Document n v ks) x) t, refl) }
+  goes Element n v ks ts ka kb h k new b =
       let i = broken-if (is_of_element ka) (behind_element kb) b in
       record {
-        kids = of-element names ka ks i.0 h;
-        chain = subst (λ c. IsChainOf names c (more (node Element n v ks) ts)) (sym (then-same (is_of_element ka) (behind_element kb) i.0)) (before-element names kb ts n v ks k i.1);
+        kids = of-element ka ks i.0 h;
+        chain = subst (λ c. IsChainOf c (more (node Element n v ks) ts)) (sym (then-same (is_of_element ka) (behind_element kb) i.0)) (before-element kb ts n v ks k i.1);
       }
-  goes one Attribute n v f ks ts ka kb e h k b =
-      let i = broken-if (is_empty ka) (behind_attribute f kb) b in
-      let s : ks ≡ none = none-empty names ka ks i.0 h in
+  goes Attribute n v ks ts ka kb h k new b =
+      let i = broken-if (is_empty ka) (behind_attribute kb) b in
+      let s : ks ≡ none = none-empty ka ks i.0 h in
       record {
         kids = s;
-        chain = subst (λ c. IsChainOf names c (more (node Attribute n v ks) ts)) (sym (then-same (is_empty ka) (behind_attribute f kb) i.0))
-            (subst (λ x. IsChainOf names (behind_attribute f kb) (more (node Attribute n v x) ts)) (sym s) (before-attribute names one f kb ts n v e k i.1));
+        chain = subst (λ c. IsChainOf c (more (node Attribute n v ks) ts)) (sym (then-same (is_empty ka) (behind_attribute kb) i.0))
+            (subst (λ x. IsChainOf (behind_attribute kb) (more (node Attribute n v x) ts)) (sym s) (before-attribute kb ts n v k i.1 (new refl s (of-element kb ts (behind-attribute kb i.1) k))));
       }
-  goes one Text n v f ks ts ka kb e h k b =
+  goes Text n v ks ts ka kb h k new b =
       let i = broken-if (is_empty ka) (behind_text kb) b in
-      let s : ks ≡ none = none-empty names ka ks i.0 h in
+      let s : ks ≡ none = none-empty ka ks i.0 h in
       record {
         kids = s;
-        chain = subst (λ c. IsChainOf names c (more (node Text n v ks) ts)) (sym (then-same (is_empty ka) (behind_text kb) i.0))
-            (subst (λ x. IsChainOf names (behind_text kb) (more (node Text n v x) ts)) (sym s) (before-text names kb ts n v k i.1));
+        chain = subst (λ c. IsChainOf c (more (node Text n v ks) ts)) (sym (then-same (is_empty ka) (behind_text kb) i.0))
+            (subst (λ x. IsChainOf (behind_text kb) (more (node Text n v x) ts)) (sym s) (before-text kb ts n v k i.1));
       }
-  goes one Comment n v f ks ts ka kb e h k b =
+  goes Comment n v ks ts ka kb h k new b =
       let i = broken-if (is_empty ka) (behind_aside kb) b in
-      let s : ks ≡ none = none-empty names ka ks i.0 h in
+      let s : ks ≡ none = none-empty ka ks i.0 h in
       record {
         kids = s;
-        chain = subst (λ c. IsChainOf names c (more (node Comment n v ks) ts)) (sym (then-same (is_empty ka) (behind_aside kb) i.0))
-            (subst (λ x. IsChainOf names (behind_aside kb) (more (node Comment n v x) ts)) (sym s) (before-comment names kb ts n v k i.1));
+        chain = subst (λ c. IsChainOf c (more (node Comment n v ks) ts)) (sym (then-same (is_empty ka) (behind_aside kb) i.0))
+            (subst (λ x. IsChainOf (behind_aside kb) (more (node Comment n v x) ts)) (sym s) (before-comment kb ts n v k i.1));
       }
-  goes one Instruction n v f ks ts ka kb e h k b =
+  goes Instruction n v ks ts ka kb h k new b =
       let i = broken-if (is_empty ka) (behind_aside kb) b in
-      let s : ks ≡ none = none-empty names ka ks i.0 h in
+      let s : ks ≡ none = none-empty ka ks i.0 h in
       record {
         kids = s;
-        chain = subst (λ c. IsChainOf names c (more (node Instruction n v ks) ts)) (sym (then-same (is_empty ka) (behind_aside kb) i.0))
-            (subst (λ x. IsChainOf names (behind_aside kb) (more (node Instruction n v x) ts)) (sym s) (before-instruction names kb ts n v k i.1));
+        chain = subst (λ c. IsChainOf c (more (node Instruction n v ks) ts)) (sym (then-same (is_empty ka) (behind_aside kb) i.0))
+            (subst (λ x. IsChainOf (behind_aside kb) (more (node Instruction n v x) ts)) (sym s) (before-instruction kb ts n v k i.1));
       }
 
   -- ---- the trees
-  pub node-chain : (f : ℕ) (a b : Term) → chain_of names (Node f a b) ≡ behind_node (kind_in (slice_get names f)) f (chain_of names a) (chain_of names b)
-  node-chain f a b = ap (λ k. behind_node k f (chain_of names a) (chain_of names b)) (slice_get-map (λ pair. pair.0) names f)
+  pub node-chain : (f : ℕ) (a b : Term) → chain_of names (Node f a b) ≡ behind_node (kind_in (slice_get names f)) (chain_of names a) (chain_of names b)
+  node-chain f a b = ap (λ k. behind_node k (chain_of names a) (chain_of names b)) (slice_get-map (λ pair. pair.0) names f)
 
   pub record Decoded (term : Term) (values : List (List ℕ)) (c : Chain) : Type 0 where
     pub trees : Trees
     pub code : Codes names trees term
     pub lawful : AreLawfulTrees trees
-    pub chain : IsChainOf names c trees
+    pub chain : IsChainOf c trees
     pub own_texts : texts_all trees ≡ values
 
   module _ (one : AreDistinct names) (named : (i : ℕ) (kind : Kind) (name : List ℕ) → slice_get names i ≡ Some (kind, name) → IsLawfulName kind name) where
     node-decoded : (f : ℕ) (a b : Term) (values : List (List ℕ)) (p : Option (Kind × List ℕ)) → slice_get names f ≡ p
-        → AreTextsOf names (if_valued p f ++ text_symbols names (listed a (listed b []))) values → behind_node (kind_in p) f (chain_of names a) (chain_of names b) ≢ Broken
-        → ((vs : List (List ℕ)) → AreTextsOf names (text_symbols names (listed a [])) vs → chain_of names a ≢ Broken → Decoded a vs (chain_of names a))
-        → ((vs : List (List ℕ)) → AreTextsOf names (text_symbols names (listed b [])) vs → chain_of names b ≢ Broken → Decoded b vs (chain_of names b))
-        → Decoded (Node f a b) values (behind_node (kind_in p) f (chain_of names a) (chain_of names b))
-    node-decoded f a b values None s h w below behind = absurd (w refl)
-    node-decoded f a b values (Some (kind, n)) s h w below behind =
+        → AreTextsOf names (if_valued p f ++ text_symbols names (listed a (listed b []))) values → AreUnlike names (mark_at p f ++ marks names (listed a (listed b []))) → behind_node (kind_in p) (chain_of names a) (chain_of names b) ≢ Broken
+        → ((vs : List (List ℕ)) → AreTextsOf names (text_symbols names (listed a [])) vs → AreUnlike names (marks names (listed a [])) → chain_of names a ≢ Broken → Decoded a vs (chain_of names a))
+        → ((vs : List (List ℕ)) → AreTextsOf names (text_symbols names (listed b [])) vs → AreUnlike names (marks names (listed b [])) → chain_of names b ≢ Broken → Decoded b vs (chain_of names b))
+        → Decoded (Node f a b) values (behind_node (kind_in p) (chain_of names a) (chain_of names b))
+    node-decoded f a b values None s h u w below behind = absurd (w refl)
+    node-decoded f a b values (Some (kind, n)) s h u w below behind =
         let first = texts-split (if_valued (Some (kind, n)) f) (text_symbols names (listed a (listed b []))) values h in
         let second = texts-split (text_symbols names (listed a [])) (text_symbols names (listed b [])) first.right (subst (λ fs. AreTextsOf names fs first.right) (symbols-listed a (listed b [])) first.are_right) in
         let val = valued f kind n first.left s first.are_left in
-        let sound = both kind n f (chain_of names a) (chain_of names b) w in
-        let da = below second.left second.are_left sound.0 in
-        let db = behind second.right second.are_right sound.1 in
-        let go = goes one kind n val.value f da.trees db.trees (chain_of names a) (chain_of names b) s da.chain db.chain w in
+        let sound = both kind (chain_of names a) (chain_of names b) w in
+        let inner : AreUnlike names (marks names (listed a []) ++ marks names (listed b [])) = subst (AreUnlike names) (marks-listed names a (listed b [])) (unlike-right names (mark_at (Some (kind, n)) f) (marks names (listed a (listed b []))) u) in
+        let da = below second.left second.are_left (unlike-left names (marks names (listed a [])) (marks names (listed b [])) inner) sound.0 in
+        let db = behind second.right second.are_right (unlike-right names (marks names (listed a [])) (marks names (listed b [])) inner) sound.1 in
+        let new : kind ≡ Attribute → da.trees ≡ none → AreElementKids true db.trees → IsNew n db.trees = λ is bare kids. new-first names one f kind n s is da.trees db.trees a b bare da.code db.code kids db.lawful u in
+        let go = goes kind n val.value da.trees db.trees (chain_of names a) (chain_of names b) da.chain db.chain new w in
         record {
           trees = more (node kind n val.value da.trees) db.trees;
           code = (f, a, b, s, da.code, db.code, refl);
@@ -211,11 +216,11 @@ module _ (names : List (Kind × List ℕ)) where
               ∙ ap (λ x. x ++ (second.left ++ second.right)) (sym val.own_text) ∙ ap (λ x. first.left ++ x) (sym second.joined) ∙ sym first.joined;
         }
 
-    pub decoded : (term : Term) (values : List (List ℕ)) → holes_of term ≡ [] → AreTextsOf names (text_symbols names (listed term [])) values → chain_of names term ≢ Broken → Decoded term values (chain_of names term)
-    decoded Leaf values e h b = record { trees = none; code = refl; lawful = tt; chain = refl; own_texts = sym (no-value values h) }
-    decoded (Hole i) values e h b = cc
-    decoded (Node f a b) values e h w =
+    pub decoded : (term : Term) (values : List (List ℕ)) → holes_of term ≡ [] → AreTextsOf names (text_symbols names (listed term [])) values → AreUnlike names (marks names (listed term [])) → chain_of names term ≢ Broken → Decoded term values (chain_of names term)
+    decoded Leaf values e h u b = record { trees = none; code = refl; lawful = tt; chain = refl; own_texts = sym (no-value values h) }
+    decoded (Hole i) values e h u b = cc
+    decoded (Node f a b) values e h u w =
         let closed = append-empty (holes_of a) (holes_of b) e in
         let same = node-chain f a b in
-        let d = node-decoded f a b values (slice_get names f) refl h (λ broken. w (same ∙ broken)) (λ vs t s. decoded a vs closed.0 t s) (λ vs t s. decoded b vs closed.1 t s) in
+        let d = node-decoded f a b values (slice_get names f) refl h u (λ broken. w (same ∙ broken)) (λ vs t k s. decoded a vs closed.0 t k s) (λ vs t k s. decoded b vs closed.1 t k s) in
         subst (Decoded (Node f a b) values) (sym same) d

@@ -1,4 +1,5 @@
--- Rules, names and texts stand for a document exactly where the chain is one document and the texts are lawful at its symbols.
+-- Rules, names and texts stand for a document exactly where the chain is one document, the texts are lawful at its symbols, and
+-- its attributes are unlike.
 use Rattle.std.proofs.Common.{◌≡◌, ◌≢◌, ℕ, ◌-◌, ◌<◌, List, [], Some, slice_get, length, sym, ap, ◌∙◌, subst, arith}
 use Rattle.std.specs.Prelude.{Bool, true, false, Result, Ok, Err, IfOk, IsTrue, ◌↔◌}
 use Rattle.plain_tree.specs.declared.kind.Kind.{Kind}
@@ -19,6 +20,8 @@ use Rattle.grammar_file.specs.declared.chains.Chain.{Chain}
 use Rattle.grammar_file.specs.declared.chains.Chain.TheVariants.{Broken, Empty, Whole, Rooted}
 use Rattle.grammar_file.specs.Chains.{behind_node, chain_of, document}
 use Rattle.grammar_file.specs.TextSymbols.{text_symbols, AreTextsOf}
+use Rattle.grammar_file.specs.Unlike.{AreRightTexts}
+use Rattle.grammar_file.proofs.AttributeLemmas.{unlike-document}
 use Rattle.grammar_file.proofs.ChainLemmas.{IsChainOf}
 use Rattle.grammar_file.proofs.Decoding.{decoded, kind_in, node-chain}
 use Rattle.grammar_file.proofs.Telling.{told, texts-told}
@@ -35,10 +38,10 @@ whole-not c e b = let s : Whole ≡ Broken = sym e ∙ b in cc
 
 pub stands : (G : List Rule) (names : List (Kind × List ℕ)) (values : List (List ℕ)) → IsGrammar G → AreDistinct names
     → ((i : ℕ) (kind : Kind) (name : List ℕ) → slice_get names i ≡ Some (kind, name) → IsLawfulName kind name)
-    → chain_of names (value G) ≡ Whole → AreTextsOf names (text_symbols names (listed (value G) [])) values → (t : Tree) × StandsFor G names values t
+    → chain_of names (value G) ≡ Whole → AreRightTexts names (listed (value G) []) values → (t : Tree) × StandsFor G names values t
 stands G names values g one named e h =
-    let d = decoded names one named (value G) values (value-closed G g) h (whole-not (chain_of names (value G)) e) in
-    let w : IsChainOf names Whole d.trees = subst (λ c. IsChainOf names c d.trees) e d.chain in (
+    let d = decoded names one named (value G) values (value-closed G g) h.fit h.unlike (whole-not (chain_of names (value G)) e) in
+    let w : IsChainOf Whole d.trees = subst (λ c. IsChainOf c d.trees) e d.chain in (
       w.0,
       record {
         document = record { is_document = w.2; lawful = (subst AreLawfulTrees w.1 d.lawful).0 };
@@ -54,16 +57,18 @@ whole-told names term (node k n v ks) i c l =
     let ka = told names ks c.1 c.4 l.0.2 in
     let rooted : chain_of names c.1 ≡ Rooted = ka.rooted (subst (λ kind. AreKids kind ks) i l.0.1) in
     let empty : chain_of names c.2 ≡ Empty = ap (chain_of names) c.5 in
-    ap (chain_of names) c.6 ∙ node-chain names c.0 c.1 c.2 ∙ ap (λ p. behind_node (kind_in p) c.0 (chain_of names c.1) (chain_of names c.2)) c.3
-    ∙ ap (λ kind. behind_node (Some kind) c.0 (chain_of names c.1) (chain_of names c.2)) i
+    ap (chain_of names) c.6 ∙ node-chain names c.0 c.1 c.2 ∙ ap (λ p. behind_node (kind_in p) (chain_of names c.1) (chain_of names c.2)) c.3
+    ∙ ap (λ kind. behind_node (Some kind) (chain_of names c.1) (chain_of names c.2)) i
     ∙ ap (λ x. document x (chain_of names c.2)) rooted ∙ ap (document Rooted) empty
 
 pub told-whole : (G : List Rule) (names : List (Kind × List ℕ)) (values : List (List ℕ)) (t : Tree) → StandsFor G names values t → chain_of names (value G) ≡ Whole
 told-whole G names values t s = whole-told names (value G) t s.document.is_document s.code (s.document.lawful, tt)
 
-pub told-texts : (G : List Rule) (names : List (Kind × List ℕ)) (values : List (List ℕ)) (t : Tree) → StandsFor G names values t → AreTextsOf names (text_symbols names (listed (value G) [])) values
-told-texts G names values t s =
-    subst (AreTextsOf names (text_symbols names (listed (value G) []))) (texts-one t ∙ sym s.texts) (texts-told names (more t none) (value G) s.code (s.document.lawful, tt))
+pub told-texts : (G : List Rule) (names : List (Kind × List ℕ)) (values : List (List ℕ)) (t : Tree) → StandsFor G names values t → AreRightTexts names (listed (value G) []) values
+told-texts G names values t s = record {
+  fit = subst (AreTextsOf names (text_symbols names (listed (value G) []))) (texts-one t ∙ sym s.texts) (texts-told names (more t none) (value G) s.code (s.document.lawful, tt));
+  unlike = unlike-document names t (value G) s.document.is_document s.code (s.document.lawful, tt);
+}
 
 -- ---- answers that are true exactly where something holds
 pub not-false : (b : Bool) → b ≡ false → IsTrue b → ⊥

@@ -19,7 +19,9 @@ pub mod ChainLemmas
 pub mod Decoding
 pub mod Telling
 pub mod Documents
-pub mod SegmentSymbols
+pub mod MarkLemmas
+pub mod SegmentMarks
+pub mod AttributeLemmas
 pub mod TextListing
 pub mod TextWalking
 pub mod PartLemmas

@@ -1,13 +1,16 @@
 -- The parts of a rule's segment in lists.
-use Rattle.std.proofs.Common.{◌≡◌, ℕ, zero, suc, ◌<◌, ◌≤◌, nat_eq, false, List, [], ◌∷◌, length, get_or, Some, Vec, Global, refl, sym, ap, arith, append-nil, length-append}
+use Rattle.std.proofs.Common.{◌≡◌, ℕ, zero, suc, ◌<◌, ◌≤◌, nat_eq, false, List, [], ◌∷◌, ◌++◌, length, get_or, Some, None, Vec, Global, refl, sym, ap, subst, arith, append-nil, length-append}
 use Rattle.plain_tree.specs.declared.kind.Kind.{Kind}
 use Rattle.rule_arena.specs.declared.label.Label.TheVariants.{Call}
 use Rattle.slt_grammar.specs.Bodies.{CallsBelow}
 use Rattle.slt_grammar.specs.Segments.{part_of}
 use Rattle.slt_grammar.specs.declared.rules.Rule.{Rule}
-use Rattle.grammar_file.specs.TextLists.{Lists, parts_at, segment_parts, segment_symbols, symbols_of, ArePartsBelow, AreParts, AreTextLists, IsPartOf}
+use Rattle.grammar_file.specs.TextLists.{Lists, parts_at, segment_parts, segment_marks, marks_of, ArePartsBelow, AreParts, AreTextLists, IsPartOf}
+use Rattle.grammar_file.specs.Marks.{Thins}
+use Rattle.grammar_file.specs.declared.text_lists.Mark.TheVariants.{Bare}
 use Rattle.grammar_file.specs.declared.text_lists.Part.{Part}
 use Rattle.grammar_file.specs.declared.text_lists.Part.TheVariants.{Node, Segment}
+use Rattle.grammar_file.proofs.MarkLemmas.{some-thins, thins-is}
 
 pub parts-there : (lists : Lists) (r i : ℕ) (S : Vec (Vec Part Global) Global) → r < length lists → S ≡ get_or lists r S → parts_at lists r i ≡ segment_parts S.items i
 parts-there [] r i S lt e = absurd (omega arith)
@@ -34,19 +37,27 @@ not-empty [] e = cc
 not-empty (x ∷ xs) e = omega arith
 
 module _ (names : List (Kind × List ℕ)) (G : List Rule) where
-  -- each part stands for some symbols
-  some-symbols : (r : ℕ) (ps : List Part) → ArePartsBelow names G r ps → 0 < length ps → 0 < length (symbols_of names G ps)
-  some-symbols r [] h lt = absurd (omega arith)
-  some-symbols r (Node f ∷ ps) h lt = omega arith
-  some-symbols r (Segment q i ∷ ps) h lt = omega (arith, h.1, length-append (segment_symbols names G q i) (symbols_of names G ps))
+  -- each part stands for some marks
+  some-marks : (r : ℕ) (ps : List Part) → ArePartsBelow names G r ps → 0 < length ps → 0 < length (marks_of names G ps)
+  some-marks r [] h lt = absurd (omega arith)
+  some-marks r (Node m ∷ ps) h lt = omega arith
+  some-marks r (Segment q i ∷ ps) h lt = omega (arith, h.1, length-append (segment_marks names G q i) (marks_of names G ps))
 
   module _ (r q i : ℕ) (lists : Lists) (all : AreTextLists names G r lists) (below : CallsBelow r (Call q ∷ [])) where
-    parts : AreParts names G q (parts_at lists q i) (segment_symbols names G q i)
+    parts : AreParts names G q (parts_at lists q i) (segment_marks names G q i)
     parts = all.each q i below.0
 
     -- a call whose segment has parts
     pub part-call : 0 < length (parts_at lists q i) → IsPartOf names G r (part_of G (Call q) i) (Some (Segment q i))
     part-call lt = record {
-      below = (below.0, let s = some-symbols q (parts_at lists q i) parts.below lt in let e = ap length parts.same in omega arith, tt);
-      same = append-nil (segment_symbols names G q i);
+      below = (below.0, some-thins (marks_of names G (parts_at lists q i)) (segment_marks names G q i) parts.same (some-marks q (parts_at lists q i) parts.below lt), tt);
+      same = thins-is (segment_marks names G q i ++ []) (segment_marks names G q i) (append-nil (segment_marks names G q i));
     }
+
+    -- and none
+    pub part-none : parts_at lists q i ≡ [] → IsPartOf names G r (part_of G (Call q) i) None
+    part-none e = record { below = tt; same = subst (λ ps. Thins (marks_of names G ps) (segment_marks names G q i)) e parts.same }
+
+    -- and only nodes without a text
+    pub part-bare : parts_at lists q i ≡ Node Bare ∷ [] → IsPartOf names G r (part_of G (Call q) i) (Some (Node Bare))
+    part-bare e = record { below = tt; same = subst (λ ps. Thins (marks_of names G ps) (segment_marks names G q i)) e parts.same }

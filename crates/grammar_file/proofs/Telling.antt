@@ -1,10 +1,9 @@
 -- The chain of a code of lawful trees is what the trees are, and their texts are lawful at the code's symbols.
-use Rattle.std.proofs.Common.{◌≡◌, ◌≢◌, ℕ, nat_eq, Bool, true, false, List, [], ◌∷◌, ◌++◌, Some, slice_get, refl, sym, ap, ◌∙◌, subst, if◌then◌else◌}
-use Rattle.std.specs.List.{list_any}
+use Rattle.std.proofs.Common.{◌≡◌, ℕ, Bool, true, false, List, [], ◌++◌, Some, slice_get, refl, sym, ap, ◌∙◌, subst, if◌then◌else◌}
 use Rattle.plain_tree.specs.declared.kind.Kind.{Kind}
 use Rattle.plain_tree.specs.declared.kind.Kind.TheVariants.{Document, Element, Attribute, Text, Comment, Instruction}
 use Rattle.plain_tree.specs.Tree.{Tree, node, Trees, none, more}
-use Rattle.plain_tree.specs.Lawful.{IsLawfulValue, IsNew, AreElementKids, AreDocumentKids, AreKids, AreLawfulTrees}
+use Rattle.plain_tree.specs.Lawful.{IsLawfulValue, AreElementKids, AreDocumentKids, AreKids, AreLawfulTrees}
 use Rattle.plain_tree.specs.Numbers.{texts_all}
 use Rattle.slt_grammar.specs.Coding.{Codes}
 use Rattle.slt_grammar.specs.Segments.{listed}
@@ -14,7 +13,7 @@ use Rattle.grammar_file.specs.declared.chains.Chain.{Chain}
 use Rattle.grammar_file.specs.declared.chains.Chain.TheVariants.{Broken, Empty, Whole, Aside, Rooted, Content, Tagged}
 use Rattle.grammar_file.specs.Chains.{is_empty, is_of_element, document, behind_element, behind_text, behind_aside, behind_attribute, behind_node, chain_of}
 use Rattle.grammar_file.specs.TextSymbols.{if_valued, text_symbols, IsTextOf, AreTextsOf}
-use Rattle.grammar_file.proofs.ChainLemmas.{IsFree, free-append, free-absent, true-false, false-true}
+use Rattle.grammar_file.proofs.ChainLemmas.{true-false, false-true}
 use Rattle.grammar_file.proofs.Decoding.{kind_in, node-chain, symbols-listed, texts-join}
 
 -- kids of an element, none of them an attribute
@@ -32,11 +31,6 @@ is_aside Aside = true
 is_aside c = false
 
 module _ (names : List (Kind × List ℕ)) where
-  -- the chain's attributes have other names
-  abbrev IsFreeOf : Chain → List ℕ → Type 0
-  IsFreeOf (Tagged fs) name = IsFree names fs name
-  IsFreeOf c name = Unit {0}
-
   -- what trees tell of their chain
   pub record IsTold (ts : Trees) (c : Chain) : Type 0 where
     pub empty : ts ≡ none → c ≡ Empty
@@ -44,25 +38,9 @@ module _ (names : List (Kind × List ℕ)) where
     pub of_element : AreElementKids true ts → is_of_element c ≡ true
     pub aside : AreDocumentKids true ts → is_aside c ≡ true
     pub rooted : AreDocumentKids false ts → c ≡ Rooted
-    pub free : (name : List ℕ) → IsNew name ts → IsFreeOf c name
 
   not-none : (t : Tree) (ts : Trees) → more t ts ≡ none → ⊥
   not-none t ts e = cc
-
-  free-document : (ka kb : Chain) (name : List ℕ) → IsFreeOf (document ka kb) name
-  free-document Rooted Empty name = tt
-  free-document Rooted Broken name = tt
-  free-document Rooted Whole name = tt
-  free-document Rooted Aside name = tt
-  free-document Rooted Rooted name = tt
-  free-document Rooted Content name = tt
-  free-document Rooted (Tagged fs) name = tt
-  free-document Broken kb name = tt
-  free-document Empty kb name = tt
-  free-document Whole kb name = tt
-  free-document Aside kb name = tt
-  free-document Content kb name = tt
-  free-document (Tagged fs) kb name = tt
 
   -- what is behind a node of a kind
   plain-element : (c : Chain) → is_plain c ≡ true → is_plain (behind_element c) ≡ true
@@ -72,7 +50,7 @@ module _ (names : List (Kind × List ℕ)) where
   plain-element Content e = refl
   plain-element Broken e = e
   plain-element Whole e = e
-  plain-element (Tagged fs) e = e
+  plain-element Tagged e = e
 
   rooted-element : (c : Chain) → is_aside c ≡ true → behind_element c ≡ Rooted
   rooted-element Empty e = refl
@@ -81,16 +59,7 @@ module _ (names : List (Kind × List ℕ)) where
   rooted-element Content e = absurd (false-true e)
   rooted-element Broken e = absurd (false-true e)
   rooted-element Whole e = absurd (false-true e)
-  rooted-element (Tagged fs) e = absurd (false-true e)
-
-  free-element : (c : Chain) (name : List ℕ) → IsFreeOf (behind_element c) name
-  free-element Empty name = tt
-  free-element Aside name = tt
-  free-element Rooted name = tt
-  free-element Content name = tt
-  free-element Broken name = tt
-  free-element Whole name = tt
-  free-element (Tagged fs) name = tt
+  rooted-element Tagged e = absurd (false-true e)
 
   plain-text : (c : Chain) → is_plain c ≡ true → is_plain (behind_text c) ≡ true
   plain-text Empty e = refl
@@ -99,16 +68,7 @@ module _ (names : List (Kind × List ℕ)) where
   plain-text Content e = refl
   plain-text Broken e = e
   plain-text Whole e = e
-  plain-text (Tagged fs) e = e
-
-  free-text : (c : Chain) (name : List ℕ) → IsFreeOf (behind_text c) name
-  free-text Empty name = tt
-  free-text Aside name = tt
-  free-text Rooted name = tt
-  free-text Content name = tt
-  free-text Broken name = tt
-  free-text Whole name = tt
-  free-text (Tagged fs) name = tt
+  plain-text Tagged e = e
 
   plain-aside : (c : Chain) → is_plain c ≡ true → is_plain (behind_aside c) ≡ true
   plain-aside Empty e = refl
@@ -117,7 +77,7 @@ module _ (names : List (Kind × List ℕ)) where
   plain-aside Content e = refl
   plain-aside Broken e = e
   plain-aside Whole e = e
-  plain-aside (Tagged fs) e = e
+  plain-aside Tagged e = e
 
   aside-aside : (c : Chain) → is_aside c ≡ true → is_aside (behind_aside c) ≡ true
   aside-aside Empty e = refl
@@ -126,16 +86,7 @@ module _ (names : List (Kind × List ℕ)) where
   aside-aside Content e = e
   aside-aside Broken e = e
   aside-aside Whole e = e
-  aside-aside (Tagged fs) e = e
-
-  free-aside : (c : Chain) (name : List ℕ) → IsFreeOf (behind_aside c) name
-  free-aside Empty name = tt
-  free-aside Aside name = tt
-  free-aside Rooted name = tt
-  free-aside Content name = tt
-  free-aside Broken name = tt
-  free-aside Whole name = tt
-  free-aside (Tagged fs) name = tt
+  aside-aside Tagged e = e
 
   plain-of-element : (c : Chain) → is_plain c ≡ true → is_of_element c ≡ true
   plain-of-element Empty e = refl
@@ -144,47 +95,23 @@ module _ (names : List (Kind × List ℕ)) where
   plain-of-element Content e = refl
   plain-of-element Broken e = e
   plain-of-element Whole e = e
-  plain-of-element (Tagged fs) e = absurd (false-true e)
+  plain-of-element Tagged e = absurd (false-true e)
 
   if-true : (b : Bool) (x y : Chain) → b ≡ true → (if b then x else y) ≡ x
   if-true b x y e = rw e refl
 
-  if-false : (b : Bool) (x y : Chain) → b ≡ false → (if b then x else y) ≡ y
-  if-false b x y e = rw e refl
-
-  -- an attribute of a name that isn't among those behind it
-  of-element-attribute : (f : ℕ) (n : List ℕ) (c : Chain) → slice_get names f ≡ Some (Attribute, n) → is_of_element c ≡ true → IsFreeOf c n → is_of_element (behind_attribute f c) ≡ true
-  of-element-attribute f n Empty s e h = refl
-  of-element-attribute f n Aside s e h = refl
-  of-element-attribute f n Rooted s e h = refl
-  of-element-attribute f n Content s e h = refl
-  of-element-attribute f n Broken s e h = e
-  of-element-attribute f n Whole s e h = e
-  of-element-attribute f n (Tagged fs) s e h = ap is_of_element (if-false (list_any (λ g. nat_eq g f) fs) Broken (Tagged (fs ++ f ∷ [])) (free-absent names f fs n s h))
-
-  same-pair : (p q : Kind × List ℕ) → Some p ≡ Some q → p ≡ q
-  same-pair p q e = cc
-
-  other-name : (f : ℕ) (n m : List ℕ) → slice_get names f ≡ Some (Attribute, n) → m ≢ n → slice_get names f ≢ Some (Attribute, m)
-  other-name f n m s h e =
-      h (sym (ap (λ p. p.1) (same-pair (Attribute, n) (Attribute, m) (sym s ∙ e))))
-
-  free-attribute : (f : ℕ) (n m : List ℕ) (c : Chain) → slice_get names f ≡ Some (Attribute, n) → m ≢ n → IsFreeOf c m → IsFreeOf (behind_attribute f c) m
-  free-attribute f n m Empty s h free = (other-name f n m s h, tt)
-  free-attribute f n m Aside s h free = (other-name f n m s h, tt)
-  free-attribute f n m Rooted s h free = (other-name f n m s h, tt)
-  free-attribute f n m Content s h free = (other-name f n m s h, tt)
-  free-attribute f n m Broken s h free = tt
-  free-attribute f n m Whole s h free = tt
-  free-attribute f n m (Tagged fs) s h free = by_test (list_any (λ g. nat_eq g f) fs)
-    where
-      by_test : (t : Bool) → IsFreeOf (if t then Broken else Tagged (fs ++ f ∷ [])) m
-      by_test true = tt
-      by_test false = free-append names fs (f ∷ []) m free (other-name f n m s h, tt)
+  of-element-attribute : (c : Chain) → is_of_element c ≡ true → is_of_element (behind_attribute c) ≡ true
+  of-element-attribute Empty e = refl
+  of-element-attribute Aside e = refl
+  of-element-attribute Rooted e = refl
+  of-element-attribute Content e = refl
+  of-element-attribute Tagged e = refl
+  of-element-attribute Broken e = e
+  of-element-attribute Whole e = e
 
   -- ---- a node before trees whose chain is told
   told-document : (n v : List ℕ) (ks ts : Trees) (ka kb : Chain) → IsTold (more (node Document n v ks) ts) (document ka kb)
-  told-document n v ks ts ka kb = record { empty = λ e. absurd (not-none (node Document n v ks) ts e); plain = λ h. absurd h; of_element = λ h. absurd h; aside = λ h. absurd h; rooted = λ h. absurd h; free = λ m h. free-document ka kb m }
+  told-document n v ks ts ka kb = record { empty = λ e. absurd (not-none (node Document n v ks) ts e); plain = λ h. absurd h; of_element = λ h. absurd h; aside = λ h. absurd h; rooted = λ h. absurd h }
 
   told-element : (n v : List ℕ) (ks ts : Trees) (kb : Chain) → IsTold ts kb → IsTold (more (node Element n v ks) ts) (behind_element kb)
   told-element n v ks ts kb t = record {
@@ -193,17 +120,15 @@ module _ (names : List (Kind × List ℕ)) where
     of_element = λ h. plain-of-element (behind_element kb) (plain-element kb (t.plain h));
     aside = λ h. absurd (true-false h.0);
     rooted = λ h. rooted-element kb (t.aside h.1);
-    free = λ m h. free-element kb m;
   }
 
-  told-attribute : (f : ℕ) (n v : List ℕ) (ks ts : Trees) (kb : Chain) → slice_get names f ≡ Some (Attribute, n) → IsTold ts kb → IsTold (more (node Attribute n v ks) ts) (behind_attribute f kb)
-  told-attribute f n v ks ts kb s t = record {
+  told-attribute : (n v : List ℕ) (ks ts : Trees) (kb : Chain) → IsTold ts kb → IsTold (more (node Attribute n v ks) ts) (behind_attribute kb)
+  told-attribute n v ks ts kb t = record {
     empty = λ e. absurd (not-none (node Attribute n v ks) ts e);
     plain = λ h. absurd (false-true h.0);
-    of_element = λ h. of-element-attribute f n kb s (t.of_element h.2) (t.free n h.1);
+    of_element = λ h. of-element-attribute kb (t.of_element h.2);
     aside = λ h. absurd h;
     rooted = λ h. absurd h;
-    free = λ m h. free-attribute f n m kb s (h.0 refl) (t.free m h.1);
   }
 
   told-text : (n v : List ℕ) (ks ts : Trees) (kb : Chain) → IsTold ts kb → IsTold (more (node Text n v ks) ts) (behind_text kb)
@@ -213,7 +138,6 @@ module _ (names : List (Kind × List ℕ)) where
     of_element = λ h. plain-of-element (behind_text kb) (plain-text kb (t.plain h));
     aside = λ h. absurd h;
     rooted = λ h. absurd h;
-    free = λ m h. free-text kb m;
   }
 
   rooted-aside : (c : Chain) → c ≡ Rooted → behind_aside c ≡ Rooted
@@ -226,7 +150,6 @@ module _ (names : List (Kind × List ℕ)) where
     of_element = λ h. plain-of-element (behind_aside kb) (plain-aside kb (t.plain h));
     aside = λ h. aside-aside kb (t.aside h);
     rooted = λ h. rooted-aside kb (t.rooted h);
-    free = λ m h. free-aside kb m;
   }
 
   told-instruction : (n v : List ℕ) (ks ts : Trees) (kb : Chain) → IsTold ts kb → IsTold (more (node Instruction n v ks) ts) (behind_aside kb)
@@ -236,30 +159,29 @@ module _ (names : List (Kind × List ℕ)) where
     of_element = λ h. plain-of-element (behind_aside kb) (plain-aside kb (t.plain h));
     aside = λ h. aside-aside kb (t.aside h);
     rooted = λ h. rooted-aside kb (t.rooted h);
-    free = λ m h. free-aside kb m;
   }
 
   with-none : (ks : Trees) (ka rest : Chain) → IsTold ks ka → ks ≡ none → (if is_empty ka then rest else Broken) ≡ rest
   with-none ks ka rest t e = if-true (is_empty ka) rest Broken (ap is_empty (t.empty e))
 
-  told-node : (kind : Kind) (f : ℕ) (n v : List ℕ) (ks ts : Trees) (ka kb : Chain) → slice_get names f ≡ Some (kind, n) → AreKids kind ks → IsTold ks ka → IsTold ts kb
-      → IsTold (more (node kind n v ks) ts) (behind_node (Some kind) f ka kb)
-  told-node Document f n v ks ts ka kb s kids a b = told-document n v ks ts ka kb
-  told-node Element f n v ks ts ka kb s kids a b =
+  told-node : (kind : Kind) (n v : List ℕ) (ks ts : Trees) (ka kb : Chain) → AreKids kind ks → IsTold ks ka → IsTold ts kb
+      → IsTold (more (node kind n v ks) ts) (behind_node (Some kind) ka kb)
+  told-node Document n v ks ts ka kb kids a b = told-document n v ks ts ka kb
+  told-node Element n v ks ts ka kb kids a b =
       subst (IsTold (more (node Element n v ks) ts)) (sym (if-true (is_of_element ka) (behind_element kb) Broken (a.of_element kids))) (told-element n v ks ts kb b)
-  told-node Attribute f n v ks ts ka kb s kids a b = subst (IsTold (more (node Attribute n v ks) ts)) (sym (with-none ks ka (behind_attribute f kb) a kids)) (told-attribute f n v ks ts kb s b)
-  told-node Text f n v ks ts ka kb s kids a b = subst (IsTold (more (node Text n v ks) ts)) (sym (with-none ks ka (behind_text kb) a kids)) (told-text n v ks ts kb b)
-  told-node Comment f n v ks ts ka kb s kids a b = subst (IsTold (more (node Comment n v ks) ts)) (sym (with-none ks ka (behind_aside kb) a kids)) (told-comment n v ks ts kb b)
-  told-node Instruction f n v ks ts ka kb s kids a b = subst (IsTold (more (node Instruction n v ks) ts)) (sym (with-none ks ka (behind_aside kb) a kids)) (told-instruction n v ks ts kb b)
+  told-node Attribute n v ks ts ka kb kids a b = subst (IsTold (more (node Attribute n v ks) ts)) (sym (with-none ks ka (behind_attribute kb) a kids)) (told-attribute n v ks ts kb b)
+  told-node Text n v ks ts ka kb kids a b = subst (IsTold (more (node Text n v ks) ts)) (sym (with-none ks ka (behind_text kb) a kids)) (told-text n v ks ts kb b)
+  told-node Comment n v ks ts ka kb kids a b = subst (IsTold (more (node Comment n v ks) ts)) (sym (with-none ks ka (behind_aside kb) a kids)) (told-comment n v ks ts kb b)
+  told-node Instruction n v ks ts ka kb kids a b = subst (IsTold (more (node Instruction n v ks) ts)) (sym (with-none ks ka (behind_aside kb) a kids)) (told-instruction n v ks ts kb b)
 
   pub told : (ts : Trees) (term : Term) → Codes names ts term → AreLawfulTrees ts → IsTold ts (chain_of names term)
-  told none term c l = subst (IsTold none) (sym (ap (chain_of names) c)) (record { empty = λ e. refl; plain = λ h. refl; of_element = λ h. refl; aside = λ h. refl; rooted = λ h. absurd (false-true h); free = λ m h. tt })
+  told none term c l = subst (IsTold none) (sym (ap (chain_of names) c)) (record { empty = λ e. refl; plain = λ h. refl; of_element = λ h. refl; aside = λ h. refl; rooted = λ h. absurd (false-true h) })
   told (more (node k n v ks) ts) term c l =
       let f = c.0 in
       let ka = chain_of names c.1 in
       let kb = chain_of names c.2 in
-      let t = told-node k f n v ks ts ka kb c.3 l.0.1 (told ks c.1 c.4 l.0.2) (told ts c.2 c.5 l.1) in
-      let e : chain_of names term ≡ behind_node (Some k) f ka kb = ap (chain_of names) c.6 ∙ node-chain names f c.1 c.2 ∙ ap (λ p. behind_node (kind_in p) f ka kb) c.3 in
+      let t = told-node k n v ks ts ka kb l.0.1 (told ks c.1 c.4 l.0.2) (told ts c.2 c.5 l.1) in
+      let e : chain_of names term ≡ behind_node (Some k) ka kb = ap (chain_of names) c.6 ∙ node-chain names f c.1 c.2 ∙ ap (λ p. behind_node (kind_in p) ka kb) c.3 in
       subst (IsTold (more (node k n v ks) ts)) (sym e) t
 
   -- ---- texts

@@ -1,9 +1,16 @@
 -- Texts and symbols, one after another.
-use Rattle.std.proofs.Common.{◌≡◌, ℕ, ◌+◌, ◌≤◌, nat_eq, List, [], ◌∷◌, length, drop, Option, Some, None, refl, sym, ap, subst, arith, length-drop}
+use Rattle.std.proofs.Common.{◌≡◌, ◌∙◌, ℕ, ◌+◌, ◌≤◌, nat_eq, List, [], ◌∷◌, length, drop, Option, Some, None, refl, sym, ap, subst, arith, length-drop}
 use Rattle.std.specs.Prelude.{slice_get, IsTrue, ◌↔◌}
 use Rattle.std.proofs.lemmas.Bool.Decides.{nat_tests}
 use Rattle.plain_tree.specs.declared.kind.Kind.{Kind}
-use Rattle.grammar_file.specs.TextSymbols.{AreTextsOf, IsTextOf}
+use Rattle.rule_arena.specs.declared.label.Label.{Label}
+use Rattle.grammar_file.specs.Marks.{marks, valued, Thins}
+use Rattle.grammar_file.specs.TextSymbols.{text_symbols, AreTextsOf, IsTextOf}
+use Rattle.grammar_file.specs.Unlike.{AreBehind, AreRightTexts, GoOn, HasCome}
+use Rattle.grammar_file.specs.declared.attributes.Attributes.{Attributes}
+use Rattle.grammar_file.specs.declared.text_lists.Mark.{Mark}
+use Rattle.grammar_file.specs.declared.text_lists.Mark.TheVariants.{Valued, Bare}
+use Rattle.grammar_file.proofs.MarkLemmas.{going-same, thins-valued, unlike-same, valued-marks}
 use Rattle.grammar_file.proofs.ListLemmas.{drop-at, drop-none}
 
 empty : {X : Type 0} (xs : List X) → length xs ≡ 0 → xs ≡ []
@@ -57,3 +64,50 @@ module _ (names : List (Kind × List ℕ)) (texts : List (List ℕ)) where
         let s = drop-short texts at d in
         numbers-same at n (omega arith)),
   )
+
+pub iff-over : {A B C : Type 0} → A ↔ B → B ↔ C → A ↔ C
+iff-over h k = ((λ a. k.0 (h.0 a)), (λ c. h.1 (k.1 c)))
+
+-- what is left of the texts is that of the marks to come, and their attributes are unlike those that came
+pub record Fits (names : List (Kind × List ℕ)) (texts : List (List ℕ)) (at : ℕ) (a : Attributes) (ms : List Mark) : Type 0 where
+  pub fit : AreTextsOf names (valued ms) (drop at texts)
+  pub going : GoOn names a ms
+
+module _ (names : List (Kind × List ℕ)) (texts : List (List ℕ)) where
+  -- at first no attributes came
+  pub fits-start : (labels : List Label) (a : Attributes) (ws : List Mark) → AreBehind a (length names) 0 → Thins ws (marks names labels) → AreRightTexts names labels texts ↔ Fits names texts 0 a ws
+  fits-start labels a ws behind thin = (
+    (λ r. record { fit = subst (λ fs. AreTextsOf names fs texts) (sym same) r.fit; going = record { come = λ f c. absurd (none f c); coming = (unlike-same names ws (marks names labels) thin).0 r.unlike } }),
+    (λ h. record { fit = subst (λ fs. AreTextsOf names fs texts) same h.fit; unlike = (unlike-same names ws (marks names labels) thin).1 h.going.coming }),
+  )
+    where
+      same : valued ws ≡ text_symbols names labels
+      same = thins-valued ws (marks names labels) thin ∙ valued-marks names labels
+
+      none : (f : ℕ) → HasCome a f → ⊥
+      none f c = let e = behind.each f in omega arith
+
+  pub fits-thin : (at : ℕ) (a : Attributes) (ws ms : List Mark) → Thins ws ms → Fits names texts at a ms ↔ Fits names texts at a ws
+  fits-thin at a ws ms thin = (
+    (λ h. record { fit = subst (λ fs. AreTextsOf names fs (drop at texts)) (sym (thins-valued ws ms thin)) h.fit; going = (going-same names a ws ms thin).0 h.going }),
+    (λ h. record { fit = subst (λ fs. AreTextsOf names fs (drop at texts)) (thins-valued ws ms thin) h.fit; going = (going-same names a ws ms thin).1 h.going }),
+  )
+
+  pub fits-bare : (at : ℕ) (a b : Attributes) (ms : List Mark) → GoOn names a (Bare ∷ ms) ↔ GoOn names b ms → Fits names texts at a (Bare ∷ ms) ↔ Fits names texts at b ms
+  fits-bare at a b ms go = ((λ h. record { fit = h.fit; going = go.0 h.going }), (λ h. record { fit = h.fit; going = go.1 h.going }))
+
+  pub fits-valued : (at : ℕ) (a b : Attributes) (f : ℕ) (ms : List Mark) (t : List ℕ) → GoOn names a (Valued f ∷ ms) ↔ GoOn names b ms → slice_get texts at ≡ Some t → IsTextOf (slice_get names f) t
+      → Fits names texts at a (Valued f ∷ ms) ↔ Fits names texts (at + 1) b ms
+  fits-valued at a b f ms t go s is =
+      let next = fit-next names texts (f ∷ valued ms) (valued ms) f at t ((λ h. h), (λ h. h)) refl s is in
+      ((λ h. record { fit = next.0 h.fit; going = go.0 h.going }), (λ h. record { fit = next.1 h.fit; going = go.1 h.going }))
+
+  pub fits-not : (at : ℕ) (a : Attributes) (f : ℕ) (ms : List Mark) → ((t : List ℕ) → slice_get texts at ≡ Some t → IsTextOf (slice_get names f) t → ⊥) → Fits names texts at a (Valued f ∷ ms) → ⊥
+  fits-not at a f ms none h = fit-not names texts (f ∷ valued ms) (valued ms) f at ((λ x. x), (λ x. x)) refl none h.fit
+
+  pub fits-end : (at n : ℕ) (a : Attributes) (ms : List Mark) → ms ≡ [] → at ≤ length texts → n ≡ length texts → IsTrue (nat_eq at n) ↔ Fits names texts at a ms
+  fits-end at n a ms e within count =
+      let end = fit-end names texts [] at n ((λ x. x), (λ x. x)) refl within count in (
+        (λ t. subst (Fits names texts at a) (sym e) (record { fit = end.0 t; going = record { come = λ f c. tt; coming = tt } })),
+        (λ h. end.1 (subst (Fits names texts at a) e h).fit),
+      )

@@ -15,46 +15,64 @@ use Rattle.slt_grammar.specs.declared.rules.Rule.{Rule}
 use Rattle.slt_grammar.specs.declared.tour_walk.TourWalk.{TourWalk}
 use Rattle.slt_grammar.proofs.StopLemmas.{stop-is, calls-here}
 use Rattle.slt_grammar.proofs.TourLemmas.{spread_nodes, preorder-nodes, params-segment}
-use Rattle.grammar_file.specs.TextSymbols.{text_symbols}
-use Rattle.grammar_file.specs.TextLists.{Lists, parts_at, segment_parts, segment_symbols, symbols_of, ArePartsBelow, AreParts, IsPartOf, AreSegments, AreTextLists}
-use Rattle.grammar_file.specs.Listings.{Adds}
+use Rattle.grammar_file.specs.Marks.{marks, Thins}
+use Rattle.grammar_file.specs.declared.text_lists.Mark.{Mark}
+use Rattle.grammar_file.specs.declared.text_lists.Mark.TheVariants.{Bare}
+use Rattle.grammar_file.specs.TextLists.{Lists, parts_at, segment_parts, segment_marks, marks_of, ArePartsBelow, AreParts, IsPartOf, AreSegments, AreTextLists}
+use Rattle.grammar_file.specs.Listings.{Adds, EndsBare}
 use Rattle.grammar_file.specs.declared.text_lists.Listing.{Listing}
 use Rattle.grammar_file.specs.declared.text_lists.Part.{Part}
 use Rattle.grammar_file.specs.declared.text_lists.Part.TheVariants.{Node as NodePart, Segment}
-use Rattle.grammar_file.proofs.SegmentSymbols.{gathered, gathered-segment, gathered-plain}
+use Rattle.grammar_file.proofs.MarkLemmas.{thins-bare, thins-both, thins-over}
+use Rattle.grammar_file.proofs.SegmentMarks.{gathered, gathered-segment, gathered-plain}
 
 module _ (names : List (Kind × List ℕ)) (G : List Rule) where
   -- ---- parts, one after another
-  pub symbols-append : (ps qs : List Part) → symbols_of names G (ps ++ qs) ≡ symbols_of names G ps ++ symbols_of names G qs
-  symbols-append [] qs = refl
-  symbols-append (NodePart f ∷ ps) qs = ap (λ xs. f ∷ xs) (symbols-append ps qs)
-  symbols-append (Segment q i ∷ ps) qs = ap (λ xs. segment_symbols names G q i ++ xs) (symbols-append ps qs) ∙ sym (append_assoc (segment_symbols names G q i) (symbols_of names G ps) (symbols_of names G qs))
+  pub marks-append : (ps qs : List Part) → marks_of names G (ps ++ qs) ≡ marks_of names G ps ++ marks_of names G qs
+  marks-append [] qs = refl
+  marks-append (NodePart m ∷ ps) qs = ap (λ xs. m ∷ xs) (marks-append ps qs)
+  marks-append (Segment q i ∷ ps) qs = ap (λ xs. segment_marks names G q i ++ xs) (marks-append ps qs) ∙ sym (append_assoc (segment_marks names G q i) (marks_of names G ps) (marks_of names G qs))
 
   below-append : (r : ℕ) (ps qs : List Part) → ArePartsBelow names G r ps → ArePartsBelow names G r qs → ArePartsBelow names G r (ps ++ qs)
   below-append r [] qs h k = k
-  below-append r (NodePart f ∷ ps) qs h k = below-append r ps qs h k
+  below-append r (NodePart m ∷ ps) qs h k = below-append r ps qs h k
   below-append r (Segment q i ∷ ps) qs h k = (h.0, h.1, below-append r ps qs h.2 k)
 
-  parts-append : (r : ℕ) (ps qs : List Part) (xs ys : List ℕ) → AreParts names G r ps xs → AreParts names G r qs ys → AreParts names G r (ps ++ qs) (xs ++ ys)
-  parts-append r ps qs xs ys a b = record { below = below-append r ps qs a.below b.below; same = symbols-append ps qs ∙ ap (λ zs. zs ++ symbols_of names G qs) a.same ∙ ap (λ zs. xs ++ zs) b.same }
+  parts-append : (r : ℕ) (ps qs : List Part) (xs ys : List Mark) → AreParts names G r ps xs → AreParts names G r qs ys → AreParts names G r (ps ++ qs) (xs ++ ys)
+  parts-append r ps qs xs ys a b = record {
+    below = below-append r ps qs a.below b.below;
+    same = subst (λ zs. Thins zs (xs ++ ys)) (sym (marks-append ps qs)) (thins-both (marks_of names G ps) xs (marks_of names G qs) ys a.same b.same);
+  }
+
+  -- nodes without a text behind such
+  parts-bare : (r : ℕ) (ps before : List Part) (xs ys : List Mark) → AreParts names G r ps xs → AreParts names G r (NodePart Bare ∷ []) ys → ps ≡ before ++ NodePart Bare ∷ [] → AreParts names G r ps (xs ++ ys)
+  parts-bare r ps before xs ys a b e =
+      let ws : List Mark = marks_of names G before in
+      let is : marks_of names G ps ≡ ws ++ Bare ∷ [] = ap (marks_of names G) e ∙ marks-append before (NodePart Bare ∷ []) in
+      let own : Thins (ws ++ Bare ∷ []) xs = subst (λ zs. Thins zs xs) is a.same in
+      record {
+        below = a.below;
+        same = subst (λ zs. Thins zs (xs ++ ys)) (sym is)
+            (thins-over (ws ++ Bare ∷ []) ((ws ++ Bare ∷ []) ++ Bare ∷ []) (xs ++ ys) (thins-bare ws) (thins-both (ws ++ Bare ∷ []) xs (Bare ∷ []) ys own b.same));
+      }
 
   -- ---- segments that are done
-  abbrev pub AreDone : ℕ → List (Vec Part Global) → List (List ℕ) → Type 0
+  abbrev pub AreDone : ℕ → List (Vec Part Global) → List (List Mark) → Type 0
   AreDone r [] [] = Unit {0}
   AreDone r [] (s ∷ ss) = ⊥
   AreDone r (L ∷ Ls) [] = ⊥
   AreDone r (L ∷ Ls) (s ∷ ss) = AreParts names G r L.items s × AreDone r Ls ss
 
-  done-more : (r : ℕ) (Ls : List (Vec Part Global)) (ss : List (List ℕ)) (L : Vec Part Global) (s : List ℕ) → AreDone r Ls ss → AreParts names G r L.items s → AreDone r (Ls ++ L ∷ []) (ss ++ s ∷ [])
+  done-more : (r : ℕ) (Ls : List (Vec Part Global)) (ss : List (List Mark)) (L : Vec Part Global) (s : List Mark) → AreDone r Ls ss → AreParts names G r L.items s → AreDone r (Ls ++ L ∷ []) (ss ++ s ∷ [])
   done-more r [] [] L s d p = (p, tt)
   done-more r [] (t ∷ ts) L s d p = absurd d
   done-more r (K ∷ Ks) [] L s d p = absurd d
   done-more r (K ∷ Ks) (t ∷ ts) L s d p = (d.0, done-more r Ks ts L s d.1 p)
 
   nothing : (r : ℕ) → AreParts names G r [] []
-  nothing r = record { below = tt; same = refl }
+  nothing r = record { below = tt; same = tt }
 
-  done-at : (r : ℕ) (Ls : List (Vec Part Global)) (ss : List (List ℕ)) (i : ℕ) → AreDone r Ls ss → AreParts names G r (segment_parts Ls i) (get_or ss i [])
+  done-at : (r : ℕ) (Ls : List (Vec Part Global)) (ss : List (List Mark)) (i : ℕ) → AreDone r Ls ss → AreParts names G r (segment_parts Ls i) (get_or ss i [])
   done-at r [] [] i d = nothing r
   done-at r [] (s ∷ ss) i d = absurd d
   done-at r (L ∷ Ls) [] i d = absurd d
@@ -74,8 +92,8 @@ pub record Listed (names : List (Kind × List ℕ)) (G : List KeyedRule) (r : �
   pub here : Stop Node
   pub left : List (Stop Node)
   pub stands : StandsBefore G r walk (here ∷ left)
-  pub done : List (List ℕ)
-  pub begun : List ℕ
+  pub done : List (List Mark)
+  pub begun : List Mark
   pub are_done : AreDone names (rules_of G) r segments done
   pub are_begun : AreParts names (rules_of G) r parts begun
   pub all : gathered names done begun (part_of (rules_of G) here.item.label here.part ++ spread_nodes (rules_of G) left) ≡ gathered names [] [] (preorder (rules_of G) r)
@@ -85,7 +103,7 @@ module _ (names : List (Kind × List ℕ)) (g : Keyed) (k : IsKeyed g) (r : ℕ)
   abbrev H : List Rule
   H = rules_of g.rules
 
-  listed-at : (walk : TourWalk) (segments : List (Vec Part Global)) (parts : List Part) (first steps : ℕ) (ms : List (Stop Node)) (done : List (List ℕ)) (begun : List ℕ) → StandsBefore g.rules r walk ms
+  listed-at : (walk : TourWalk) (segments : List (Vec Part Global)) (parts : List Part) (first steps : ℕ) (ms : List (Stop Node)) (done : List (List Mark)) (begun : List Mark) → StandsBefore g.rules r walk ms
       → AreDone names H r segments done → AreParts names H r parts begun → gathered names done begun (spread_nodes H ms) ≡ gathered names [] [] (preorder H r)
       → steps + 2 * length ms ≤ first + 2 * length (node_tour g.rules r) → Listed names g.rules r walk segments parts first steps
   listed-at walk segments parts first steps [] done begun s d b e f = let l = s.are_left in absurd (cc)
@@ -111,8 +129,8 @@ module _ (names : List (Kind × List ℕ)) (g : Keyed) (k : IsKeyed g) (r : ℕ)
 
     -- behind what stands here
     pub record Next (segments' : List (Vec Part Global)) (parts' : List Part) : Type 0 where
-      pub done : List (List ℕ)
-      pub begun : List ℕ
+      pub done : List (List Mark)
+      pub begun : List Mark
       pub are_done : AreDone names H r segments' done
       pub are_begun : AreParts names H r parts' begun
       pub all : gathered names done begun (spread_nodes H i.left) ≡ gathered names [] [] (preorder H r)
@@ -129,15 +147,31 @@ module _ (names : List (Kind × List ℕ)) (g : Keyed) (k : IsKeyed g) (r : ℕ)
     pub behind-part : (x.label ≡ Param → ⊥) → (p : Option Part) → IsPartOf names H r (part_of H x.label walk.part) p → Next segments (parts ++ option_to_list p)
     behind-part n p is = record {
       done = i.done;
-      begun = i.begun ++ text_symbols names (part_of H x.label walk.part);
+      begun = i.begun ++ marks names (part_of H x.label walk.part);
       are_done = i.are_done;
-      are_begun = parts-append names H r parts (option_to_list p) i.begun (text_symbols names (part_of H x.label walk.part)) i.are_begun is;
+      are_begun = parts-append names H r parts (option_to_list p) i.begun (marks names (part_of H x.label walk.part)) i.are_begun is;
       all = sym (gathered-plain names (part_of H x.label walk.part) (spread_nodes H i.left) i.done i.begun (part-plain names H x.label walk.part n)) ∙ all-here;
     }
 
-    unchanged : (s t : Listing) (p : Option Part) → s.done.items ≡ segments → s.begun.items ≡ parts → (x.label ≡ Param → ⊥) → (t.done.items ≡ s.done.items) × (t.begun.items ≡ s.begun.items ++ option_to_list p)
+    behind-bare : (x.label ≡ Param → ⊥) → IsPartOf names H r (part_of H x.label walk.part) (Some (NodePart Bare)) → EndsBare parts → Next segments parts
+    behind-bare n is ends = record {
+      done = i.done;
+      begun = i.begun ++ marks names (part_of H x.label walk.part);
+      are_done = i.are_done;
+      are_begun = parts-bare names H r parts ends.0 i.begun (marks names (part_of H x.label walk.part)) i.are_begun is ends.1;
+      all = sym (gathered-plain names (part_of H x.label walk.part) (spread_nodes H i.left) i.done i.begun (part-plain names H x.label walk.part n)) ∙ all-here;
+    }
+
+    -- what a label that isn't a parameter does to the parts
+    abbrev Puts : Listing → Listing → Option Part → Type 0
+    Puts s t p = (t.done.items ≡ s.done.items) × ((t.begun.items ≡ s.begun.items ++ option_to_list p) ⊎ ((p ≡ Some (NodePart Bare)) × EndsBare s.begun.items × (t.begun.items ≡ s.begun.items)))
+
+    unchanged : (s t : Listing) (p : Option Part) → s.done.items ≡ segments → s.begun.items ≡ parts → (x.label ≡ Param → ⊥) → Puts s t p
         → IsPartOf names H r (part_of H x.label walk.part) p → Next t.done.items t.begun.items
-    unchanged s t p d o n a is = subst (λ ps. Next t.done.items ps) (ap (λ ps. ps ++ option_to_list p) (sym o) ∙ sym a.1) (subst (λ ss. Next ss (parts ++ option_to_list p)) (sym d ∙ sym a.0) (behind-part n p is))
+    unchanged s t p d o n (a, inl b) is = subst (λ ps. Next t.done.items ps) (ap (λ ps. ps ++ option_to_list p) (sym o) ∙ sym b) (subst (λ ss. Next ss (parts ++ option_to_list p)) (sym d ∙ sym a) (behind-part n p is))
+    unchanged s t p d o n (a, inr (bare, ends, b)) is =
+        let next : Next segments parts = behind-bare n (subst (IsPartOf names H r (part_of H x.label walk.part)) bare is) (subst EndsBare o ends) in
+        subst (λ ps. Next t.done.items ps) (sym o ∙ sym b) (subst (λ ss. Next ss parts) (sym d ∙ sym a) next)
 
     pub behind-here : (s t : Listing) (p : Option Part) → s.done.items ≡ segments → s.begun.items ≡ parts → (l : Label) → x.label ≡ l → Adds l p s t → IsPartOf names H r (part_of H x.label walk.part) p → Next t.done.items t.begun.items
     behind-here s t p d o Param e a is = subst (λ ps. Next t.done.items ps) (sym a.3) (subst (λ ss. Next ss []) (ap (λ ss. ss ++ a.0 ∷ []) (sym d) ∙ sym a.2) (behind-parameter e a.0 (a.1 ∙ o)))
@@ -153,7 +187,7 @@ module _ (names : List (Kind × List ℕ)) (g : Keyed) (k : IsKeyed g) (r : ℕ)
       listed-end e v same j =
           let d = done-more names H r segments' n.done v n.begun n.are_done (subst (λ (ps : List Part). AreParts names H r ps n.begun) (sym same) n.are_begun) in
           let all : n.done ++ n.begun ∷ [] ≡ gathered names [] [] (preorder H r) = ap (λ (ms : List (Stop Node)). gathered names n.done n.begun (spread_nodes H ms)) (sym e) ∙ n.all in
-          subst (AreParts names H r (segment_parts (segments' ++ v ∷ []) j)) (ap (λ (ss : List (List ℕ)). get_or ss j []) all ∙ gathered-segment names j (preorder H r)) (done-at names H r (segments' ++ v ∷ []) (n.done ++ n.begun ∷ []) j d)
+          subst (AreParts names H r (segment_parts (segments' ++ v ∷ []) j)) (ap (λ (ss : List (List Mark)). get_or ss j []) all ∙ gathered-segment names j (preorder H r)) (done-at names H r (segments' ++ v ∷ []) (n.done ++ n.begun ∷ []) j d)
 
 pub if-ok : {A E : Type 0} {P Q : A → Type 0} (r : Result A E) → IfOk r P → ((x : A) → P x → Q x) → IfOk r Q
 if-ok (Ok x) h f = f x h
@@ -176,11 +210,11 @@ module _ (names : List (Kind × List ℕ)) (G : List Rule) where
   pub lists-more : (r : ℕ) (lists : Lists) (S : Vec (Vec Part Global) Global) → AreTextLists names G r lists → AreSegments names G r S.items → AreTextLists names G (r + 1) (lists ++ S ∷ [])
   lists-more r lists S a s = record { count = length-append lists (S ∷ []) ∙ ap (λ n. n + 1) a.count; each = λ q i lt. by_place q i lt (cases_lt q r) }
     where
-      by_place : (q i : ℕ) → q < r + 1 → (q < r) ⊎ (r ≤ q) → AreParts names G q (parts_at (lists ++ S ∷ []) q i) (segment_symbols names G q i)
+      by_place : (q i : ℕ) → q < r + 1 → (q < r) ⊎ (r ≤ q) → AreParts names G q (parts_at (lists ++ S ∷ []) q i) (segment_marks names G q i)
       by_place q i lt (inl l) =
           let n = a.count in
-          subst (λ ps. AreParts names G q ps (segment_symbols names G q i)) (sym (parts-before lists S q i (omega arith))) (a.each q i l)
+          subst (λ ps. AreParts names G q ps (segment_marks names G q i)) (sym (parts-before lists S q i (omega arith))) (a.each q i l)
       by_place q i lt (inr g) =
           let e : length lists ≡ q = let n = a.count in omega arith in
           let f : r ≡ q = omega arith in
-          subst (λ ps. AreParts names G q ps (segment_symbols names G q i)) (sym (parts-last lists S i) ∙ ap (λ k. parts_at (lists ++ S ∷ []) k i) e) (subst (λ k. AreParts names G k (segment_parts S.items i) (segment_symbols names G k i)) f (s i))
+          subst (λ ps. AreParts names G q ps (segment_marks names G q i)) (sym (parts-last lists S i) ∙ ap (λ k. parts_at (lists ++ S ∷ []) k i) e) (subst (λ k. AreParts names G k (segment_parts S.items i) (segment_marks names G k i)) f (s i))

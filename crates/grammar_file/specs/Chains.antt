@@ -1,6 +1,5 @@
--- What an automaton tells of coded chains of siblings: of which lawful nodes they may be the kids, by kinds and names alone.
-use Rattle.std.specs.Prelude.{ℕ, nat_eq, Bool, true, false, if◌then◌else◌, List, [], ◌∷◌, ◌++◌, map, Option, Some, None, slice_get}
-use Rattle.std.specs.List.{list_any}
+-- What an automaton tells of coded chains of siblings: of which lawful nodes they may be the kids, by kinds alone.
+use Rattle.std.specs.Prelude.{ℕ, Bool, true, false, if◌then◌else◌, List, [], map, Option, Some, None, slice_get}
 use Rattle.plain_tree.specs.declared.kind.Kind.{Kind}
 use Rattle.plain_tree.specs.declared.kind.Kind.TheVariants.{Document, Element, Attribute, Text, Comment, Instruction}
 use Rattle.slt_grammar.specs.Algebras.{Algebra}
@@ -47,28 +46,25 @@ behind_aside Rooted = Rooted
 behind_aside Content = Content
 behind_aside c = Broken
 
--- behind an attribute, which has to be a new one
-abbrev pub behind_attribute : ℕ → Chain → Chain
-behind_attribute f Empty = Tagged (f ∷ [])
-behind_attribute f Aside = Tagged (f ∷ [])
-behind_attribute f Rooted = Tagged (f ∷ [])
-behind_attribute f Content = Tagged (f ∷ [])
-behind_attribute f (Tagged fs) = if list_any (λ g. nat_eq g f) fs then Broken else Tagged (fs ++ f ∷ [])
-behind_attribute f c = Broken
+-- behind an attribute
+abbrev pub behind_attribute : Chain → Chain
+behind_attribute Broken = Broken
+behind_attribute Whole = Broken
+behind_attribute c = Tagged
 
--- a chain behind a node of a kind, with a symbol and kids
-abbrev pub behind_node : Option Kind → ℕ → Chain → Chain → Chain
-behind_node None f kids rest = Broken
-behind_node (Some Document) f kids rest = document kids rest
-behind_node (Some Element) f kids rest = if is_of_element kids then behind_element rest else Broken
-behind_node (Some Attribute) f kids rest = if is_empty kids then behind_attribute f rest else Broken
-behind_node (Some Text) f kids rest = if is_empty kids then behind_text rest else Broken
-behind_node (Some Comment) f kids rest = if is_empty kids then behind_aside rest else Broken
-behind_node (Some Instruction) f kids rest = if is_empty kids then behind_aside rest else Broken
+-- a chain behind a node of a kind with kids
+abbrev pub behind_node : Option Kind → Chain → Chain → Chain
+behind_node None kids rest = Broken
+behind_node (Some Document) kids rest = document kids rest
+behind_node (Some Element) kids rest = if is_of_element kids then behind_element rest else Broken
+behind_node (Some Attribute) kids rest = if is_empty kids then behind_attribute rest else Broken
+behind_node (Some Text) kids rest = if is_empty kids then behind_text rest else Broken
+behind_node (Some Comment) kids rest = if is_empty kids then behind_aside rest else Broken
+behind_node (Some Instruction) kids rest = if is_empty kids then behind_aside rest else Broken
 
 -- no nodes are the empty chain, and a symbol, of one of these kinds by its place, is a node before the chain of its next sibling
 abbrev pub chain_algebra : List Kind → Algebra Chain
-chain_algebra kinds = record { bottom = Empty; node = λ f kids rest. behind_node (slice_get kinds f) f kids rest }
+chain_algebra kinds = record { bottom = Empty; node = λ f kids rest. behind_node (slice_get kinds f) kids rest }
 
 abbrev pub kinds_of : List (Kind × List ℕ) → List Kind
 kinds_of = map (λ pair. pair.0)

@@ -9,6 +9,8 @@ pub mod Laws
 pub mod Chains
 pub mod TextSymbols
 pub mod SameChains
+pub mod Marks
+pub mod Unlike
 pub mod TextLists
 pub mod Listings
 pub mod TextWalks

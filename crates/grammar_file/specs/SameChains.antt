@@ -1,7 +1,5 @@
 -- Equal chains are identical.
-use Rattle.std.specs.Prelude.{◌≡◌, nat_eq, true, false, refl}
-use Rattle.std.proofs.Common.{sym, ap}
-use Rattle.std.specs.Cmp.Lexicographic.{pointwise, same_text}
+use Rattle.std.specs.Prelude.{◌≡◌, true, false, refl}
 use Rattle.grammar_file.specs.declared.chains.Chain.{Chain}
 use Rattle.grammar_file.specs.declared.chains.Chain.TheVariants.{Broken, Empty, Whole, Aside, Rooted, Content, Tagged}
 use Rattle.grammar_file.specs.contracts.chains.ChainPartialEq.TheImpl.{eq-value}
@@ -16,7 +14,5 @@ same_chain Whole Whole e = refl
 same_chain Aside Aside e = refl
 same_chain Rooted Rooted e = refl
 same_chain Content Content e = refl
-same_chain (Tagged fs) (Tagged gs) e =
-    let same : pointwise nat_eq fs gs ≡ true = e in
-    ap Tagged (same_text fs gs (sym same))
+same_chain Tagged Tagged e = refl
 same_chain a b e = absurd (different e)

@@ -1,8 +1,9 @@
--- Lists of symbols that are being told, part by part.
+-- Lists of marks that are being told, part by part.
 use Rattle.std.specs.Prelude.{ℕ, ◌<◌, List, [], ◌∷◌, ◌++◌, length, drop}
 use Rattle.plain_tree.specs.declared.kind.Kind.{Kind}
 use Rattle.slt_grammar.specs.declared.rules.Rule.{Rule}
-use Rattle.grammar_file.specs.TextLists.{Lists, parts_at, symbols_of}
+use Rattle.grammar_file.specs.TextLists.{Lists, parts_at, marks_of}
+use Rattle.grammar_file.specs.declared.text_lists.Mark.{Mark}
 use Rattle.grammar_file.specs.declared.text_lists.Part.{Part}
 use Rattle.grammar_file.specs.declared.text_walk.Level.{Level}
 
@@ -11,10 +12,10 @@ module _ (lists : Lists) where
   abbrev pub list_at : Level → List Part
   list_at l = parts_at lists l.rule l.segment
 
-  -- the symbols that levels still tell, the innermost first
-  abbrev pub coming : List (Kind × List ℕ) → List Rule → List Level → List ℕ
+  -- the marks that levels still tell, the innermost first
+  abbrev pub coming : List (Kind × List ℕ) → List Rule → List Level → List Mark
   coming names G [] = []
-  coming names G (l ∷ ls) = symbols_of names G (drop l.next (list_at l)) ++ coming names G ls
+  coming names G (l ∷ ls) = marks_of names G (drop l.next (list_at l)) ++ coming names G ls
 
   -- each level has a part left
   abbrev pub AreUnfinished : List Level → Type 0

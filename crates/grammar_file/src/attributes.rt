@@ -1,85 +1,65 @@
-// The names of an element's attributes.
-ghost use Rattle.std.specs.Prelude.{◌≡◌, ◌++◌, [], ◌∷◌, IfOk, nat_eq};
-ghost use Rattle.std.specs.List.{list_any};
-ghost use Rattle.std.specs.Hash as fed;
-ghost use Rattle.std.specs.Cmp.Lexicographic.{pointwise, nat_list_eq_equiv};
-ghost use Rattle.std.specs.Cmp.{partial_equiv_from_equiv};
-ghost use Rattle.std.specs.Cmp.Rules.{hashing};
-ghost use Rattle.std.proofs.Common.{rules};
+// The attributes that stand one behind another, with no other node between.
+ghost use Rattle.std.specs.Prelude.{◌≡◌, ◌≤◌, ◌<◌, ◌+◌, ◌^◌, ◌↔◌, ℕ, List, [], ◌∷◌, true, false, length, get_or, slice_get, slice_set, nat_le, IfOk};
+ghost use Rattle.grammar_file.specs.Marks.{valued};
+ghost use Rattle.grammar_file.specs.Unlike.{AreBehind, GoOn, is_attribute};
 
+use crate::text_lists::Mark;
+use plain_tree::{Kind, Names};
 use std::alloc::{AllocError, Global};
-use std::hash::{Hash, Hasher};
-use std::marker::Model;
 
-/// The symbols of attributes, which are seen as their list.
+/// Which attributes came since another node did.
 #[derive(Drop)]
 pub(crate) struct Attributes {
-    symbols: Vec<usize>,
-}
-
-impl Model for Attributes {
-    ghost use Rattle.std.specs.Prelude.{List, ℕ};
-
-    ghost Value = { List ℕ };
-
-    ghost view = { λ a. a.symbols.items };
-}
-
-impl PartialEq for Attributes {
-    ghost eq = { pointwise nat_eq };
-
-    ghost laws = { partial_equiv_from_equiv nat_list_eq_equiv };
-
-    fn eq(&self, other: &Attributes) -> bool {
-        self.symbols.as_slice() == other.symbols.as_slice()
-    }
-}
-
-impl Eq for Attributes {
-    ghost laws = { nat_list_eq_equiv };
-}
-
-impl Hash for Attributes {
-    ghost hash_input = { fed.slice fed.usize };
-
-    ghost respects_eq = { Prim.search (hashing, rules) };
-
-    fn hash<H: Hasher>(&self, state: &mut H) {
-        self.symbols.as_slice().hash(state);
-    }
+    /// For each symbol how many texts there were with that of its last attribute, and zero before the first.
+    last: Vec<u64>,
+    /// How many there were when another node came.
+    begin: u64,
 }
 
 impl Attributes {
-    pub(crate) fn one(alloc: Global, symbol: usize) -> Result<Attributes, AllocError>
-        ensures { IfOk result (λ a. a ≡ symbol ∷ []) }
-    {
-        let mut symbols = Vec::new(alloc);
-        symbols.push(symbol)?;
-        Ok(Attributes { symbols })
-    }
-
-    pub(crate) fn contains(&self, symbol: usize) -> bool
-        ensures { result ≡ list_any (λ s. nat_eq s symbol) self.now }
-    {
-        self.symbols.as_slice().contains(&symbol)
-    }
-
-    pub(crate) fn copy(&self) -> Result<Attributes, AllocError>
-        ensures { IfOk result (λ a. a ≡ self.now) }
+    /// No attributes of so many names.
+    pub(crate) fn new(alloc: Global, names: usize) -> Result<Attributes, AllocError>
+        ensures { IfOk result (λ a. AreBehind a names 0) }
     {
         Ok(Attributes {
-            symbols: self.symbols.as_slice().to_vec(*self.symbols.allocator())?,
+            last: vec![in alloc; 0; names]?,
+            begin: 0,
         })
     }
 
-    // These and one more.
-    pub(crate) fn with(&self, symbol: usize) -> Result<Attributes, AllocError>
-        ensures { IfOk result (λ a. a ≡ self.now ++ symbol ∷ []) }
+    /// Takes in a node behind so many texts, and tells whether it is no attribute that came already.
+    pub(crate) fn admit(&mut self, names: &Names, mark: Mark, texts: u64) -> bool
+        requires behind { AreBehind self.old (length names.now) texts }
+        requires few { texts < 2 ^ 63 }
+        ensures behind { AreBehind self.new (length names.now) (texts + length (valued (mark ∷ []))) }
+        ensures yes { result ≡ true → (ms : List Mark) → GoOn names.now self.old (mark ∷ ms) ↔ GoOn names.now self.new ms }
+        ensures no { result ≡ false → (ms : List Mark) → GoOn names.now self.old (mark ∷ ms) → ⊥ }
     {
-        let symbols = self.symbols.as_slice();
-        let mut all = Vec::with_capacity(*self.symbols.allocator(), symbols.len() + 1)?;
-        all.extend_from_slice(symbols)?;
-        all.push(symbol)?;
-        Ok(Attributes { symbols: all })
+        match mark {
+            Mark::Valued(symbol) if is_attribute(names, symbol) => self.add(symbol, texts),
+            _ => {
+                self.begin = texts;
+                true
+            }
+        }
     }
+
+    // Takes in an attribute, and tells whether it is a new one.
+    fn add(&mut self, symbol: usize, texts: u64) -> bool
+        requires known { symbol < length self.old.last.items }
+        requires few { texts < 2 ^ 63 }
+        ensures result { result ≡ nat_le (get_or self.old.last.items symbol 0) self.old.begin }
+        ensures last { self.new.last.items ≡ slice_set self.old.last.items symbol (texts + 1) }
+        ensures begin { self.new.begin ≡ self.old.begin }
+    {
+        let is_new = self.last[symbol] <= self.begin;
+        self.last[symbol] = texts + 1;
+        is_new
+    }
+}
+
+fn is_attribute(names: &Names, symbol: usize) -> bool
+    ensures { result ≡ is_attribute (slice_get names.now symbol) }
+{
+    matches!(names.at(symbol), Some((Kind::Attribute, _)))
 }

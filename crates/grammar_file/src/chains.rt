@@ -1,14 +1,14 @@
 // Which chains of siblings are kids of a lawful node, by the kinds and names of their nodes: an automaton that runs upward.
-ghost use Rattle.std.specs.Prelude.{◌≡◌, ◌++◌, [], ◌∷◌, IfOk};
+ghost use Rattle.std.specs.Prelude.{◌≡◌, IfOk};
 ghost use Rattle.grammar_file.specs.Chains.{behind_aside, behind_attribute, behind_element, behind_text, chain_algebra, document, is_empty, is_of_element, kinds_of};
 
-use crate::attributes::Attributes;
 use plain_tree::{Kind, Names};
 use slt_grammar::{Rising, RunState};
 use std::alloc::{AllocError, Global};
 
-/// What a coded chain of siblings is, where each node below it has the kids that a lawful node has.
-#[derive(PartialEq, Eq, Hash, Drop)]
+/// What a coded chain of siblings is, where each node below it has the kids that a lawful node has, but for attributes of equal
+/// names.
+#[derive(Clone, Copy, PartialEq, Eq, Hash, Drop)]
 pub(crate) enum Chain {
     /// Neither kids of a lawful node nor one document.
     Broken,
@@ -21,21 +21,13 @@ pub(crate) enum Chain {
     Rooted,
     /// Other kids of an element, none of them an attribute.
     Content,
-    /// Kids of an element, with these attributes at the front.
-    Tagged(Attributes),
+    /// Kids of an element, with attributes at the front.
+    Tagged,
 }
 
 impl RunState for Chain {
     fn copy(&self) -> Result<Chain, AllocError> {
-        Ok(match self {
-            Chain::Broken => Chain::Broken,
-            Chain::Empty => Chain::Empty,
-            Chain::Whole => Chain::Whole,
-            Chain::Aside => Chain::Aside,
-            Chain::Rooted => Chain::Rooted,
-            Chain::Content => Chain::Content,
-            Chain::Tagged(attributes) => Chain::Tagged(attributes.copy()?),
-        })
+        Ok(*self)
     }
 
     ghost use Rattle.grammar_file.specs.SameChains.{same_chain};
@@ -64,7 +56,7 @@ impl Chain {
         match self {
             Chain::Empty | Chain::Aside => Chain::Rooted,
             Chain::Rooted | Chain::Content => Chain::Content,
-            Chain::Broken | Chain::Whole | Chain::Tagged(_) => Chain::Broken,
+            Chain::Broken | Chain::Whole | Chain::Tagged => Chain::Broken,
         }
     }
 
@@ -74,7 +66,7 @@ impl Chain {
     {
         match self {
             Chain::Empty | Chain::Aside | Chain::Rooted | Chain::Content => Chain::Content,
-            Chain::Broken | Chain::Whole | Chain::Tagged(_) => Chain::Broken,
+            Chain::Broken | Chain::Whole | Chain::Tagged => Chain::Broken,
         }
     }
 
@@ -86,33 +78,24 @@ impl Chain {
             Chain::Empty | Chain::Aside => Chain::Aside,
             Chain::Rooted => Chain::Rooted,
             Chain::Content => Chain::Content,
-            Chain::Broken | Chain::Whole | Chain::Tagged(_) => Chain::Broken,
+            Chain::Broken | Chain::Whole | Chain::Tagged => Chain::Broken,
         }
     }
 
     // The chain with an attribute before it.
-    fn behind_attribute(&self, alloc: Global, symbol: usize) -> Result<Chain, AllocError>
-        ensures { IfOk result (λ chain. chain ≡ behind_attribute symbol self.now) }
+    fn behind_attribute(&self) -> Chain
+        ensures { result ≡ behind_attribute self.now }
     {
         match self {
-            Chain::Empty | Chain::Aside | Chain::Rooted | Chain::Content => {
-                Ok(Chain::Tagged(Attributes::one(alloc, symbol)?))
-            }
-            Chain::Tagged(attributes) if !attributes.contains(symbol) => {
-                Ok(Chain::Tagged(attributes.with(symbol)?))
-            }
-            Chain::Broken | Chain::Whole | Chain::Tagged(_) => Ok(Chain::Broken),
+            Chain::Broken | Chain::Whole => Chain::Broken,
+            _ => Chain::Tagged,
         }
     }
 }
 
 /// Tells which chain coded siblings are, by the kinds of their symbols.
-///
-/// A node costs a copy of the symbols of the attributes at the front of the chain behind it, so an element costs the square of the
-/// number of its attributes.
 #[derive(Drop)]
 pub(crate) struct Chains {
-    alloc: Global,
     kinds: Vec<Kind>,
 }
 
@@ -126,7 +109,7 @@ impl Chains {
             kinds.push(kind)?;
             place += 1;
         }
-        Ok(Chains { alloc, kinds })
+        Ok(Chains { kinds })
     }
 }
 
@@ -146,7 +129,7 @@ impl Rising for Chains {
         match *kind {
             Kind::Document => Ok(document(kids, rest)),
             Kind::Element if kids.is_of_element() => Ok(rest.behind_element()),
-            Kind::Attribute if kids.is_empty() => rest.behind_attribute(self.alloc, symbol),
+            Kind::Attribute if kids.is_empty() => Ok(rest.behind_attribute()),
             Kind::Text if kids.is_empty() => Ok(rest.behind_text()),
             Kind::Comment | Kind::Instruction if kids.is_empty() => Ok(rest.behind_aside()),
             _ => Ok(Chain::Broken),

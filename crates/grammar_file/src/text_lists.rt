@@ -1,12 +1,13 @@
-// The nodes with a text, listed rule by rule: a list for each segment of a rule, made of symbols and of earlier rules' lists.
-ghost use Rattle.std.specs.Prelude.{◌≡◌, ◌<◌, ℕ, List, [], ◌∷◌, ◌++◌, length, slice_get, if◌then◌else◌, IfOk, OnOk};
+// The nodes with a text, and where others stand between them, listed rule by rule: a list for each segment of a rule, made of marks
+// and of earlier rules' lists.
+ghost use Rattle.std.specs.Prelude.{◌≡◌, ◌<◌, ℕ, List, [], ◌∷◌, ◌++◌, length, slice_get, option_to_list, IfOk, OnOk, true};
 ghost use Rattle.slt_grammar.specs.Bodies.{CallsBelow};
 ghost use Rattle.slt_grammar.specs.Keyed.{IsKeyed, rules_of};
 ghost use Rattle.slt_grammar.specs.Segments.{part_of};
 ghost use Rattle.slt_grammar.specs.declared.rules.Rule.{Rule};
-ghost use Rattle.grammar_file.specs.Listings.{Adds};
+ghost use Rattle.grammar_file.specs.Listings.{Adds, EndsBare};
+ghost use Rattle.grammar_file.specs.Marks.{mark_at};
 ghost use Rattle.grammar_file.specs.TextLists.{AreSegments, AreTextLists, IsPartOf, parts_at};
-ghost use Rattle.grammar_file.specs.TextSymbols.{if_valued};
 
 use plain_tree::Names;
 use read_steps::Steps;
@@ -15,10 +16,19 @@ use std::alloc::{AllocError, Global};
 use std::mem;
 use std::sync::ledger::Ledger;
 
-/// A part of a list: the symbol of a node with a text, or the list of an earlier rule's segment, which has some.
+/// What is listed of nodes.
+#[derive(Clone, Copy, Drop)]
+pub(crate) enum Mark {
+    /// A node with a text, by its symbol.
+    Valued(usize),
+    /// Nodes without a text, one behind another.
+    Bare,
+}
+
+/// A part of a list: a mark, or the list of an earlier rule's segment, which has a node with a text.
 #[derive(Clone, Copy, Drop)]
 pub(crate) enum Part {
-    Node(usize),
+    Node(Mark),
     Segment(usize, usize),
 }
 
@@ -96,7 +106,9 @@ impl Listing {
             let parts = mem::replace(&mut self.begun, Vec::new(alloc));
             self.done.push(parts)?;
         } else if let Some(part) = part {
-            self.begun.push(part)?;
+            if !is_bare(part) || !ends_bare(self.begun.as_slice()) {
+                self.begun.push(part)?;
+            }
         }
         Ok(())
     }
@@ -110,27 +122,59 @@ impl Listing {
     }
 }
 
-// What a stop of a tour adds to its list, if it has a text.
+fn is_bare(part: Part) -> bool
+    ensures { result ≡ true → part ≡ Part.Node Mark.Bare }
+{
+    matches!(part, Part::Node(Mark::Bare))
+}
+
+// Whether the last part is of nodes without a text.
+fn ends_bare(parts: &[Part]) -> bool
+    ensures { result ≡ true → EndsBare parts.now }
+{
+    match parts.last() {
+        Some(part) => is_bare(*part),
+        None => false,
+    }
+}
+
+// Whether the list is of nodes without a text alone.
+fn are_bare(parts: &[Part]) -> bool
+    ensures { result ≡ true → parts.now ≡ Part.Node Mark.Bare ∷ [] }
+{
+    parts.len() == 1 && is_bare(parts[0])
+}
+
+// What a stop of a tour adds to its list. A segment without a text is no list to be entered, but one mark.
 fn part_at(names: &Names, lists: &[Segments], label: Label, part: usize) -> Option<Part>
     ensures { (G : List Rule) (rule : ℕ) → AreTextLists names.now G rule lists.now → CallsBelow rule (label ∷ []) → IsPartOf names.now G rule (part_of G label part) result }
 {
     match (label, part) {
-        (Label::Symbol(symbol), 0) if has_text(names, symbol) => Some(Part::Node(symbol)),
-        (Label::Call(rule), _) if !parts_of(lists, rule, part).is_empty() => {
-            Some(Part::Segment(rule, part))
+        (Label::Symbol(symbol), 0) => Some(Part::Node(mark_of(names, symbol)?)),
+        (Label::Call(rule), _) => {
+            let parts = parts_of(lists, rule, part);
+            if parts.is_empty() {
+                None
+            } else if are_bare(parts) {
+                Some(Part::Node(Mark::Bare))
+            } else {
+                Some(Part::Segment(rule, part))
+            }
         }
         _ => None,
     }
 }
 
-// Whether the nodes of a symbol have a text.
-fn has_text(names: &Names, symbol: usize) -> bool
-    ensures { (if result then symbol ∷ [] else []) ≡ if_valued (slice_get names.now symbol) symbol }
+// The mark of a symbol's nodes.
+fn mark_of(names: &Names, symbol: usize) -> Option<Mark>
+    ensures { option_to_list result ≡ mark_at (slice_get names.now symbol) symbol }
 {
-    match names.at(symbol) {
-        Some((kind, _name)) => kind.has_value(),
-        None => false,
-    }
+    let (kind, _name) = names.at(symbol)?;
+    Some(if kind.has_value() {
+        Mark::Valued(symbol)
+    } else {
+        Mark::Bare
+    })
 }
 
 /// The parts of a rule's segment, and none where there is no such segment.

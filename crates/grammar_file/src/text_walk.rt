@@ -1,11 +1,12 @@
-// The symbols of the nodes with a text, told one after another in document order.
+// The marks of the nodes, told one after another in document order.
 ghost use Rattle.std.specs.Prelude.{◌≡◌, ◌<◌, ◌+◌, ◌++◌, [], ◌∷◌, ℕ, List, drop, reverse, length, IfOk, OnOk, None, option_to_list};
 ghost use Rattle.plain_tree.specs.declared.kind.Kind.{Kind};
 ghost use Rattle.slt_grammar.specs.declared.rules.Rule.{Rule};
-ghost use Rattle.grammar_file.specs.TextLists.{AreTextLists, Lists, parts_at, symbols_of};
+ghost use Rattle.grammar_file.specs.Marks.{Thins};
+ghost use Rattle.grammar_file.specs.TextLists.{AreTextLists, Lists, parts_at, marks_of};
 ghost use Rattle.grammar_file.specs.TextWalks.{AreUnfinished, coming, list_at};
 
-use crate::text_lists::{Part, Segments, parts_of};
+use crate::text_lists::{Mark, Part, Segments, parts_of};
 use std::alloc::{AllocError, Global};
 
 /// A list that is being told, from its part number `next` on.
@@ -23,7 +24,7 @@ pub(crate) fn first_levels(
     rule: usize,
 ) -> Result<Vec<Level>, AllocError>
     ensures unfinished { IfOk result (λ levels. AreUnfinished lists.now (reverse levels.items)) }
-    ensures coming { IfOk result (λ levels. (names : List (Kind × List ℕ)) (G : List Rule) → coming lists.now names G (reverse levels.items) ≡ symbols_of names G (parts_at lists.now rule 0)) }
+    ensures coming { IfOk result (λ levels. (names : List (Kind × List ℕ)) (G : List Rule) → coming lists.now names G (reverse levels.items) ≡ marks_of names G (parts_at lists.now rule 0)) }
 {
     let mut levels = Vec::new(alloc);
     if !parts_of(lists, rule, 0).is_empty() {
@@ -36,17 +37,17 @@ pub(crate) fn first_levels(
     Ok(levels)
 }
 
-/// The next symbol, or None where none is left; the levels keep the place. A level is left before its last part is told, so that
+/// The next mark, or None where none is left; the levels keep the place. A level is left before its last part is told, so that
 /// there are no more levels than rules.
-pub(crate) fn next_symbol(
+pub(crate) fn next_mark(
     lists: &[Segments],
     levels: &mut Vec<Level>,
-) -> Result<Option<usize>, AllocError>
+) -> Result<Option<Mark>, AllocError>
     requires lists { (names : List (Kind × List ℕ)) × (G : List Rule) × AreTextLists names G (length lists.now) lists.now }
     requires unfinished { AreUnfinished lists.now (reverse levels.old.items) }
-    ensures next { IfOk result (λ symbol. (names : List (Kind × List ℕ)) (G : List Rule) → AreTextLists names G (length lists.now) lists.now
-        → coming lists.now names G (reverse levels.old.items) ≡ option_to_list symbol ++ coming lists.now names G (reverse levels.new.items)) }
-    ensures end { IfOk result (λ symbol. symbol ≡ None → reverse levels.old.items ≡ []) }
+    ensures next { IfOk result (λ mark. (names : List (Kind × List ℕ)) (G : List Rule) → AreTextLists names G (length lists.now) lists.now
+        → Thins (option_to_list mark ++ coming lists.now names G (reverse levels.new.items)) (coming lists.now names G (reverse levels.old.items))) }
+    ensures end { IfOk result (λ mark. mark ≡ None → reverse levels.old.items ≡ []) }
     ensures unfinished { OnOk result (AreUnfinished lists.now (reverse levels.new.items)) }
 {
     let Some(mut level) = levels.pop() else {
@@ -57,7 +58,7 @@ pub(crate) fn next_symbol(
         let part = parts[level.next];
         leave_part(levels, level, parts.len())?;
         match part {
-            Part::Node(symbol) => return Ok(Some(symbol)),
+            Part::Node(mark) => return Ok(Some(mark)),
             Part::Segment(rule, segment) => {
                 level = Level {
                     rule,
@@ -73,7 +74,7 @@ pub(crate) fn next_symbol(
 fn leave_part(levels: &mut Vec<Level>, level: Level, parts: usize) -> Result<(), AllocError>
     requires { level.next < parts }
     ensures rest { OnOk result ((lists : Lists) (names : List (Kind × List ℕ)) (G : List Rule) → length (list_at lists level) ≡ parts
-        → coming lists names G (reverse levels.new.items) ≡ symbols_of names G (drop (level.next + 1) (list_at lists level)) ++ coming lists names G (reverse levels.old.items)) }
+        → coming lists names G (reverse levels.new.items) ≡ marks_of names G (drop (level.next + 1) (list_at lists level)) ++ coming lists names G (reverse levels.old.items)) }
     ensures unfinished { OnOk result ((lists : Lists) → length (list_at lists level) ≡ parts
         → AreUnfinished lists (reverse levels.old.items) → AreUnfinished lists (reverse levels.new.items)) }
 {

@@ -5,10 +5,12 @@ ghost use Rattle.plain_tree.specs.Lawful.{IsLawfulName};
 ghost use Rattle.slt_grammar.specs.Grammars.{value};
 ghost use Rattle.slt_grammar.specs.Keyed.{rules_of};
 ghost use Rattle.slt_grammar.specs.Segments.{listed};
-ghost use Rattle.grammar_file.specs.TextSymbols.{AreTextsOf, IsTextOf, text_symbols};
+ghost use Rattle.grammar_file.specs.TextSymbols.{IsTextOf};
+ghost use Rattle.grammar_file.specs.Unlike.{AreRightTexts};
 
-use crate::text_lists::list_texts;
-use crate::text_walk::{first_levels, next_symbol};
+use crate::attributes::Attributes;
+use crate::text_lists::{Mark, list_texts};
+use crate::text_walk::{first_levels, next_mark};
 use plain_tree::Names;
 use read_steps::Steps;
 use slt_grammar::Grammar;
@@ -18,7 +20,8 @@ use std::sync::ledger::{Blank, Ledger};
 use text_list::TextList;
 use xml_nodes::lawful;
 
-/// Whether the list has exactly one lawful text for each node of the value that has one, in document order.
+/// Whether the list has exactly one lawful text for each node of the value that has one, in document order, and attributes of one
+/// element have distinct names.
 ///
 /// It takes time for the grammar, and for each text of the list at most that of as many steps as there are rules.
 pub(crate) fn are_texts_of(
@@ -28,7 +31,7 @@ pub(crate) fn are_texts_of(
     texts: &TextList,
 ) -> Result<bool, AllocError>
     requires { (i : ℕ) (kind : Kind) (name : List ℕ) → slice_get names.now i ≡ Some (kind, name) → IsLawfulName kind name }
-    ensures { IfOk result (λ yes. IsTrue yes ↔ AreTextsOf names.now (text_symbols names.now (listed (value (rules_of grammar.now.rules)) [])) texts.now.texts) }
+    ensures { IfOk result (λ yes. IsTrue yes ↔ AreRightTexts names.now (listed (value (rules_of grammar.now.rules)) []) texts.now.texts) }
 {
     walk_texts::<Brand>(alloc, grammar, names, texts, Blank::new(1))
 }
@@ -45,18 +48,24 @@ fn walk_texts<L: Ledger>(
     requires parts { blank.parts ≡ L.parts }
     requires some { 0 < blank.parts }
     requires lawful { (i : ℕ) (kind : Kind) (name : List ℕ) → slice_get names.now i ≡ Some (kind, name) → IsLawfulName kind name }
-    ensures { IfOk result (λ yes. IsTrue yes ↔ AreTextsOf names.now (text_symbols names.now (listed (value (rules_of grammar.now.rules)) [])) texts.now.texts) }
+    ensures { IfOk result (λ yes. IsTrue yes ↔ AreRightTexts names.now (listed (value (rules_of grammar.now.rules)) []) texts.now.texts) }
 {
     let mut steps: Steps<L> = Steps::new(blank);
     let lists = list_texts(alloc, grammar, names, &mut steps)?;
     let mut levels = first_levels(alloc, lists.as_slice(), grammar.rules() - 1)?;
+    let mut attributes = Attributes::new(alloc, names.len())?;
     let count = texts.len();
     let mut at = 0;
-    'texts: while let Some(symbol) = next_symbol(lists.as_slice(), &mut levels)? {
-        if !is_text_at(names, symbol, texts, at) {
+    'marks: while let Some(mark) = next_mark(lists.as_slice(), &mut levels)? {
+        if !attributes.admit(names, mark, at) {
             return Ok(false);
         }
-        at += 1;
+        if let Mark::Valued(symbol) = mark {
+            if !is_text_at(names, symbol, texts, at) {
+                return Ok(false);
+            }
+            at += 1;
+        }
     }
     Ok(at == count)
 }

@@ -16,4 +16,6 @@ mod grammar;
 #[cfg(test)]
 mod grammar_bytes;
 #[cfg(test)]
+mod grammar_reads;
+#[cfg(test)]
 mod numbers;

@@ -8,13 +8,13 @@ use Rattle.std.proofs.lemmas.Bool.{cases_lt, eqb-true}
 use Rattle.rule_arena.specs.declared.label.Label.{Label}
 use Rattle.rule_arena.specs.declared.label.Label.TheVariants.{Bottom, Symbol, Call, Param}
 use Rattle.slt_grammar.specs.Algebras.{Algebra, apply, meanings, meaning, rule_meanings, ranks_of, all_meanings}
-use Rattle.slt_grammar.specs.Bodies.{arity, params, calls_in}
+use Rattle.slt_grammar.specs.Bodies.{params, calls_in}
 use Rattle.slt_grammar.specs.Grammars.{IsGrammar, IsSwept, body_at, rank_at, calls_of}
 use Rattle.slt_grammar.specs.OneState.{HasOneState}
 use Rattle.slt_grammar.specs.Terms.{Term, Leaf, Node, Hole, up}
 use Rattle.slt_grammar.specs.declared.rules.Rule.{Rule}
 use Rattle.slt_grammar.proofs.RuleMeanings.{rank_at-ranks_of, call-earlier}
-use Rattle.rule_runs.specs.Reached.{RuleStates, Uses, at_start, at_call, states_of, states_from, argument_states}
+use Rattle.rule_runs.specs.Reached.{RuleStates, Uses, at_start, at_call, states_from, argument_states}
 use Rattle.rule_runs.specs.Risen.{IsPair, IsRun, state_at, keys, IsKnown, AreKnown}
 use Rattle.rule_runs.specs.Frames.{IsEvaluated}
 use Rattle.rule_runs.proofs.Closing.{known-more, known-last}

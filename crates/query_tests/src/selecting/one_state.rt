@@ -26,7 +26,7 @@ struct Both {
 }
 
 // Nothing where the query has filters.
-fn both<L: Ledger>(
+fn find_both<L: Ledger>(
     alloc: Global,
     grammar: &Grammar,
     selector: &Selector,
@@ -62,7 +62,7 @@ fn without_filters_nothing_is_read_upward(rt: HostRuntime) -> Result<(), Fail> {
     let mut unread = 0u64;
     for (query, numbers) in tables::OF_FOUR {
         let selector = selector_of(alloc, query.as_bytes(), &names)?;
-        if let Some(both) = both::<Brand>(alloc, &grammar, &selector, Blank::new(1))? {
+        if let Some(both) = find_both::<Brand>(alloc, &grammar, &selector, Blank::new(1))? {
             assert!(rt; both.same_top, "{query}");
             assert_eq!(rt; both.unread.as_slice(), numbers, "{query}");
             assert_eq!(rt; both.read.as_slice(), numbers, "{query}");

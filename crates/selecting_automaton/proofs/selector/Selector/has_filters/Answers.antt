@@ -1,7 +1,7 @@
-use Rattle.std.proofs.Common.{◌≡◌, ℕ, ap, sym, ◌∙◌, ◌<◌, arith}
+use Rattle.std.proofs.Common.{◌≡◌, ap, sym, ◌∙◌, arith}
 use Rattle.std.proofs.lemmas.Bool.Decides.{nat_tests}
 use Rattle.selecting_automaton.specs.Wanting.{eyes}
-use Rattle.selecting_automaton.specs.Words.{Selection, known_of, seeks}
+use Rattle.selecting_automaton.specs.Words.{Selection, seeks}
 use Rattle.selecting_automaton.proofs.Climbing.{nothing-risen}
 use Rattle.selecting_automaton.proofs.selector.Selector.has_filters.Goals as goal
 

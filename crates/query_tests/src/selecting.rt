@@ -4,6 +4,7 @@ ghost use Rattle.slt_grammar.specs.Grammars.{IsSwept};
 ghost use Rattle.slt_grammar.specs.Keyed.{rules_of};
 
 mod documents;
+mod one_state;
 mod tables;
 
 use crate::runs::list_numbers;
@@ -15,7 +16,7 @@ use segment_counts::Counts;
 use selecting_automaton::{Selector, compile};
 use slt_grammar::Label::{self, Bottom, Call, Param, Symbol};
 use slt_grammar::{Body, Grammar, RuleList, check};
-use std::alloc::Global;
+use std::alloc::{AllocError, Global};
 use std::marker::Brand;
 use std::sync::ledger::{Blank, Ledger};
 use std::test::Fail;
@@ -118,11 +119,8 @@ fn queries_select_what_the_tables_say(rt: HostRuntime) -> Result<(), Fail> {
     Ok(())
 }
 
-#[test]
-fn shared_siblings_are_selected_each(rt: HostRuntime) -> Result<(), Fail> {
-    let alloc = rt.alloc();
-    // <a><b/><b/><b/><b/></a>, where rule 0 is b(bottom, y1) and rule 1 is rule 0 twice.
-    let names = names_of(alloc, &tables::TWINS)?;
+// <a><b/><b/><b/><b/></a>, where rule 0 is b(bottom, y1) and rule 1 is rule 0 twice, over the names of `TWINS`.
+fn four_siblings(alloc: Global) -> Result<Vec<(usize, Vec<Label>)>, AllocError> {
     let mut bodies = Vec::new(alloc);
     bodies.push((1, [Symbol(2), Bottom, Param].to_vec(alloc)?))?;
     bodies.push((1, [Call(0), Call(0), Param].to_vec(alloc)?))?;
@@ -136,6 +134,14 @@ fn shared_siblings_are_selected_each(rt: HostRuntime) -> Result<(), Fail> {
         Bottom,
     ];
     bodies.push((0, start.to_vec(alloc)?))?;
+    Ok(bodies)
+}
+
+#[test]
+fn shared_siblings_are_selected_each(rt: HostRuntime) -> Result<(), Fail> {
+    let alloc = rt.alloc();
+    let names = names_of(alloc, &tables::TWINS)?;
+    let bodies = four_siblings(alloc)?;
     let miss = first_miss(alloc, &names, bodies.as_slice(), &tables::OF_FOUR)?;
     assert_eq!(rt; miss, None);
     Ok(())

@@ -22,3 +22,4 @@ pub mod Descents
 pub mod Rooms
 pub mod Triples
 pub mod Answering
+pub mod OneState

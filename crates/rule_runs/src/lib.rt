@@ -5,6 +5,7 @@
 //! hit, by their numbers and symbols, one after another.
 //!
 //! `body` reads a rule's body. Upward: `rising` runs over the bodies of `frame`, with states on a `stack`, and notes them in `memo`.
+//! Where an automaton has one state, `one_state` notes all pairs without reading.
 //! Downward: `falling` runs over the bodies of `descent`, which `notes` has made ready, and keeps in `spots` what each was found to
 //! be, as stretches of nodes (`told`). `listing` tells a list that is made of earlier lists, for `answers`.
 //!
@@ -22,6 +23,7 @@ mod listing;
 mod memo;
 mod notes;
 mod numbers;
+mod one_state;
 mod rising;
 mod spots;
 mod stack;
@@ -30,4 +32,5 @@ mod told;
 pub use answers::Answers;
 pub use falling::{FallTable, fall};
 pub use listing::Hit;
+pub use one_state::rise_in_one_state;
 pub use rising::{RiseTable, rise};

@@ -1,6 +1,7 @@
 // The selector of a query.
-ghost use Rattle.std.specs.Prelude.{◌≡◌, ◌≤◌};
-ghost use Rattle.selecting_automaton.specs.Words.{word_algebra, word_downward};
+ghost use Rattle.std.specs.Prelude.{◌≡◌, ◌≤◌, ◌<◌, ◌↔◌, IsTrue, false};
+ghost use Rattle.slt_grammar.specs.OneState.{HasOneState};
+ghost use Rattle.selecting_automaton.specs.Words.{seeks, word_algebra, word_downward};
 
 use crate::climb::rise;
 use crate::descent::fall;
@@ -35,6 +36,14 @@ impl Model for Selector {
 }
 
 impl Selector {
+    /// Whether the query has filters with parts that are sought. Where it has none, the run upward has one state.
+    pub fn has_filters(&self) -> bool
+        ensures parts { IsTrue result ↔ 0 < seeks self.now.turns }
+        ensures one { result ≡ false → HasOneState (word_algebra self.now) }
+    {
+        self.parts > 0
+    }
+
     fn risen(&self, symbol: usize, kids: Up, rest: Up) -> Up
         ensures { result ≡ (word_algebra self.now).node symbol kids rest }
     {

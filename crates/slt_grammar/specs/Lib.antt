@@ -28,3 +28,4 @@ pub mod Growing
 pub mod Listing
 pub mod Building
 pub mod Automata
+pub mod OneState

@@ -1,11 +1,14 @@
 // Finding what a query selects.
-ghost use Rattle.std.specs.Prelude.{◌≡◌, ◌<◌, ◌≤◌, ◌+◌, ◌^◌, ℕ, All, Some, IfOk, IfErr, slice_get};
+ghost use Rattle.std.specs.Prelude.{◌≡◌, ◌<◌, ◌≤◌, ◌+◌, ◌-◌, ◌^◌, ℕ, List, All, Some, IfOk, IfErr, slice_get};
 ghost use Rattle.plain_tree.specs.Tree.{Tree};
 ghost use Rattle.slt_grammar.specs.Automata.{hits, nodes_in};
-ghost use Rattle.slt_grammar.specs.Grammars.{value};
+ghost use Rattle.slt_grammar.specs.Grammars.{IsSwept, value};
 ghost use Rattle.slt_grammar.specs.Keyed.{rules_of};
 ghost use Rattle.rule_runs.specs.Hits.{numbers, symbols_in};
+ghost use Rattle.rule_runs.specs.Reached.{ReadsOnce, RuleStates};
+ghost use Rattle.rule_runs.specs.Risen.{IsRun};
 ghost use Rattle.selecting_automaton.specs.Bounds.{HasFewStates};
+ghost use Rattle.selecting_automaton.specs.declared.states.Up.{Up};
 ghost use Rattle.store_core.specs.Acts.{Act, query_asked};
 ghost use Rattle.store_core.specs.Printed.{hit_line};
 ghost use Rattle.store_core.specs.Reads.{ReadsFew, most_reads};
@@ -18,7 +21,7 @@ ghost use Rattle.store_core.specs.Worlds.{AreLawfulParts, PartsStandFor, World};
 use crate::answer::Refusal;
 use crate::store::Store;
 use read_steps::Steps;
-use rule_runs::{FallTable, fall, rise};
+use rule_runs::{FallTable, RiseTable, fall, rise, rise_in_one_state};
 use selecting_automaton::{Selector, compile};
 use slt_grammar::{Falling, Grammar, Rising};
 use std::alloc::{AllocError, Global};
@@ -28,7 +31,8 @@ use xpath_parser::{parse, spells_one};
 /// The nodes that the query selects, found over the rules. It is refused with `BadQuery` where the text is no query, with
 /// `LargeQuery` where it is one that passes the limits, and with `Memory` for want of that.
 ///
-/// Each rule is read once for each list of states in which runs meet it, whatever is answered.
+/// Each rule is read once for each list of states in which runs meet it, whatever is answered; where the query has no filters, only by
+/// the run downward.
 pub(crate) fn select<L: Ledger>(
     alloc: Global,
     text: &[u8],
@@ -56,7 +60,8 @@ fn run<L: Ledger>(
     grammar: &Grammar,
     steps: &mut Steps<L>,
 ) -> Result<FallTable, AllocError>
-    requires { nodes_in (value (rules_of grammar.now.rules)) < 2 ^ 63 }
+    requires small { nodes_in (value (rules_of grammar.now.rules)) < 2 ^ 63 }
+    requires swept { IsSwept (rules_of grammar.now.rules) }
     ensures hits { IfOk result (λ found. numbers found ≡ hits (⟦<Selector as Rising>⟧.algebra selector.now) (⟦<Selector as Falling>⟧.downward selector.now) (value (rules_of grammar.now.rules))) }
     ensures symbols { IfOk result (λ found. All (λ hit. slice_get (symbols_in (value (rules_of grammar.now.rules))) hit.number ≡ Some hit.symbol) found) }
     ensures reads { (parts steps_outside : ℕ) → HasFewStates (⟦<Selector as Rising>⟧.algebra selector.now) (⟦<Selector as Falling>⟧.downward selector.now) parts steps_outside
@@ -64,6 +69,25 @@ fn run<L: Ledger>(
 {
     // The call tells that the rules are a grammar.
     let _rules = grammar.rules();
-    let risen = rise(alloc, grammar, selector, steps)?;
+    let risen = run_upward(alloc, selector, grammar, steps)?;
     fall(alloc, grammar, selector, &risen, steps)
+}
+
+// The run upward. Where the query has no filters, it reads nothing.
+fn run_upward<L: Ledger>(
+    alloc: Global,
+    selector: &Selector,
+    grammar: &Grammar,
+    steps: &mut Steps<L>,
+) -> Result<RiseTable<Selector>, AllocError>
+    requires { IsSwept (rules_of grammar.now.rules) }
+    ensures run { IfOk result (λ table. IsRun (⟦<Selector as Rising>⟧.algebra selector.now) (rules_of grammar.now.rules) table.known) }
+    ensures steps { (pairs : List (RuleStates Up)) × ReadsOnce (⟦<Selector as Rising>⟧.algebra selector.now) (rules_of grammar.now.rules) pairs (steps.new - steps.old) }
+    ensures counted { steps.old ≤ steps.new }
+{
+    if selector.has_filters() {
+        rise(alloc, grammar, selector, steps)
+    } else {
+        rise_in_one_state(alloc, grammar, selector)
+    }
 }

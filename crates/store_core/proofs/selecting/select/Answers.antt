@@ -23,8 +23,8 @@ compile-requires-clause-few g c = let s = c.in_ok-query.ensures.spelled in withi
 pub compile-requires-clause-short : goal.compile-requires-clause-short
 compile-requires-clause-short g c = let s = c.in_ok-query.ensures.spelled in within-outside c.args.text.now s.0 _ s.1 s.2 s.3
 
-pub run-requires : goal.run-requires
-run-requires g c = few-nodes (parts_of c.args.store.now) c.requires.held
+pub run-requires-clause-small : goal.run-requires-clause-small
+run-requires-clause-small g c = few-nodes (parts_of c.args.store.now) c.requires.held
 
 pub returns-clause-lines : goal.returns-clause-lines
 returns-clause-lines g c = λ tree stand.

@@ -1,0 +1,28 @@
+use Rattle.std.proofs.Common.{◌≡◌, ◌∙◌, sym, ap, arith, length}
+use Rattle.std.specs.Prelude.{replicate}
+use Rattle.slt_grammar.specs.Grammars.{rank_at, value}
+use Rattle.slt_grammar.specs.Keyed.{rules_of}
+use Rattle.slt_grammar.proofs.KeyedLemmas.{length-rules_of}
+use Rattle.rule_runs.proofs.OneState.{table, table-new, table-run, up-bottom}
+use Rattle.rule_runs.proofs.one_state.rise_in_one_state.Goals as goal
+
+pub note-requires : goal.note-requires
+note-requires g c =
+    let A = g.A.Rising.algebra c.args.automaton.now in
+    let G = rules_of c.args.grammar.now.rules in
+    let e : c.in_ok-states.states.items ≡ replicate (rank_at G c.rules.rule) A.bottom = c.in_ok-states.ensures ∙ ap (λ n. replicate n A.bottom) c.rank.ensures in
+    rw (c.rules.invariant, e) (table-new A G c.rules.rule)
+
+pub returns-clause-top : goal.returns-clause-top
+returns-clause-top g c =
+    let A = g.A.Rising.algebra c.args.automaton.now in
+    let G = rules_of c.args.grammar.now.rules in
+    c.in_ok-bottom-2.ensures ∙ sym (up-bottom A c.requires.one (value G))
+
+pub returns-clause-run : goal.returns-clause-run
+returns-clause-run g c =
+    let A = g.A.Rising.algebra c.args.automaton.now in
+    let G = rules_of c.args.grammar.now.rules in
+    let n : c.rules.rule ≡ length G = omega (arith, c.rules-rules.ensures.value, length-rules_of c.args.grammar.now.rules, c.rules-test.false, c.rules.auto.rule-end) in
+    let k = c.rules.invariant ∙ ap (table A G) n in
+    rw (c.known-2.view_is, k) (table-run A c.requires.one G c.rules-rules.ensures.grammar c.requires.swept)

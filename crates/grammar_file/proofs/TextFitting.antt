@@ -29,39 +29,32 @@ same-numbers a b e = grind (arith, nat_tests)
 numbers-same : (a b : ℕ) → a ≡ b → IsTrue (nat_eq a b)
 numbers-same a b e = grind (arith, nat_tests)
 
-pub same-iff : {X : Type 0} (P : X → Type 0) (a b : X) → a ≡ b → P a ↔ P b
-same-iff P a b e = ((λ h. subst P e h), (λ h. subst P (sym e) h))
-
 module _ (names : List (Kind × List ℕ)) (texts : List (List ℕ)) where
-  fit-first : (cs ds : List ℕ) (f at : ℕ) (t : List ℕ) → cs ≡ f ∷ ds → slice_get texts at ≡ Some t → AreTextsOf names cs (drop at texts) → AreTextsOf names (f ∷ ds) (t ∷ drop (at + 1) texts)
-  fit-first cs ds f at t e s h = subst (AreTextsOf names (f ∷ ds)) (drop-at texts at t s) (subst (λ xs. AreTextsOf names xs (drop at texts)) e h)
+  -- the first text is that of the first symbol
+  fit-first : (fs : List ℕ) (f at : ℕ) (t : List ℕ) → slice_get texts at ≡ Some t → AreTextsOf names (f ∷ fs) (drop at texts) → AreTextsOf names (f ∷ fs) (t ∷ drop (at + 1) texts)
+  fit-first fs f at t s h = subst (AreTextsOf names (f ∷ fs)) (drop-at texts at t s) h
 
-  first-fit : (cs ds : List ℕ) (f at : ℕ) (t : List ℕ) → cs ≡ f ∷ ds → slice_get texts at ≡ Some t → AreTextsOf names (f ∷ ds) (t ∷ drop (at + 1) texts) → AreTextsOf names cs (drop at texts)
-  first-fit cs ds f at t e s h = subst (λ xs. AreTextsOf names xs (drop at texts)) (sym e) (subst (AreTextsOf names (f ∷ ds)) (sym (drop-at texts at t s)) h)
+  fit-next : (fs : List ℕ) (f at : ℕ) (t : List ℕ) → slice_get texts at ≡ Some t → IsTextOf (slice_get names f) t → AreTextsOf names (f ∷ fs) (drop at texts) ↔ AreTextsOf names fs (drop (at + 1) texts)
+  fit-next fs f at t s is = ((λ h. (fit-first fs f at t s h).1), (λ h. subst (AreTextsOf names (f ∷ fs)) (sym (drop-at texts at t s)) (is, h)))
 
-  -- a text fits the next symbol
-  pub fit-next : {A : Type 0} → (cs ds : List ℕ) (f at : ℕ) (t : List ℕ) → A ↔ AreTextsOf names cs (drop at texts) → cs ≡ f ∷ ds → slice_get texts at ≡ Some t → IsTextOf (slice_get names f) t → A ↔ AreTextsOf names ds (drop (at + 1) texts)
-  fit-next cs ds f at t same e s is = ((λ a. (fit-first cs ds f at t e s (same.0 a)).1), (λ h. same.1 (first-fit cs ds f at t e s (is, h))))
-
-  -- no text fits it
-  pub fit-not : {A : Type 0} → (cs ds : List ℕ) (f at : ℕ) → A ↔ AreTextsOf names cs (drop at texts) → cs ≡ f ∷ ds → ((t : List ℕ) → slice_get texts at ≡ Some t → IsTextOf (slice_get names f) t → ⊥) → A → ⊥
-  fit-not cs ds f at same e none-fits a = by_text (slice_get texts at) refl
+  -- no text is
+  fit-not : (fs : List ℕ) (f at : ℕ) → ((t : List ℕ) → slice_get texts at ≡ Some t → IsTextOf (slice_get names f) t → ⊥) → AreTextsOf names (f ∷ fs) (drop at texts) → ⊥
+  fit-not fs f at none-fits h = by_text (slice_get texts at) refl
     where
       by_text : (o : Option (List ℕ)) → slice_get texts at ≡ o → ⊥
-      by_text None s = subst (AreTextsOf names (f ∷ ds)) (drop-none texts at s) (subst (λ xs. AreTextsOf names xs (drop at texts)) e (same.0 a))
-      by_text (Some t) s = none-fits t s (fit-first cs ds f at t e s (same.0 a)).0
+      by_text None s = subst (AreTextsOf names (f ∷ fs)) (drop-none texts at s) h
+      by_text (Some t) s = none-fits t s (fit-first fs f at t s h).0
 
   none-left : (vs : List (List ℕ)) → AreTextsOf names [] vs → vs ≡ []
   none-left [] h = refl
   none-left (v ∷ vs) h = absurd h
 
   -- no symbol is left
-  pub fit-end : {A : Type 0} → (cs : List ℕ) (at n : ℕ) → A ↔ AreTextsOf names cs (drop at texts) → cs ≡ [] → at ≤ length texts → n ≡ length texts → IsTrue (nat_eq at n) ↔ A
-  fit-end cs at n same e within count = (
+  fit-end : (at n : ℕ) → at ≤ length texts → n ≡ length texts → IsTrue (nat_eq at n) ↔ AreTextsOf names [] (drop at texts)
+  fit-end at n within count = (
     (λ t. let a = same-numbers at n t in
-        same.1 (subst (λ xs. AreTextsOf names xs (drop at texts)) (sym e) (subst (AreTextsOf names []) (sym (drop-end texts at (omega arith))) tt))),
-    (λ a. let d = none-left (drop at texts) (subst (λ xs. AreTextsOf names xs (drop at texts)) e (same.0 a)) in
-        let s = drop-short texts at d in
+        subst (AreTextsOf names []) (sym (drop-end texts at (omega arith))) tt),
+    (λ h. let s = drop-short texts at (none-left (drop at texts) h) in
         numbers-same at n (omega arith)),
   )
 
@@ -87,27 +80,31 @@ module _ (names : List (Kind × List ℕ)) (texts : List (List ℕ)) where
       none : (f : ℕ) → HasCome a f → ⊥
       none f c = let e = behind.each f in omega arith
 
+  -- bare marks that are left out say nothing
   pub fits-thin : (at : ℕ) (a : Attributes) (ws ms : List Mark) → Thins ws ms → Fits names texts at a ms ↔ Fits names texts at a ws
   fits-thin at a ws ms thin = (
     (λ h. record { fit = subst (λ fs. AreTextsOf names fs (drop at texts)) (sym (thins-valued ws ms thin)) h.fit; going = (going-same names a ws ms thin).0 h.going }),
     (λ h. record { fit = subst (λ fs. AreTextsOf names fs (drop at texts)) (thins-valued ws ms thin) h.fit; going = (going-same names a ws ms thin).1 h.going }),
   )
 
+  -- a node more: without a text, and with its text
   pub fits-bare : (at : ℕ) (a b : Attributes) (ms : List Mark) → GoOn names a (Bare ∷ ms) ↔ GoOn names b ms → Fits names texts at a (Bare ∷ ms) ↔ Fits names texts at b ms
   fits-bare at a b ms go = ((λ h. record { fit = h.fit; going = go.0 h.going }), (λ h. record { fit = h.fit; going = go.1 h.going }))
 
   pub fits-valued : (at : ℕ) (a b : Attributes) (f : ℕ) (ms : List Mark) (t : List ℕ) → GoOn names a (Valued f ∷ ms) ↔ GoOn names b ms → slice_get texts at ≡ Some t → IsTextOf (slice_get names f) t
       → Fits names texts at a (Valued f ∷ ms) ↔ Fits names texts (at + 1) b ms
   fits-valued at a b f ms t go s is =
-      let next = fit-next names texts (f ∷ valued ms) (valued ms) f at t ((λ h. h), (λ h. h)) refl s is in
+      let next = fit-next names texts (valued ms) f at t s is in
       ((λ h. record { fit = next.0 h.fit; going = go.0 h.going }), (λ h. record { fit = next.1 h.fit; going = go.1 h.going }))
 
+  -- no text is that of the next node
   pub fits-not : (at : ℕ) (a : Attributes) (f : ℕ) (ms : List Mark) → ((t : List ℕ) → slice_get texts at ≡ Some t → IsTextOf (slice_get names f) t → ⊥) → Fits names texts at a (Valued f ∷ ms) → ⊥
-  fits-not at a f ms none h = fit-not names texts (f ∷ valued ms) (valued ms) f at ((λ x. x), (λ x. x)) refl none h.fit
+  fits-not at a f ms none h = fit-not names texts (valued ms) f at none h.fit
 
+  -- no node is left
   pub fits-end : (at n : ℕ) (a : Attributes) (ms : List Mark) → ms ≡ [] → at ≤ length texts → n ≡ length texts → IsTrue (nat_eq at n) ↔ Fits names texts at a ms
   fits-end at n a ms e within count =
-      let end = fit-end names texts [] at n ((λ x. x), (λ x. x)) refl within count in (
+      let end = fit-end names texts at n within count in (
         (λ t. subst (Fits names texts at a) (sym e) (record { fit = end.0 t; going = record { come = λ f c. tt; coming = tt } })),
         (λ h. end.1 (subst (Fits names texts at a) e h).fit),
       )

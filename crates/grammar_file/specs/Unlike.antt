@@ -41,7 +41,7 @@ pub record GoOn (names : List (Kind × List ℕ)) (a : Attributes) (ms : List Ma
   pub come : (f : ℕ) → HasCome a f → IsNewIn names f ms
   pub coming : AreUnlike names ms
 
--- one lawful text for each of the labels that has one, and no equal attributes
+-- one lawful text for each of the labels that has one, and no two attributes of an element are equal
 pub record AreRightTexts (names : List (Kind × List ℕ)) (labels : List Label) (texts : List (List ℕ)) : Type 0 where
   pub fit : AreTextsOf names (text_symbols names labels) texts
   pub unlike : AreUnlike names (marks names labels)

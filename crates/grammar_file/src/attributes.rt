@@ -1,5 +1,5 @@
 // The attributes that stand one behind another, with no other node between.
-ghost use Rattle.std.specs.Prelude.{◌≡◌, ◌≤◌, ◌<◌, ◌+◌, ◌^◌, ◌↔◌, ℕ, List, [], ◌∷◌, true, false, length, get_or, slice_get, slice_set, nat_le, IfOk};
+ghost use Rattle.std.specs.Prelude.{◌≡◌, ◌≤◌, ◌<◌, ◌+◌, ◌^◌, ◌↔◌, ℕ, List, [], ◌∷◌, true, false, length, get_or, slice_get, IfOk};
 ghost use Rattle.grammar_file.specs.Marks.{valued};
 ghost use Rattle.grammar_file.specs.Unlike.{AreBehind, GoOn, is_attribute};
 
@@ -7,12 +7,13 @@ use crate::text_lists::Mark;
 use plain_tree::{Kind, Names};
 use std::alloc::{AllocError, Global};
 
-/// Which attributes came since another node did.
+/// Which attributes came since another node did: those whose last text stands behind that node. So nothing has to be forgotten when
+/// another node comes.
 #[derive(Drop)]
 pub(crate) struct Attributes {
-    /// For each symbol how many texts there were with that of its last attribute, and zero before the first.
+    /// For each symbol the number of its last attribute's text, the first being one, and zero where none came.
     last: Vec<u64>,
-    /// How many there were when another node came.
+    /// How many texts had come when another node did.
     begin: u64,
 }
 
@@ -27,7 +28,7 @@ impl Attributes {
         })
     }
 
-    /// Takes in a node behind so many texts, and tells whether it is no attribute that came already.
+    /// Takes in a node behind so many texts, and tells whether it isn't an attribute that came since another node did.
     pub(crate) fn admit(&mut self, names: &Names, mark: Mark, texts: u64) -> bool
         requires behind { AreBehind self.old (length names.now) texts }
         requires few { texts < 2 ^ 63 }
@@ -36,25 +37,16 @@ impl Attributes {
         ensures no { result ≡ false → (ms : List Mark) → GoOn names.now self.old (mark ∷ ms) → ⊥ }
     {
         match mark {
-            Mark::Valued(symbol) if is_attribute(names, symbol) => self.add(symbol, texts),
+            Mark::Valued(symbol) if is_attribute(names, symbol) => {
+                let is_new = self.last[symbol] <= self.begin;
+                self.last[symbol] = texts + 1;
+                is_new
+            }
             _ => {
                 self.begin = texts;
                 true
             }
         }
-    }
-
-    // Takes in an attribute, and tells whether it is a new one.
-    fn add(&mut self, symbol: usize, texts: u64) -> bool
-        requires known { symbol < length self.old.last.items }
-        requires few { texts < 2 ^ 63 }
-        ensures result { result ≡ nat_le (get_or self.old.last.items symbol 0) self.old.begin }
-        ensures last { self.new.last.items ≡ slice_set self.old.last.items symbol (texts + 1) }
-        ensures begin { self.new.begin ≡ self.old.begin }
-    {
-        let is_new = self.last[symbol] <= self.begin;
-        self.last[symbol] = texts + 1;
-        is_new
     }
 }
 

@@ -1,4 +1,4 @@
-// Which chains of siblings are kids of a lawful node, by the kinds and names of their nodes: an automaton that runs upward.
+// Which chains of siblings are kids of a lawful node, by the kinds of their nodes: an automaton that runs upward.
 ghost use Rattle.std.specs.Prelude.{◌≡◌, IfOk};
 ghost use Rattle.grammar_file.specs.Chains.{behind_aside, behind_attribute, behind_element, behind_text, chain_algebra, document, is_empty, is_of_element, kinds_of};
 

@@ -42,7 +42,7 @@ pub(crate) fn is_document(
     }
 }
 
-// Whether the rules code one document that is lawful but for its values.
+// Whether the rules code one document that is lawful but for its values and for attributes of equal names.
 fn codes_document(alloc: Global, grammar: &Grammar, names: &Names) -> Result<bool, AllocError>
     ensures { IfOk result (λ yes. IsTrue yes ↔ (chain_of names.now (value (rules_of grammar.now.rules)) ≡ Chain.Whole)) }
 {

@@ -8,8 +8,8 @@
 //! was read is told by its bytes alone, so bytes are bad exactly where no parts have them.
 //!
 //! `lawful` decides whether rules, names and texts stand for a document, and unfolds nothing: `chains` runs upward over the rules and
-//! tells what is lawful but for values, with the names of an element's `attributes`; `texts_of` holds the texts against the symbols
-//! that have one, which `text_lists` lists rule by rule and `text_walk` tells one after another.
+//! tells what is lawful but for values and for attributes of equal names; `texts_of` holds the texts against the symbols that have one,
+//! which `text_lists` lists rule by rule and `text_walk` tells one after another, and `attributes` finds equal ones among them.
 #![tactic(auto)]
 
 mod attributes;

@@ -23,7 +23,7 @@ use xml_nodes::lawful;
 /// Whether the list has exactly one lawful text for each node of the value that has one, in document order, and attributes of one
 /// element have distinct names.
 ///
-/// It takes time for the grammar, and for each text of the list at most that of as many steps as there are rules.
+/// It takes time for the grammar, and for each text of the list at most a few steps for each rule.
 pub(crate) fn are_texts_of(
     alloc: Global,
     grammar: &Grammar,

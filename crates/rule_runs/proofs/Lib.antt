@@ -18,6 +18,7 @@ pub mod Tellings
 pub mod Places
 pub mod Marks
 pub mod NoteLemmas
+pub mod KeptNotes
 pub mod Descents
 pub mod Rooms
 pub mod Triples

@@ -7,6 +7,7 @@ ghost use Rattle.rule_runs.specs.Hits.{numbers, symbols_in};
 ghost use Rattle.rule_runs.specs.Reached.{RuleStates, FallsOnce};
 ghost use Rattle.rule_runs.specs.Risen.{IsRun};
 
+use crate::kept::Bodies;
 use crate::descent::{begin, descend, enter_call};
 use crate::listing::Part;
 use crate::rising::RiseTable;
@@ -67,21 +68,34 @@ pub fn fall<A: Falling, L: Ledger>(
 {
     // The call tells that the rules are a grammar.
     let _rules = grammar.rules();
+    let pairs = risen.known.len();
+    let mut bodies = Bodies::new(alloc, pairs)?;
     let mut known = Spots::new(alloc);
     let mut lists = Vec::new(alloc);
     let mut frames = Vec::new(alloc);
     let start = Spot {
-        pair: risen.known.len() - 1,
+        pair: pairs - 1,
         down: automaton.start()?,
     };
-    let mut frame = begin(alloc, automaton, grammar, risen, start, steps)?;
+    let mut frame = begin(
+        alloc,
+        automaton,
+        grammar,
+        risen,
+        &mut bodies,
+        start,
+        steps,
+    )?;
     'bodies: loop {
+        let Some(notes) = bodies.notes(frame.spot.pair) else {
+            unreachable!()
+        };
         match descend(
-            alloc, automaton, grammar, risen, &known, &mut lists, &mut frame,
+            alloc, automaton, grammar, risen, notes, &known, &mut lists, &mut frame,
         )? {
             Some(spot) => {
                 frames.push(frame)?;
-                frame = begin(alloc, automaton, grammar, risen, spot, steps)?;
+                frame = begin(alloc, automaton, grammar, risen, &mut bodies, spot, steps)?;
             }
             None => match frames.pop() {
                 None => {

@@ -5,8 +5,8 @@
 //! hit, by their numbers and symbols, one after another.
 //!
 //! `body` reads a rule's body. Upward: `rising` runs over the bodies of `frame`, with states on a `stack`, and notes them in `memo`.
-//! Downward: `falling` runs over the bodies of `descent`, which `notes` has made ready, and keeps in `spots` what each was found to
-//! be, as stretches of nodes (`told`). `listing` tells a list that is made of earlier lists, for `answers`.
+//! Downward: `falling` runs over the bodies of `descent`, which `kept` has as their `notes`, and keeps in `spots` what each was
+//! found to be, as stretches of nodes (`told`). `listing` tells a list that is made of earlier lists, for `answers`.
 //!
 //! `specs/Reached.antt` says which pairs and triples a run meets. Counts tell that a value is small enough for `fall`, by the lemma
 //! `nodes-weigh` of `proofs/Sizes.antt`; a hit's symbol tells its node's kind and name, by `document-symbol` of `proofs/Symbols.antt`.
@@ -18,6 +18,7 @@ mod calls;
 mod descent;
 mod falling;
 mod frame;
+mod kept;
 mod listing;
 mod memo;
 mod notes;

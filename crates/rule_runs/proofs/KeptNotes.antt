@@ -1,5 +1,5 @@
 -- Notes that are kept.
-use Rattle.std.proofs.Common.{◌≡◌, ◌<◌, ℕ, zero, suc, List, [], ◌∷◌, length, get_or, set, reverse, Option, Some, None, Vec, Global, All, slice_get, refl, sym, ap, ◌∙◌, arith, subst}
+use Rattle.std.proofs.Common.{◌≡◌, ◌<◌, ℕ, zero, suc, List, [], ◌∷◌, length, set, reverse, Option, Some, Vec, Global, slice_get, refl, ◌∙◌, arith, subst}
 use Rattle.std.proofs.lemmas.List.{length-set}
 use Rattle.slt_grammar.specs.Algebras.{Algebra}
 use Rattle.slt_grammar.specs.Grammars.{body_at}
@@ -8,7 +8,6 @@ use Rattle.rule_runs.specs.Reached.{RuleStates}
 use Rattle.rule_runs.specs.declared.notes.Note.{Note}
 use Rattle.rule_runs.specs.Notes.{AreNotes, AreKept, HasBody}
 use Rattle.rule_runs.specs.Risen.{pair_at}
-use Rattle.rule_runs.proofs.Lists.{all-get}
 
 pub set-there : {X : Type 0} (xs : List X) (j : ℕ) (x : X) → j < length xs → slice_get (set xs j x) j ≡ Some x
 set-there [] j x h = absurd (omega arith)
@@ -32,12 +31,6 @@ has-set (m ∷ ms) (suc j) notes zero h = h
 has-set (m ∷ ms) (suc j) notes (suc i) h = has-set ms j notes i h
 
 module _ {S : Type 0} (A : Algebra S) (G : List Rule) (ks : List (RuleStates S)) where
-  pub kept-none : (kept : List (Option (Vec (Note S) Global))) → length kept ≡ length ks → All (λ m. m ≡ None) kept → AreKept A G ks kept
-  kept-none kept n h = record {
-    rows = n;
-    noted = λ i notes e. let k : Some notes ≡ None = all-get (λ m. m ≡ None) kept i (Some notes) h e in absurd (cc);
-  }
-
   pub kept-set : (kept : List (Option (Vec (Note S) Global))) (j : ℕ) (notes : Vec (Note S) Global) → AreKept A G ks kept → AreNotes A G ks (pair_at ks j).1 (body_at G (pair_at ks j).0) (reverse notes.items) → AreKept A G ks (set kept j (Some notes))
   kept-set kept j notes h n = record {
     rows = length-set kept j (Some notes) ∙ h.rows;

@@ -12,6 +12,7 @@ pub mod Symbols
 pub mod Found
 pub mod Handing
 pub mod Cutting
+pub mod Spent
 pub mod Weaving
 pub mod Telling
 pub mod Tellings

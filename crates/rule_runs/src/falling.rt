@@ -7,8 +7,8 @@ ghost use Rattle.rule_runs.specs.Hits.{numbers, symbols_in};
 ghost use Rattle.rule_runs.specs.Reached.{RuleStates, FallsOnce};
 ghost use Rattle.rule_runs.specs.Risen.{IsRun};
 
-use crate::kept::Bodies;
 use crate::descent::{begin, descend, enter_call};
+use crate::kept::Bodies;
 use crate::listing::Part;
 use crate::rising::RiseTable;
 use crate::spots::{Spot, Spots};
@@ -77,15 +77,7 @@ pub fn fall<A: Falling, L: Ledger>(
         pair: pairs - 1,
         down: automaton.start()?,
     };
-    let mut frame = begin(
-        alloc,
-        automaton,
-        grammar,
-        risen,
-        &mut bodies,
-        start,
-        steps,
-    )?;
+    let mut frame = begin(alloc, automaton, grammar, risen, &mut bodies, start, steps)?;
     'bodies: loop {
         let Some(notes) = bodies.notes(frame.spot.pair) else {
             unreachable!()

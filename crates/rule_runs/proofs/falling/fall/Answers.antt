@@ -5,7 +5,7 @@ use Rattle.slt_grammar.specs.Keyed.{rules_of}
 use Rattle.rule_runs.specs.Hits.{numbers, symbols_in}
 use Rattle.rule_runs.specs.Reached.{FallsOnce}
 use Rattle.rule_runs.specs.Descents.{HasOutcome, Asks, AreWaiting, triple_at}
-use Rattle.rule_runs.specs.Notes.{AreNotes, AreKept, HasBody}
+use Rattle.rule_runs.specs.Notes.{HasBody}
 use Rattle.rule_runs.specs.Risen.{keys, pair_at}
 use Rattle.rule_runs.proofs.Lists.{reverse-push, all-one, no_more}
 use Rattle.rule_runs.proofs.Descents.{outcome-lengths, waiting-more}

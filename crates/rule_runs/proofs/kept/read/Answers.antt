@@ -1,11 +1,11 @@
-use Rattle.std.proofs.Common.{◌≡◌, ◌∙◌, [], sym, ap, subst, arith, reverse, length, All}
+use Rattle.std.proofs.Common.{◌≡◌, ◌∙◌, [], sym, ap, subst, arith, reverse, All}
 use Rattle.std.proofs.lemmas.List.Elements.{All-get_or}
 use Rattle.std.proofs.lemmas.List.{length-reverse}
 use Rattle.slt_grammar.specs.Keyed.{rules_of}
 use Rattle.slt_grammar.specs.Grammars.{body_at}
 use Rattle.rule_runs.specs.Reached.{RuleStates}
 use Rattle.rule_runs.specs.Entries.{key_of}
-use Rattle.rule_runs.specs.Notes.{AreNotes, AreKept, HasBody}
+use Rattle.rule_runs.specs.Notes.{AreNotes}
 use Rattle.rule_runs.specs.Risen.{state_at, keys, pair_at, AreKnown}
 use Rattle.rule_runs.proofs.KeptNotes.{set-there, has-set, kept-set}
 use Rattle.rule_runs.proofs.NoteLemmas.{notes-length}

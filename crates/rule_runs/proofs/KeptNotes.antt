@@ -1,12 +1,13 @@
 -- Notes that are kept.
-use Rattle.std.proofs.Common.{◌≡◌, ◌<◌, ℕ, zero, suc, List, [], ◌∷◌, length, set, reverse, Option, Some, Vec, Global, slice_get, refl, ◌∙◌, arith, subst}
+use Rattle.std.proofs.Common.{◌≡◌, ◌<◌, ℕ, zero, suc, List, [], ◌∷◌, length, set, reverse, Option, Some, Vec, Global, slice_get, refl, ◌∙◌, arith, subst, ◌≤◌, ◌+◌, sum_by, None}
 use Rattle.std.proofs.lemmas.List.{length-set}
+use Rattle.std.proofs.lemmas.List.Sums.{sum_by-append}
 use Rattle.slt_grammar.specs.Algebras.{Algebra}
 use Rattle.slt_grammar.specs.Grammars.{body_at}
 use Rattle.slt_grammar.specs.declared.rules.Rule.{Rule}
 use Rattle.rule_runs.specs.Reached.{RuleStates}
 use Rattle.rule_runs.specs.declared.notes.Note.{Note}
-use Rattle.rule_runs.specs.Notes.{AreNotes, AreKept, HasBody}
+use Rattle.rule_runs.specs.Notes.{AreNotes, AreKept, HasBody, unread}
 use Rattle.rule_runs.specs.Risen.{pair_at}
 
 pub set-there : {X : Type 0} (xs : List X) (j : ℕ) (x : X) → j < length xs → slice_get (set xs j x) j ≡ Some x
@@ -36,3 +37,29 @@ module _ {S : Type 0} (A : Algebra S) (G : List Rule) (ks : List (RuleStates S))
     rows = length-set kept j (Some notes) ∙ h.rows;
     noted = set-holds (λ i (v : Vec (Note S) Global). AreNotes A G ks (pair_at ks i).1 (body_at G (pair_at ks i).0) (reverse v.items)) kept j notes h.noted n;
   }
+
+module _ {S : Type 0} (G : List Rule) where
+  -- the bodies that are not kept are some of all bodies
+  pub unread-most : (ks : List (RuleStates S)) (ms : List (Option (Vec (Note S) Global))) → unread G ks ms ≤ sum_by (λ k. length (body_at G k.0)) ks
+  unread-most [] ms = omega arith
+  unread-most (k ∷ ks) [] = omega (arith, unread-most ks [], sum_by-append (λ (k : RuleStates S). length (body_at G k.0)) (k ∷ []) ks)
+  unread-most (k ∷ ks) (None ∷ ms) = omega (arith, unread-most ks ms, sum_by-append (λ (k : RuleStates S). length (body_at G k.0)) (k ∷ []) ks)
+  unread-most (k ∷ ks) (Some notes ∷ ms) = omega (arith, unread-most ks ms, sum_by-append (λ (k : RuleStates S). length (body_at G k.0)) (k ∷ []) ks)
+
+  -- one of them is read
+  pub unread-set : (ks : List (RuleStates S)) (ms : List (Option (Vec (Note S) Global))) (j : ℕ) (notes : Vec (Note S) Global) → j < length ks → j < length ms → (HasBody ms j → ⊥)
+      → unread G ks (set ms j (Some notes)) + length (body_at G (pair_at ks j).0) ≡ unread G ks ms
+  unread-set [] ms j notes h l n = absurd (omega arith)
+  unread-set (k ∷ ks) [] j notes h l n = absurd (omega arith)
+  unread-set (k ∷ ks) (None ∷ ms) zero notes h l n = omega arith
+  unread-set (k ∷ ks) (Some v ∷ ms) zero notes h l n = absurd (n (v, refl))
+  unread-set (k ∷ ks) (None ∷ ms) (suc j) notes h l n = omega (arith, unread-set ks ms j notes (omega arith) (omega arith) n)
+  unread-set (k ∷ ks) (Some v ∷ ms) (suc j) notes h l n = unread-set ks ms j notes (omega arith) (omega arith) n
+
+  pub unread-some : (ks : List (RuleStates S)) (ms : List (Option (Vec (Note S) Global))) (j : ℕ) → j < length ks → j < length ms → (HasBody ms j → ⊥) → length (body_at G (pair_at ks j).0) ≤ unread G ks ms
+  unread-some [] ms j h l n = absurd (omega arith)
+  unread-some (k ∷ ks) [] j h l n = absurd (omega arith)
+  unread-some (k ∷ ks) (None ∷ ms) zero h l n = omega arith
+  unread-some (k ∷ ks) (Some v ∷ ms) zero h l n = absurd (n (v, refl))
+  unread-some (k ∷ ks) (None ∷ ms) (suc j) h l n = omega (arith, unread-some ks ms j (omega arith) (omega arith) n)
+  unread-some (k ∷ ks) (Some v ∷ ms) (suc j) h l n = unread-some ks ms j (omega arith) (omega arith) n

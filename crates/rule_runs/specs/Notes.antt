@@ -1,5 +1,5 @@
 -- Bodies as a run downward reads them.
-use Rattle.std.specs.Prelude.{◌≡◌, ℕ, List, [], ◌∷◌, length, get_or, take, drop, reverse, Option, Some, Vec, slice_get}
+use Rattle.std.specs.Prelude.{◌≡◌, ℕ, ◌+◌, List, [], ◌∷◌, length, get_or, take, drop, reverse, Option, Some, None, Vec, slice_get}
 use Rattle.std.specs.Global.{Global}
 use Rattle.rule_arena.specs.declared.label.Label.{Label}
 use Rattle.rule_arena.specs.declared.label.Label.TheVariants.{Bottom, Symbol, Call, Param}
@@ -35,3 +35,10 @@ module _ {S : Type 0} (A : Algebra S) (G : List Rule) (keys : List (RuleStates S
 -- the body of a pair is kept
 abbrev pub HasBody : {S : Type 0} → List (Option (Vec (Note S) Global)) → ℕ → Type 0
 HasBody {S} kept i = (notes : Vec (Note S) Global) × (slice_get kept i ≡ Some (Some notes))
+
+-- how many nodes the bodies have that are not kept yet
+abbrev pub unread : {S : Type 0} → List Rule → List (RuleStates S) → List (Option (Vec (Note S) Global)) → ℕ
+unread G [] ms = 0
+unread G (k ∷ ks) [] = length (body_at G k.0) + unread G ks []
+unread G (k ∷ ks) (None ∷ ms) = length (body_at G k.0) + unread G ks ms
+unread G (k ∷ ks) (Some notes ∷ ms) = unread G ks ms

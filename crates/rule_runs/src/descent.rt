@@ -7,7 +7,7 @@ ghost use Rattle.slt_grammar.specs.Keyed.{rules_of};
 ghost use Rattle.rule_runs.specs.Reached.{Falls};
 ghost use Rattle.rule_runs.specs.Cuts.{Stretch, nothing, one, beside};
 ghost use Rattle.rule_runs.specs.Listing.{AreEarlier};
-ghost use Rattle.rule_runs.specs.Notes.{AreNotes, AreKept, HasBody};
+ghost use Rattle.rule_runs.specs.Notes.{AreNotes, AreKept, HasBody, unread};
 ghost use Rattle.rule_runs.specs.Risen.{IsRun, keys, pair_at};
 ghost use Rattle.rule_runs.specs.Tellings.{HasRoom, IsTelling, AreTold};
 ghost use Rattle.rule_runs.specs.Walks.{Open, woven_marks};
@@ -65,6 +65,8 @@ pub(crate) fn begin<A: Falling, L: Ledger>(
     ensures cost { IfOk result (λ descent. descent.left ≡ length (body_at (rules_of grammar.now.rules) (pair_at (keys risen.now.known) spot.pair).0)) }
     ensures steps { steps.new ≤ steps.old + 2 * length (body_at (rules_of grammar.now.rules) (pair_at (keys risen.now.known) spot.pair).0) }
     ensures counted { steps.old ≤ steps.new }
+    ensures reads { steps.new ≤ steps.old + 2 * unread (rules_of grammar.now.rules) (keys risen.now.known) bodies.old.kept.items }
+    ensures once { OnOk result (steps.new + 2 * unread (rules_of grammar.now.rules) (keys risen.now.known) bodies.new.kept.items ≤ steps.old + 2 * unread (rules_of grammar.now.rules) (keys risen.now.known) bodies.old.kept.items) }
 {
     // The call tells that the rules are a grammar.
     let _rules = grammar.rules();

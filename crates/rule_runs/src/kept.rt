@@ -4,7 +4,7 @@ ghost use Rattle.slt_grammar.specs.Algebras.{Algebra};
 ghost use Rattle.slt_grammar.specs.Grammars.{body_at};
 ghost use Rattle.slt_grammar.specs.Keyed.{rules_of};
 ghost use Rattle.slt_grammar.specs.declared.rules.Rule.{Rule};
-ghost use Rattle.rule_runs.specs.Notes.{AreKept, HasBody};
+ghost use Rattle.rule_runs.specs.Notes.{AreKept, HasBody, unread};
 ghost use Rattle.rule_runs.specs.Reached.{RuleStates};
 ghost use Rattle.rule_runs.specs.Risen.{IsRun, keys, pair_at};
 
@@ -65,6 +65,8 @@ pub(crate) fn read<A: Rising, L: Ledger>(
     ensures nodes { IfOk result (λ nodes. nodes ≡ length (body_at (rules_of grammar.now.rules) (pair_at (keys risen.now.known) pair).0)) }
     ensures steps { steps.new ≤ steps.old + 2 * length (body_at (rules_of grammar.now.rules) (pair_at (keys risen.now.known) pair).0) }
     ensures counted { steps.old ≤ steps.new }
+    ensures reads { steps.new ≤ steps.old + 2 * unread (rules_of grammar.now.rules) (keys risen.now.known) bodies.old.kept.items }
+    ensures once { OnOk result (steps.new + 2 * unread (rules_of grammar.now.rules) (keys risen.now.known) bodies.new.kept.items ≤ steps.old + 2 * unread (rules_of grammar.now.rules) (keys risen.now.known) bodies.old.kept.items) }
 {
     // The call tells that the rules are a grammar.
     let _rules = grammar.rules();

@@ -10,6 +10,7 @@ use Rattle.rule_runs.specs.Risen.{keys, pair_at}
 use Rattle.rule_runs.proofs.Lists.{reverse-push, all-one, no_more}
 use Rattle.rule_runs.proofs.Descents.{outcome-lengths, waiting-more}
 use Rattle.rule_runs.proofs.Triples.{known_triples, open_triples, start-last, start-falls, falls-none, falls-start, falls-more, pair-of, waiting-begin, triples-return, stands-again, frame-small, outer-small, fall-cost-begin, whole-told, told-answers, told-answered, outcomes-more, spot-apart}
+use Rattle.rule_runs.proofs.KeptNotes.{unread-most}
 use Rattle.rule_runs.proofs.Found.{found-hits, found-right, found-small}
 use Rattle.rule_runs.proofs.Rooms.{walk-room-call}
 use Rattle.rule_runs.proofs.falling.fall.Goals as goal
@@ -50,6 +51,17 @@ returns-in_err-frame-clause-steps g c =
     let k = c.begin.ensures.steps in
     (_, falls-start A W G c.args.risen.now.known c.requires.run c.rules-rules.ensures.grammar (record { pair = c.len-pairs.result - 1; down = c.in_ok-start.field-0 }) (c.begin.new.steps - c.args.steps.now) (ap (λ n. n - 1) c.len-pairs.ensures ∙ ap (λ es. length (keys es) - 1) kn) c.in_ok-start.ensures (omega arith))
 
+pub returns-in_err-frame-clause-reads : goal.returns-in_err-frame-clause-reads
+returns-in_err-frame-clause-reads g c =
+    let h = c.begin.ensures.reads in
+    omega (arith, unread-most (rules_of c.args.grammar.now.rules) (keys c.args.risen.now.known) c.in_ok-bodies.bodies.kept.items)
+
+pub returns-in_err-frame-in-Some-2-clause-reads : goal.returns-in_err-frame-in-Some-2-clause-reads
+returns-in_err-frame-in-Some-2-clause-reads g c =
+    let h = c.begin-in-Some-2.ensures.reads in
+    let few = c.bodies.invariant.few in
+    omega arith
+
 pub bodies-init : goal.bodies-init
 bodies-init g c =
     let A = g.A.Rising.algebra c.args.automaton.now in
@@ -74,6 +86,7 @@ bodies-init g c =
       waiting = rw c.new-frames.ensures.items (s ∙ ap (λ x. record { pair = x; down = c.in_ok-start.field-0 }) n ∙ ap (λ d. record { pair = length (keys es) - 1; down = d }) c.in_ok-start.ensures);
       reads = rw (c.new-known.ensures, c.new-frames.ensures.items, s) r;
       counted = c.begin.ensures.counted;
+      few = (let h = c.in_ok-frame.ensures.once in omega (arith, unread-most G (keys es) c.in_ok-bodies.bodies.kept.items));
     }
 
 pub returns-in_err-frame-in-Some-2-clause-steps : goal.returns-in_err-frame-in-Some-2-clause-steps
@@ -134,6 +147,7 @@ bodies-preserved-in-Some-2 g c =
       waiting = rw (e, spot) (subst (λ x. AreWaiting A W G ks x s (f' ∷ gs)) (sym m.1) w);
       reads = rw (e, spot, same) r;
       counted = (let h = c.begin-in-Some-2.ensures.counted in omega arith);
+      few = (let h = c.in_ok-frame-in-Some-2.ensures.once in let few = c.bodies.invariant.few in omega arith);
     }
 
 pub index-requires : goal.index-requires
@@ -253,4 +267,5 @@ bodies-preserved g c =
       waiting = w3.3;
       reads = rw (k, triples-return A W G ks c.bodies.known f'.spot f'.outcome (below ∷ gs), same) r;
       counted = c.bodies.invariant.counted;
+      few = c.bodies.invariant.few;
     }

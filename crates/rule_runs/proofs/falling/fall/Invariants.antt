@@ -1,9 +1,10 @@
-use Rattle.std.proofs.Common.{◌<◌, ◌≤◌, ◌+◌, ◌-◌, ◌++◌, ◌∷◌, length, reverse, sum_by, All}
+use Rattle.std.proofs.Common.{◌<◌, ◌≤◌, ◌+◌, ◌*◌, ◌-◌, ◌++◌, ◌∷◌, length, reverse, sum_by, All}
+use Rattle.slt_grammar.specs.Grammars.{body_at}
 use Rattle.slt_grammar.specs.Keyed.{rules_of}
 use Rattle.rule_runs.specs.Reached.{FallsOnce}
 use Rattle.rule_runs.specs.Descents.{HasOutcome, Standing, AreWaiting, triple_at, fall_cost}
 use Rattle.rule_runs.specs.Listing.{AreEarlier}
-use Rattle.rule_runs.specs.Notes.{AreKept, HasBody}
+use Rattle.rule_runs.specs.Notes.{AreKept, HasBody, unread}
 use Rattle.rule_runs.specs.Risen.{keys}
 use Rattle.rule_runs.proofs.Triples.{known_triples, open_triples}
 use Rattle.rule_runs.proofs.falling.fall.Given as goal
@@ -28,4 +29,5 @@ invariant-bodies g l =
       waiting : AreWaiting A W G ks l.lists.items l.frame.spot (reverse l.frames.items);
       reads : FallsOnce A W G (known_triples A W G ks l.known ++ (triple_at ks l.frame.spot ∷ open_triples A W G ks (reverse l.frames.items))) (l.steps - l.fn.steps);
       counted : l.fn.steps ≤ l.steps;
+      few : l.steps + 2 * unread G ks l.bodies.kept.items ≤ l.fn.steps + 2 * sum_by (λ k. length (body_at G k.0)) ks;
     }

@@ -1,13 +1,14 @@
-use Rattle.std.proofs.Common.{◌≡◌, ◌∙◌, [], sym, ap, subst, arith, reverse, All}
+use Rattle.std.proofs.Common.{◌≡◌, ◌<◌, ◌∙◌, [], sym, ap, subst, arith, reverse, length, All}
 use Rattle.std.proofs.lemmas.List.Elements.{All-get_or}
 use Rattle.std.proofs.lemmas.List.{length-reverse}
 use Rattle.slt_grammar.specs.Keyed.{rules_of}
 use Rattle.slt_grammar.specs.Grammars.{body_at}
 use Rattle.rule_runs.specs.Reached.{RuleStates}
 use Rattle.rule_runs.specs.Entries.{key_of}
-use Rattle.rule_runs.specs.Notes.{AreNotes}
+use Rattle.rule_runs.specs.Notes.{AreNotes, HasBody}
 use Rattle.rule_runs.specs.Risen.{state_at, keys, pair_at, AreKnown}
-use Rattle.rule_runs.proofs.KeptNotes.{set-there, has-set, kept-set}
+use Rattle.rule_runs.proofs.KeptNotes.{set-there, has-set, kept-set, unread-some, unread-set}
+use Rattle.rule_runs.proofs.Lists.{no_more}
 use Rattle.rule_runs.proofs.NoteLemmas.{notes-length}
 use Rattle.rule_runs.proofs.kept.read.Goals as goal
 
@@ -55,3 +56,55 @@ returns-clause-stays g c = λ i h. has-set c.args.bodies.now.kept.items c.args.p
 
 pub returns-clause-read : goal.returns-clause-read
 returns-clause-read g c = (c.in_ok-notes.notes, set-there c.args.bodies.now.kept.items c.args.pair _ (let r = c.requires.kept.rows in let t = c.requires.there in omega arith))
+
+pub returns-in_err-labels-clause-reads : goal.returns-in_err-labels-clause-reads
+returns-in_err-labels-clause-reads g c =
+    let G = rules_of c.args.grammar.now.rules in
+    let ks = keys c.args.risen.now.known in
+    let ms = c.args.bodies.now.kept.items in
+    let none : HasBody ms c.args.pair → ⊥ = rw (no_more c.notes.result c.in_default.not-Some) at c.notes.ensures.none in
+    let kn = ap (λ r. r.known) c.risen.view_is in
+    let k : key_of c.in-Some-pair.met.now ≡ pair_at ks c.args.pair = c.in-Some-pair.ensures.pair ∙ ap (λ x. pair_at (keys x) c.args.pair) kn in
+    let n : length (body_at G c.in-Some-pair.met.now.rule) ≡ length (body_at G (pair_at ks c.args.pair).0) = ap (λ (x : RuleStates g.row.A-State.Denot). length (body_at G x.0)) k in
+    let within : c.args.pair < length ms = (let r = c.requires.kept.rows in let t = c.requires.there in omega arith) in
+    let h = c.read_body.ensures.steps in
+    omega (arith, unread-some G ks ms c.args.pair c.requires.there within none)
+
+pub returns-in_err-notes-clause-reads : goal.returns-in_err-notes-clause-reads
+returns-in_err-notes-clause-reads g c =
+    let G = rules_of c.args.grammar.now.rules in
+    let ks = keys c.args.risen.now.known in
+    let ms = c.args.bodies.now.kept.items in
+    let none : HasBody ms c.args.pair → ⊥ = rw (no_more c.notes.result c.in_default.not-Some) at c.notes.ensures.none in
+    let kn = ap (λ r. r.known) c.risen.view_is in
+    let k : key_of c.in-Some-pair.met.now ≡ pair_at ks c.args.pair = c.in-Some-pair.ensures.pair ∙ ap (λ x. pair_at (keys x) c.args.pair) kn in
+    let n : length (body_at G c.in-Some-pair.met.now.rule) ≡ length (body_at G (pair_at ks c.args.pair).0) = ap (λ (x : RuleStates g.row.A-State.Denot). length (body_at G x.0)) k in
+    let within : c.args.pair < length ms = (let r = c.requires.kept.rows in let t = c.requires.there in omega arith) in
+    let h = c.read_body.ensures.steps in
+    omega (arith, unread-some G ks ms c.args.pair c.requires.there within none)
+
+pub returns-clause-reads : goal.returns-clause-reads
+returns-clause-reads g c =
+    let G = rules_of c.args.grammar.now.rules in
+    let ks = keys c.args.risen.now.known in
+    let ms = c.args.bodies.now.kept.items in
+    let none : HasBody ms c.args.pair → ⊥ = rw (no_more c.notes.result c.in_default.not-Some) at c.notes.ensures.none in
+    let kn = ap (λ r. r.known) c.risen.view_is in
+    let k : key_of c.in-Some-pair.met.now ≡ pair_at ks c.args.pair = c.in-Some-pair.ensures.pair ∙ ap (λ x. pair_at (keys x) c.args.pair) kn in
+    let n : length (body_at G c.in-Some-pair.met.now.rule) ≡ length (body_at G (pair_at ks c.args.pair).0) = ap (λ (x : RuleStates g.row.A-State.Denot). length (body_at G x.0)) k in
+    let within : c.args.pair < length ms = (let r = c.requires.kept.rows in let t = c.requires.there in omega arith) in
+    let h = c.read_body.ensures.steps in
+    omega (arith, unread-some G ks ms c.args.pair c.requires.there within none)
+
+pub returns-clause-once : goal.returns-clause-once
+returns-clause-once g c =
+    let G = rules_of c.args.grammar.now.rules in
+    let ks = keys c.args.risen.now.known in
+    let ms = c.args.bodies.now.kept.items in
+    let none : HasBody ms c.args.pair → ⊥ = rw (no_more c.notes.result c.in_default.not-Some) at c.notes.ensures.none in
+    let kn = ap (λ r. r.known) c.risen.view_is in
+    let k : key_of c.in-Some-pair.met.now ≡ pair_at ks c.args.pair = c.in-Some-pair.ensures.pair ∙ ap (λ x. pair_at (keys x) c.args.pair) kn in
+    let n : length (body_at G c.in-Some-pair.met.now.rule) ≡ length (body_at G (pair_at ks c.args.pair).0) = ap (λ (x : RuleStates g.row.A-State.Denot). length (body_at G x.0)) k in
+    let within : c.args.pair < length ms = (let r = c.requires.kept.rows in let t = c.requires.there in omega arith) in
+    let h = c.read_body.ensures.steps in
+    omega (arith, unread-set G ks ms c.args.pair c.in_ok-notes.notes c.requires.there within none)

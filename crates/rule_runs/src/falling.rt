@@ -51,9 +51,9 @@ impl FallTable {
 /// Runs the automaton downward, over what its run upward found in this grammar: which nodes are hit of all that the grammar stands for,
 /// and which symbols they have.
 ///
-/// What the grammar stands for has at most 2^63 - 1 nodes that aren't bottom. Each pair that the run upward met is read at most once,
-/// with at most two steps a node, whatever is answered; and so nothing is read for which no triple of a rule, states of its arguments
-/// and a down state is met. It fails where memory is refused.
+/// What the grammar stands for has at most 2^63 - 1 nodes that aren't bottom. Each pair of a rule and states of its arguments that the
+/// run meets is read once for all its down states, with at most two steps a node, whatever is answered. It fails where memory is
+/// refused.
 pub fn fall<A: Falling, L: Ledger>(
     alloc: Global,
     grammar: &Grammar,

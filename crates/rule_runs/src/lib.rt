@@ -1,8 +1,8 @@
 //! Runs of automata over shared rules: one run answers for all that the grammar stands for.
 //!
 //! A run upward reads each rule once for each list of argument states that it meets, however often the value has it. So does a run
-//! downward, and goes through what it read once for each down state. `rise` runs upward, `fall` downward over what that found, and `Answers` tells the nodes that are
-//! hit, by their numbers and symbols, one after another.
+//! downward, and goes through what it read once for each down state. `rise` runs upward, `fall` downward over what that found, and
+//! `Answers` tells the nodes that are hit, by their numbers and symbols, one after another.
 //!
 //! `body` reads a rule's body. Upward: `rising` runs over the bodies of `frame`, with states on a `stack`, and notes them in `memo`.
 //! Downward: `falling` runs over the bodies of `descent`, which `kept` has as their `notes`, and keeps in `spots` what each was

@@ -29,7 +29,7 @@ use Rattle.rule_runs.specs.Notes.{AreNotes}
 use Rattle.rule_runs.specs.Risen.{IsPair, pair_at}
 use Rattle.rule_runs.specs.Tellings.{IsTelling, AreTold}
 use Rattle.rule_runs.specs.Walks.{Open, Place, absorbed, after, down_at, downs_of, woven_marks, told, param_downs, woven}
-use Rattle.rule_runs.specs.Descents.{AreOpen, IsNext, CallsMeet, Walks, HasOutcome, AreWaiting}
+use Rattle.rule_runs.specs.Descents.{AreOpen, IsNext, CallsMeet, Walks, HasOutcome, Waiting, AreWaiting}
 use Rattle.rule_runs.proofs.Cutting.{before-nothing, beside-nothing, length-joined, length-cut, cut-some}
 use Rattle.rule_runs.proofs.Handing.{AllHoles, linear, handed_all, length-handed, fall-body}
 use Rattle.rule_runs.proofs.Lists.{slice_get-at}
@@ -149,10 +149,18 @@ module _ {S D : Type 0} (A : Algebra S) (W : Downward S D) (G : List Rule) (ks :
       let k : RuleStates S = pair_at ks spot.pair in
       omega (arith, length-told lists outcome.told.items _ h.finished, length-cut A W (value_at G k.0) k.1 spot.down, ap length h.hands, length-handed A W (value_at G k.0) k.1 spot.down)
 
-  pub waiting-more : (lists more : List (Vec Part Global)) (spot : Spot D) (gs : List (Descent S D)) → AreWaiting A W G ks lists spot gs → AreWaiting A W G ks (lists ++ more) spot gs
+  waits-more : (lists more : List (Vec Part Global)) (f : Descent D) (spot : Spot D) → Waiting A W G ks lists f spot → Waiting A W G ks (lists ++ more) f spot
+  waits-more lists more f spot h = record {
+    notes = h.notes;
+    noted = h.noted;
+    within = h.within;
+    walks = walk-more lists more (pair_at ks f.spot.pair) f.spot.down (NoteCall spot.pair ∷ reverse (take f.left h.notes)) (MarkTerm spot.down ∷ reverse f.marks.items) f.here f.outcome h.walks;
+  }
+
+  pub waiting-more : (lists more : List (Vec Part Global)) (spot : Spot D) (gs : List (Descent D)) → AreWaiting A W G ks lists spot gs → AreWaiting A W G ks (lists ++ more) spot gs
   waiting-more lists more spot [] h = h
   waiting-more lists more spot (f ∷ gs) h =
-      (walk-more lists more (pair_at ks f.spot.pair) f.spot.down (NoteCall spot.pair ∷ reverse f.notes.items) (MarkTerm spot.down ∷ reverse f.marks.items) f.here f.outcome h.0, h.1, h.2, waiting-more lists more f.spot gs h.3)
+      (waits-more lists more f spot h.0, h.1, h.2, waiting-more lists more f.spot gs h.3)
 
   module _ (lists : List (Vec Part Global)) (key : RuleStates S) (down : D) (outcome : Outcome D) where
     -- the next term's place is open

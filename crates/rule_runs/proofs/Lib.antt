@@ -12,12 +12,14 @@ pub mod Symbols
 pub mod Found
 pub mod Handing
 pub mod Cutting
+pub mod Spent
 pub mod Weaving
 pub mod Telling
 pub mod Tellings
 pub mod Places
 pub mod Marks
 pub mod NoteLemmas
+pub mod KeptNotes
 pub mod Descents
 pub mod Rooms
 pub mod Triples

@@ -11,6 +11,12 @@ use Rattle.std.proofs.Math.Nat.{pow-le-pow_right, mul-le-mul_right, one-le-pow, 
 pub reverse-push : {X : Type 0} (xs : List X) (x : X) → reverse (xs ++ x ∷ []) ≡ x ∷ reverse xs
 reverse-push xs x = reverse-append xs (x ∷ [])
 
+-- of a list that is told from its end, the next item and what is left behind it
+pub reverse-last : {X : Type 0} (xs : List X) (left k : ℕ) (x : X) → left ≡ suc k → left ≤ length xs → x ≡ get_or xs k x → reverse (take left xs) ≡ x ∷ reverse (take k xs)
+reverse-last xs left k x e le g =
+    let t : take (suc k) xs ≡ take k xs ++ get_or xs k x ∷ [] = take-suc xs k x (omega arith) in
+    rw e (ap reverse t ∙ reverse-push (take k xs) (get_or xs k x) ∙ ap (λ y. y ∷ reverse (take k xs)) (sym g))
+
 -- what is left of a reversed list behind so many
 pub reverse-front : {X : Type 0} (xs : List X) (k n : ℕ) → k + n ≡ length xs → reverse (take k xs) ≡ drop n (reverse xs)
 reverse-front xs k n e =

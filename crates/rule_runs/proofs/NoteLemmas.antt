@@ -1,5 +1,6 @@
 -- The notes of a body, by its labels.
-use Rattle.std.proofs.Common.{◌≡◌, ℕ, suc, List, [], ◌∷◌, length, get_or, take, drop, Some, slice_get, refl, sym, ap}
+use Rattle.std.proofs.Common.{◌≡◌, ◌≢◌, ℕ, suc, List, [], ◌∷◌, length, get_or, take, drop, reverse, Some, slice_get, refl, sym, ap, ◌∙◌, AllPairs}
+use Rattle.std.proofs.lemmas.List.{reverse-reverse}
 use Rattle.rule_arena.specs.declared.label.Label.{Label}
 use Rattle.rule_arena.specs.declared.label.Label.TheVariants.{Bottom, Symbol, Call, Param}
 use Rattle.slt_grammar.specs.Algebras.{Algebra, ranks_of}
@@ -7,7 +8,8 @@ use Rattle.rule_runs.specs.Reached.{RuleStates, states_of}
 use Rattle.slt_grammar.specs.declared.rules.Rule.{Rule}
 use Rattle.rule_runs.specs.declared.notes.Note.{Note}
 use Rattle.rule_runs.specs.declared.notes.Note.TheVariants.{Bottom as NoteBottom, Param as NoteParam, Symbol as NoteSymbol, Call as NoteCall}
-use Rattle.rule_runs.specs.Notes.{AreNotes}
+use Rattle.rule_runs.specs.Notes.{NoteIs, AreNotes}
+use Rattle.rule_runs.proofs.Lists.{one-place, slice_get-at}
 
 module _ {S : Type 0} (A : Algebra S) (G : List Rule) (ks : List (RuleStates S)) (args : List S) where
   pub note-bottom : (ls : List Label) (ns : List (Note S)) → AreNotes A G ks args ls (NoteBottom ∷ ns) → (rest : List Label) × (ls ≡ Bottom ∷ rest) × AreNotes A G ks args rest ns
@@ -56,3 +58,48 @@ notes-length A G ks args (Param ∷ ls) (n ∷ ns) o = ap suc (notes-length A G 
 notes-length A G ks args (Bottom ∷ ls) (n ∷ ns) o = ap suc (notes-length A G ks args ls ns o.1)
 notes-length A G ks args (Symbol f ∷ ls) (n ∷ ns) o = ap suc (notes-length A G ks args ls ns o.1)
 notes-length A G ks args (Call q ∷ ls) (n ∷ ns) o = ap suc (notes-length A G ks args ls ns o.1)
+
+-- the notes of a body are given by the table
+module _ {S : Type 0} (A : Algebra S) (G : List Rule) (ks : List (RuleStates S)) (distinct : AllPairs (λ p q. p ≢ q) ks) where
+  one-note : (l : Label) (states : List S) (n m : Note S) → NoteIs A G ks l states n → NoteIs A G ks l states m → n ≡ m
+  one-note Bottom states NoteBottom NoteBottom a b = refl
+  one-note Bottom states NoteBottom NoteParam a b = absurd b
+  one-note Bottom states NoteBottom (NoteSymbol f x y) a b = absurd b
+  one-note Bottom states NoteBottom (NoteCall i) a b = absurd b
+  one-note Bottom states NoteParam m a b = absurd a
+  one-note Bottom states (NoteSymbol f x y) m a b = absurd a
+  one-note Bottom states (NoteCall i) m a b = absurd a
+  one-note (Symbol g) states NoteBottom m a b = absurd a
+  one-note (Symbol g) states NoteParam m a b = absurd a
+  one-note (Symbol g) states (NoteCall i) m a b = absurd a
+  one-note (Symbol g) states (NoteSymbol f x y) NoteBottom a b = absurd b
+  one-note (Symbol g) states (NoteSymbol f x y) NoteParam a b = absurd b
+  one-note (Symbol g) states (NoteSymbol f x y) (NoteCall i) a b = absurd b
+  one-note (Symbol g) states (NoteSymbol f x y) (NoteSymbol h u v) a b = ap (λ z. NoteSymbol z x y) (a.0 ∙ sym b.0) ∙ ap (λ z. NoteSymbol h z y) (a.1 ∙ sym b.1) ∙ ap (λ z. NoteSymbol h u z) (a.2 ∙ sym b.2)
+  one-note (Call q) states NoteBottom m a b = absurd a
+  one-note (Call q) states NoteParam m a b = absurd a
+  one-note (Call q) states (NoteSymbol f x y) m a b = absurd a
+  one-note (Call q) states (NoteCall i) NoteBottom a b = absurd b
+  one-note (Call q) states (NoteCall i) NoteParam a b = absurd b
+  one-note (Call q) states (NoteCall i) (NoteSymbol f x y) a b = absurd b
+  one-note (Call q) states (NoteCall i) (NoteCall j) a b =
+      let k : RuleStates S = (q, take (get_or (ranks_of G) q 0) states) in
+      let s = slice_get-at ks i k k a in
+      let t = slice_get-at ks j k k b in
+      ap (λ z. NoteCall z) (one-place ks i j k distinct s.0 t.0 (s.1 ∙ sym t.1))
+  one-note Param states n m a b = absurd a
+
+  same-notes : (args : List S) (ls : List Label) (ns ms : List (Note S)) → AreNotes A G ks args ls ns → AreNotes A G ks args ls ms → ns ≡ ms
+  same-notes args [] [] [] a b = refl
+  same-notes args [] [] (m ∷ ms) a b = absurd b
+  same-notes args [] (n ∷ ns) ms a b = absurd a
+  same-notes args (l ∷ ls) [] ms a b = absurd a
+  same-notes args (l ∷ ls) (n ∷ ns) [] a b = absurd b
+  same-notes args (Param ∷ ls) (n ∷ ns) (m ∷ ms) a b = ap (λ x. x ∷ ns) (a.0 ∙ sym b.0) ∙ ap (λ xs. m ∷ xs) (same-notes (drop 1 args) ls ns ms a.1 b.1)
+  same-notes args (Bottom ∷ ls) (n ∷ ns) (m ∷ ms) a b = ap (λ x. x ∷ ns) (one-note Bottom (states_of A G args ls) n m a.0 b.0) ∙ ap (λ xs. m ∷ xs) (same-notes args ls ns ms a.1 b.1)
+  same-notes args (Symbol f ∷ ls) (n ∷ ns) (m ∷ ms) a b = ap (λ x. x ∷ ns) (one-note (Symbol f) (states_of A G args ls) n m a.0 b.0) ∙ ap (λ xs. m ∷ xs) (same-notes args ls ns ms a.1 b.1)
+  same-notes args (Call q ∷ ls) (n ∷ ns) (m ∷ ms) a b = ap (λ x. x ∷ ns) (one-note (Call q) (states_of A G args ls) n m a.0 b.0) ∙ ap (λ xs. m ∷ xs) (same-notes args ls ns ms a.1 b.1)
+
+  -- told from their end too
+  pub same-reversed : (args : List S) (ls : List Label) (ns ms : List (Note S)) → AreNotes A G ks args ls (reverse ns) → AreNotes A G ks args ls (reverse ms) → ns ≡ ms
+  same-reversed args ls ns ms a b = sym (reverse-reverse ns) ∙ ap reverse (same-notes args ls (reverse ns) (reverse ms) a b) ∙ reverse-reverse ms

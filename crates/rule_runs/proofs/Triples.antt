@@ -1,5 +1,5 @@
 -- The triples that a run downward reads: each is met, and no two are the same; and what the run has at its end.
-use Rattle.std.proofs.Common.{◌≡◌, ◌≢◌, ℕ, ◌+◌, ◌-◌, ◌*◌, ◌^◌, ◌<◌, ◌≤◌, List, [], ◌∷◌, ◌++◌, length, get_or, drop, map, reverse, sum_by, Option, Some, None, Vec, Global, refl, sym, ap, ◌∙◌, arith, append_assoc, subst, All, AllPairs}
+use Rattle.std.proofs.Common.{◌≡◌, ◌≢◌, ℕ, ◌+◌, ◌-◌, ◌*◌, ◌^◌, ◌<◌, ◌≤◌, List, [], ◌∷◌, ◌++◌, length, get_or, take, drop, map, reverse, sum_by, Option, Some, None, Vec, Global, refl, sym, ap, ◌∙◌, arith, append_assoc, subst, All, AllPairs}
 use Rattle.std.proofs.lemmas.List.Elements.{All-append, All-cons, All-get_or, All-head, All-nil, All-tail, All-weaker}
 use Rattle.std.proofs.lemmas.List.{map-append, get_or_push, length_push}
 use Rattle.std.proofs.lemmas.List.Sums.{get_or-le-sum_by, sum_by-append}
@@ -19,7 +19,7 @@ use Rattle.rule_runs.specs.declared.told.Here.{Here}
 use Rattle.rule_runs.specs.declared.told.Told.{Told}
 use Rattle.rule_runs.specs.Answering.{all_of, IsThere, IsAnswered}
 use Rattle.rule_runs.specs.Cuts.{Stretch, nothing, beside, cut}
-use Rattle.rule_runs.specs.Descents.{AreOpen, Walks, HasOutcome, Waiting, Asks, AreWaiting, triple_at, fall_cost}
+use Rattle.rule_runs.specs.Descents.{AreOpen, HasOutcome, Standing, Waiting, Asks, AreWaiting, triple_at, fall_cost}
 use Rattle.rule_runs.specs.Frames.{base}
 use Rattle.rule_runs.specs.Listing.{AreEarlier}
 use Rattle.rule_runs.specs.Risen.{IsPair, IsRun, pair_at, keys}
@@ -41,18 +41,18 @@ module _ {S D : Type 0} (A : Algebra S) (W : Downward S D) (G : List Rule) (ks :
   abbrev pub known_triples : List (Spot D × Outcome D) → List (RuleStates S × D)
   known_triples = map (λ e. triple_at ks e.0)
 
-  abbrev pub open_triples : List (Descent S D) → List (RuleStates S × D)
+  abbrev pub open_triples : List (Descent D) → List (RuleStates S × D)
   open_triples = map (λ f. triple_at ks f.spot)
 
   -- the rules of the outer bodies are later ones
-  pub outer-later : (r : ℕ) (lists : List (Vec Part Global)) (spot : Spot D) (gs : List (Descent S D)) → r ≤ (pair_at ks spot.pair).0 → AreWaiting A W G ks lists spot gs → All (λ g. r < (pair_at ks g.spot.pair).0) gs
-  outer-later r lists spot [] h a = All-nil (λ (g : Descent S D). r < (pair_at ks g.spot.pair).0)
-  outer-later r lists spot (g ∷ gs) h a = let k = a.1 in All-cons (λ (g : Descent S D). r < (pair_at ks g.spot.pair).0) g gs (omega arith) (outer-later r lists g.spot gs (omega arith) a.3)
+  pub outer-later : (r : ℕ) (lists : List (Vec Part Global)) (spot : Spot D) (gs : List (Descent D)) → r ≤ (pair_at ks spot.pair).0 → AreWaiting A W G ks lists spot gs → All (λ g. r < (pair_at ks g.spot.pair).0) gs
+  outer-later r lists spot [] h a = All-nil (λ (g : Descent D). r < (pair_at ks g.spot.pair).0)
+  outer-later r lists spot (g ∷ gs) h a = let k = a.1 in All-cons (λ (g : Descent D). r < (pair_at ks g.spot.pair).0) g gs (omega arith) (outer-later r lists g.spot gs (omega arith) a.3)
 
-  others-apart : (spot : Spot D) (gs : List (Descent S D)) → All (λ g. (pair_at ks spot.pair).0 < (pair_at ks g.spot.pair).0) gs → All (λ t. t ≢ triple_at ks spot) (open_triples gs)
+  others-apart : (spot : Spot D) (gs : List (Descent D)) → All (λ g. (pair_at ks spot.pair).0 < (pair_at ks g.spot.pair).0) gs → All (λ t. t ≢ triple_at ks spot) (open_triples gs)
   others-apart spot [] e = All-nil (λ (t : RuleStates S × D). t ≢ triple_at ks spot)
   others-apart spot (g ∷ gs) e =
-      let P : Descent S D → Type 0 = λ g. (pair_at ks spot.pair).0 < (pair_at ks g.spot.pair).0 in
+      let P : Descent D → Type 0 = λ g. (pair_at ks spot.pair).0 < (pair_at ks g.spot.pair).0 in
       let l = All-head P g gs e in
       All-cons (λ (t : RuleStates S × D). t ≢ triple_at ks spot) (triple_at ks g.spot) (open_triples gs) (λ h. let k : (pair_at ks g.spot.pair).0 ≡ (pair_at ks spot.pair).0 = ap (λ (t : RuleStates S × D). t.0.0) h in absurd (omega arith)) (others-apart spot gs (All-tail P g gs e))
 
@@ -71,7 +71,7 @@ module _ {S D : Type 0} (A : Algebra S) (W : Downward S D) (G : List Rule) (ks :
       (known-apart dk lists spot there es (All-tail P e es h) (All-tail N e es n))
 
   -- a spot that is not known is read too
-  pub falls-more : AllPairs (λ p q. p ≢ q) ks → (lists : List (Vec Part Global)) (known : List (Spot D × Outcome D)) (f f' : Descent S D) (gs : List (Descent S D)) (spot : Spot D) (n m : ℕ) (lists' : List (Vec Part Global))
+  pub falls-more : AllPairs (λ p q. p ≢ q) ks → (lists : List (Vec Part Global)) (known : List (Spot D × Outcome D)) (f f' : Descent D) (gs : List (Descent D)) (spot : Spot D) (n m : ℕ) (lists' : List (Vec Part Global))
       → FallsOnce A W G (known_triples known ++ (triple_at ks f.spot ∷ open_triples gs)) n → AreWaiting A W G ks lists f.spot gs → Asks A W G ks lists' f spot f'
       → All (λ e. HasOutcome A W G ks lists e.0 e.1) known → All (λ e. e.0 ≢ spot) known → m ≤ n + 2 * length (body_at G (pair_at ks spot.pair).0)
       → FallsOnce A W G (known_triples known ++ (triple_at ks spot ∷ triple_at ks f.spot ∷ open_triples gs)) m
@@ -81,7 +81,7 @@ module _ {S D : Type 0} (A : Algebra S) (W : Downward S D) (G : List Rule) (ks :
       let ys : List (RuleStates S × D) = triple_at ks f.spot ∷ open_triples gs in
       let e = asks.earlier in
       let later = outer-later (pair_at ks spot.pair).0 lists f.spot gs (omega arith) waiting in
-      let apart : All (λ t. t ≢ q) (xs ++ ys) = All-append (λ (t : RuleStates S × D). t ≢ q) xs ys (known-apart dk lists spot asks.there known outcomes new) (others-apart spot (f ∷ gs) (All-cons (λ (g : Descent S D). (pair_at ks spot.pair).0 < (pair_at ks g.spot.pair).0) f gs e later)) in
+      let apart : All (λ t. t ≢ q) (xs ++ ys) = All-append (λ (t : RuleStates S × D). t ≢ q) xs ys (known-apart dk lists spot asks.there known outcomes new) (others-apart spot (f ∷ gs) (All-cons (λ (g : Descent D). (pair_at ks spot.pair).0 < (pair_at ks g.spot.pair).0) f gs e later)) in
       let b = reads.bound in
       record {
         met = all-insert (λ (t : RuleStates S × D). Falls S D A W G t.0.0 t.0.1 t.1) xs q ys asks.met reads.met;
@@ -90,32 +90,38 @@ module _ {S D : Type 0} (A : Algebra S) (W : Downward S D) (G : List Rule) (ks :
       }
 
   -- the bodies with the one that waits for a new spot
-  pub waiting-begin : (lists more : List (Vec Part Global)) (f f' : Descent S D) (gs : List (Descent S D)) (spot : Spot D) → AreWaiting A W G ks lists f.spot gs → f.spot.pair < length ks → Asks A W G ks (lists ++ more) f spot f' → f'.spot ≡ f.spot → AreWaiting A W G ks (lists ++ more) spot (f' ∷ gs)
+  pub waiting-begin : (lists more : List (Vec Part Global)) (f f' : Descent D) (gs : List (Descent D)) (spot : Spot D) → AreWaiting A W G ks lists f.spot gs → f.spot.pair < length ks → Asks A W G ks (lists ++ more) f spot f' → f'.spot ≡ f.spot → AreWaiting A W G ks (lists ++ more) spot (f' ∷ gs)
   waiting-begin lists more f f' gs spot waiting there asks e =
       (asks.waits, rw e asks.earlier, rw e there, rw e (waiting-more A W G ks lists more f.spot gs waiting))
 
   -- a spot that has its outcome moves from the bodies to the table
-  pub triples-return : (known : List (Spot D × Outcome D)) (spot : Spot D) (outcome : Outcome D) (gs : List (Descent S D)) → known_triples (known ++ (spot, outcome) ∷ []) ++ open_triples gs ≡ known_triples known ++ (triple_at ks spot ∷ open_triples gs)
+  pub triples-return : (known : List (Spot D × Outcome D)) (spot : Spot D) (outcome : Outcome D) (gs : List (Descent D)) → known_triples (known ++ (spot, outcome) ∷ []) ++ open_triples gs ≡ known_triples known ++ (triple_at ks spot ∷ open_triples gs)
   triples-return known spot outcome gs = rw (map-append (λ (e : Spot D × Outcome D). triple_at ks e.0) known ((spot, outcome) ∷ [])) (append_assoc (known_triples known) (triple_at ks spot ∷ []) (open_triples gs))
 
   -- a body goes on behind a call that has its outcome
-  pub stands-again : IsGrammar G → (lists : List (Vec Part Global)) (f : Descent S D) (spot : Spot D) (outcome : Outcome D) (marks : List (Mark D)) (here : Here) → IsPair G (pair_at ks f.spot.pair) → Waiting A W G ks lists f spot → HasOutcome A W G ks lists spot outcome
-      → ((s : Stretch) (ms : List (Open D)) (ss : List Stretch) → IsTelling lists f.here s → AreOpen lists (reverse f.marks.items) ms → AreTold lists outcome.told.items ss → IsTelling lists here (beside s (get_or ss 0 nothing)) × AreOpen lists marks (woven_marks outcome.handed.items (drop 1 ss) ++ ms))
-      → Walks A W G ks lists (pair_at ks f.spot.pair) f.spot.down (reverse f.notes.items) marks here f.outcome
-  stands-again g lists f spot outcome marks here pair w h entered =
+  pub stands-again : IsGrammar G → (lists : List (Vec Part Global)) (f : Descent D) (spot : Spot D) (outcome : Outcome D) (marks : Vec (Mark D) Global) (here : Here) → IsPair G (pair_at ks f.spot.pair) → Waiting A W G ks lists f spot → HasOutcome A W G ks lists spot outcome
+      → ((s : Stretch) (ms : List (Open D)) (ss : List Stretch) → IsTelling lists f.here s → AreOpen lists (reverse f.marks.items) ms → AreTold lists outcome.told.items ss → IsTelling lists here (beside s (get_or ss 0 nothing)) × AreOpen lists (reverse marks.items) (woven_marks outcome.handed.items (drop 1 ss) ++ ms))
+      → Standing A W G ks lists (record { spot = f.spot; left = f.left; marks = marks; here = here; outcome = f.outcome })
+  stands-again g lists f spot outcome marks here pair h ends entered =
+      let w = h.walks in
       let m = open-term lists spot.down (reverse f.marks.items) w.ms w.marked in
       let k : RuleStates S = pair_at ks spot.pair in
-      let e = entered w.s m.0 (cut A W (value_at G k.0) k.1 spot.down) w.telling m.2 h.finished in
-      walk-call A W G ks lists (pair_at ks f.spot.pair) f.spot.down f.outcome g pair spot.pair (reverse f.notes.items) (reverse f.marks.items) marks f.here here spot.down outcome w h e.0 e.1
+      let e = entered w.s m.0 (cut A W (value_at G k.0) k.1 spot.down) w.telling m.2 ends.finished in
+      record {
+        notes = h.notes;
+        noted = h.noted;
+        within = h.within;
+        walks = walk-call A W G ks lists (pair_at ks f.spot.pair) f.spot.down f.outcome g pair spot.pair (reverse (take f.left h.notes)) (reverse f.marks.items) (reverse marks.items) f.here here spot.down outcome w ends e.0 e.1;
+      }
 
-  pub fall-cost-begin : (f f' c : Descent S D) (gs : List (Descent S D)) (q : ℕ) → q < length G → q < (pair_at ks f.spot.pair).0 → f'.spot ≡ f.spot → length f'.notes.items < length f.notes.items → (pair_at ks c.spot.pair).0 ≡ q → length c.notes.items ≡ length (body_at G q)
+  pub fall-cost-begin : (f f' c : Descent D) (gs : List (Descent D)) (q : ℕ) → q < length G → q < (pair_at ks f.spot.pair).0 → f'.spot ≡ f.spot → f'.left < f.left → (pair_at ks c.spot.pair).0 ≡ q → c.left ≡ length (body_at G q)
       → fall_cost G ks c + sum_by (fall_cost G ks) (f' ∷ gs) < fall_cost G ks f + sum_by (fall_cost G ks) gs
   fall-cost-begin f f' c gs q there qr e less h n =
       let l : length (body_at G q) ≤ whole G = get_or-le-sum_by (λ (R : Rule). length R.body) G q no_rule there in
-      let k = cost-lt (base G) (pair_at ks f.spot.pair).0 q (length f.notes.items) (length f'.notes.items) (length (body_at G q)) qr less (omega arith) in
+      let k = cost-lt (base G) (pair_at ks f.spot.pair).0 q f.left f'.left (length (body_at G q)) qr less (omega arith) in
       let s = sum_by-append (fall_cost G ks) (f' ∷ []) gs in
       let a : fall_cost G ks c ≡ length (body_at G q) * base G ^ q + 1 = rw (h, n) refl in
-      let b : fall_cost G ks f' ≡ length f'.notes.items * base G ^ (pair_at ks f.spot.pair).0 + 1 = rw e refl in
+      let b : fall_cost G ks f' ≡ f'.left * base G ^ (pair_at ks f.spot.pair).0 + 1 = rw e refl in
       omega (arith, k, s, a, b)
 
 module _ {S D : Type 0} (A : Algebra S) (W : Downward S D) (G : List Rule) (known : List (RuleStates S × S)) (run : IsRun A G known) where
@@ -154,7 +160,7 @@ module _ {S D : Type 0} (A : Algebra S) (W : Downward S D) (G : List Rule) (know
       rw (c, cut-whole A W (value G) [] W.start none) at h.finished
 
   -- what is told of the outermost body, on which no other waits, is told of the whole
-  pub whole-told : IsGrammar G → (earlier lists : List (Vec Part Global)) (first spot : Spot D) (frames : List (Descent S D)) (outcome : Outcome D) (t : Told) → length frames ≡ 0 → AreWaiting A W G (keys known) earlier first (reverse frames)
+  pub whole-told : IsGrammar G → (earlier lists : List (Vec Part Global)) (first spot : Spot D) (frames : List (Descent D)) (outcome : Outcome D) (t : Told) → length frames ≡ 0 → AreWaiting A W G (keys known) earlier first (reverse frames)
       → spot ≡ first → HasOutcome A W G (keys known) lists spot outcome → t ≡ get_or outcome.told.items 0 t → Tells lists t (record { nodes = nodes_in (value G); hits = found A W (value G) })
   whole-told g earlier lists first spot frames outcome t none waiting same h e =
       let w : AreWaiting A W G (keys known) earlier first [] = rw (empty_reverse frames none) at waiting in

@@ -1,5 +1,5 @@
 -- Bodies that a run downward is in the middle of.
-use Rattle.std.specs.Prelude.{◌≡◌, ◌<◌, ℕ, ◌+◌, ◌-◌, ◌*◌, ◌^◌, List, [], ◌∷◌, ◌++◌, length, get_or, drop, reverse, Option, Some, None, Vec}
+use Rattle.std.specs.Prelude.{◌≡◌, ◌<◌, ◌≤◌, ℕ, ◌+◌, ◌-◌, ◌*◌, ◌^◌, List, [], ◌∷◌, ◌++◌, length, get_or, take, drop, reverse, Option, Some, None, Vec}
 use Rattle.std.specs.Global.{Global}
 use Rattle.rule_arena.specs.Preorder.{AreTerms}
 use Rattle.rule_arena.specs.declared.label.Label.{Label}
@@ -7,7 +7,7 @@ use Rattle.rule_arena.specs.declared.label.Label.TheVariants.{Bottom, Symbol, Ca
 use Rattle.slt_grammar.specs.Algebras.{Algebra, ranks_of}
 use Rattle.slt_grammar.specs.Automata.{Downward, handed}
 use Rattle.slt_grammar.specs.Bodies.{arity, CallsBelow}
-use Rattle.slt_grammar.specs.Grammars.{value_at}
+use Rattle.slt_grammar.specs.Grammars.{body_at, value_at}
 use Rattle.rule_runs.specs.Reached.{RuleStates, states_of, Falls}
 use Rattle.slt_grammar.specs.declared.rules.Rule.{Rule}
 use Rattle.rule_runs.specs.declared.descent.Mark.{Mark}
@@ -105,24 +105,30 @@ module _ {S D : Type 0} (A : Algebra S) (W : Downward S D) (G : List Rule) where
       pub finished : AreTold lists outcome.told.items (cut A W (value_at G (pair_at ks spot.pair).0) (pair_at ks spot.pair).1 spot.down)
       pub hands : outcome.handed.items ≡ handed A W (value_at G (pair_at ks spot.pair).0) (pair_at ks spot.pair).1 spot.down
 
-    -- the body is read down to a place
-    abbrev pub Standing : Descent S D → Type 0
-    Standing f = Walks (pair_at ks f.spot.pair) f.spot.down (reverse f.notes.items) (reverse f.marks.items) f.here f.outcome
+    -- the body, of which these are the notes, the last node first, is read down to a place
+    pub record Standing (f : Descent D) : Type 0 where
+      pub notes : List (Note S)
+      pub noted : AreNotes A G ks (pair_at ks f.spot.pair).1 (body_at G (pair_at ks f.spot.pair).0) (reverse notes)
+      pub within : f.left ≤ length notes
+      pub walks : Walks (pair_at ks f.spot.pair) f.spot.down (reverse (take f.left notes)) (reverse f.marks.items) f.here f.outcome
 
     -- the body waits for the outcome of a call
-    abbrev pub Waiting : Descent S D → Spot D → Type 0
-    Waiting f spot = Walks (pair_at ks f.spot.pair) f.spot.down (NoteCall spot.pair ∷ reverse f.notes.items) (MarkTerm spot.down ∷ reverse f.marks.items) f.here f.outcome
+    pub record Waiting (f : Descent D) (spot : Spot D) : Type 0 where
+      pub notes : List (Note S)
+      pub noted : AreNotes A G ks (pair_at ks f.spot.pair).1 (body_at G (pair_at ks f.spot.pair).0) (reverse notes)
+      pub within : f.left ≤ length notes
+      pub walks : Walks (pair_at ks f.spot.pair) f.spot.down (NoteCall spot.pair ∷ reverse (take f.left notes)) (MarkTerm spot.down ∷ reverse f.marks.items) f.here f.outcome
 
     -- the body waits for the outcome of a call that is met for the first time
-    pub record Asks (old : Descent S D) (spot : Spot D) (new : Descent S D) : Type 0 where
+    pub record Asks (old : Descent D) (spot : Spot D) (new : Descent D) : Type 0 where
       pub waits : Waiting new spot
       pub met : Falls S D A W G (pair_at ks spot.pair).0 (pair_at ks spot.pair).1 spot.down
       pub there : spot.pair < length ks
       pub earlier : (pair_at ks spot.pair).0 < (pair_at ks old.spot.pair).0
-      pub fewer : length new.notes.items < length old.notes.items
+      pub fewer : new.left < old.left
 
     -- the bodies, the innermost first: each waits for the outcome of the spot before it, and the outermost is the start's
-    abbrev pub AreWaiting : Spot D → List (Descent S D) → Type 0
+    abbrev pub AreWaiting : Spot D → List (Descent D) → Type 0
     AreWaiting spot [] = spot ≡ record { pair = length ks - 1; down = W.start }
     AreWaiting spot (g ∷ gs) = Waiting g spot × ((pair_at ks spot.pair).0 < (pair_at ks g.spot.pair).0) × (g.spot.pair < length ks) × AreWaiting g.spot gs
 
@@ -131,5 +137,5 @@ abbrev pub triple_at : {S D : Type 0} → List (RuleStates S) → Spot D → Rul
 triple_at ks spot = (pair_at ks spot.pair, spot.down)
 
 -- a bound on what is left to do
-abbrev pub fall_cost : {S D : Type 0} → List Rule → List (RuleStates S) → Descent S D → ℕ
-fall_cost G ks f = length f.notes.items * base G ^ (pair_at ks f.spot.pair).0 + 1
+abbrev pub fall_cost : {S D : Type 0} → List Rule → List (RuleStates S) → Descent D → ℕ
+fall_cost G ks f = f.left * base G ^ (pair_at ks f.spot.pair).0 + 1

@@ -1,9 +1,12 @@
 -- Bodies as a run downward reads them.
-use Rattle.std.specs.Prelude.{◌≡◌, List, [], ◌∷◌, get_or, take, drop, Some, slice_get}
+use Rattle.std.specs.Prelude.{◌≡◌, ℕ, ◌+◌, List, [], ◌∷◌, length, get_or, take, drop, reverse, Option, Some, None, Vec, slice_get}
+use Rattle.std.specs.Global.{Global}
 use Rattle.rule_arena.specs.declared.label.Label.{Label}
 use Rattle.rule_arena.specs.declared.label.Label.TheVariants.{Bottom, Symbol, Call, Param}
 use Rattle.slt_grammar.specs.Algebras.{Algebra, ranks_of}
+use Rattle.slt_grammar.specs.Grammars.{body_at}
 use Rattle.rule_runs.specs.Reached.{RuleStates, states_of}
+use Rattle.rule_runs.specs.Risen.{pair_at}
 use Rattle.slt_grammar.specs.declared.rules.Rule.{Rule}
 use Rattle.rule_runs.specs.declared.notes.Note.{Note}
 use Rattle.rule_runs.specs.declared.notes.Note.TheVariants.{Bottom as NoteBottom, Param as NoteParam, Symbol as NoteSymbol, Call as NoteCall}
@@ -23,3 +26,19 @@ module _ {S : Type 0} (A : Algebra S) (G : List Rule) (keys : List (RuleStates S
   AreNotes args (l ∷ ls) [] = ⊥
   AreNotes args (Param ∷ ls) (n ∷ ns) = (n ≡ NoteParam) × AreNotes (drop 1 args) ls ns
   AreNotes args (l ∷ ls) (n ∷ ns) = NoteIs l (states_of A G args ls) n × AreNotes args ls ns
+
+  -- what is kept for each pair of the table: nothing yet, or the notes of its body, the last node first
+  pub record AreKept (kept : List (Option (Vec (Note S) Global))) : Type 0 where
+    pub rows : length kept ≡ length keys
+    pub noted : (i : ℕ) (notes : Vec (Note S) Global) → slice_get kept i ≡ Some (Some notes) → AreNotes (pair_at keys i).1 (body_at G (pair_at keys i).0) (reverse notes.items)
+
+-- the body of a pair is kept
+abbrev pub HasBody : {S : Type 0} → List (Option (Vec (Note S) Global)) → ℕ → Type 0
+HasBody {S} kept i = (notes : Vec (Note S) Global) × (slice_get kept i ≡ Some (Some notes))
+
+-- how many nodes the bodies have that are not kept yet
+abbrev pub unread : {S : Type 0} → List Rule → List (RuleStates S) → List (Option (Vec (Note S) Global)) → ℕ
+unread G [] ms = 0
+unread G (k ∷ ks) [] = length (body_at G k.0) + unread G ks []
+unread G (k ∷ ks) (None ∷ ms) = length (body_at G k.0) + unread G ks ms
+unread G (k ∷ ks) (Some notes ∷ ms) = unread G ks ms

@@ -1,5 +1,5 @@
 // Rule bodies that a run downward reads, node by node from their root.
-ghost use Rattle.std.specs.Prelude.{◌≡◌, ◌≢◌, ◌+◌, ◌*◌, ◌^◌, ◌<◌, ◌≤◌, ◌++◌, ◌∷◌, List, [], Vec, length, get_or, drop, reverse, IfOk, OnOk, IfSome, IfNone, All};
+ghost use Rattle.std.specs.Prelude.{◌≡◌, ◌≢◌, ◌+◌, ◌*◌, ◌^◌, ◌<◌, ◌≤◌, ◌++◌, ◌∷◌, ℕ, List, [], Vec, length, get_or, drop, reverse, IfOk, OnOk, IfSome, IfNone, All};
 ghost use Rattle.std.specs.Global.{Global as TheGlobal};
 ghost use Rattle.slt_grammar.specs.Automata.{nodes_in};
 ghost use Rattle.slt_grammar.specs.Grammars.{body_at, value_at};
@@ -7,14 +7,15 @@ ghost use Rattle.slt_grammar.specs.Keyed.{rules_of};
 ghost use Rattle.rule_runs.specs.Reached.{Falls};
 ghost use Rattle.rule_runs.specs.Cuts.{Stretch, nothing, one, beside};
 ghost use Rattle.rule_runs.specs.Listing.{AreEarlier};
+ghost use Rattle.rule_runs.specs.Notes.{AreNotes, AreKept, HasBody, unread};
 ghost use Rattle.rule_runs.specs.Risen.{IsRun, keys, pair_at};
 ghost use Rattle.rule_runs.specs.Tellings.{HasRoom, IsTelling, AreTold};
 ghost use Rattle.rule_runs.specs.Walks.{Open, woven_marks};
 ghost use Rattle.rule_runs.specs.Descents.{AreOpen, HasRoomAhead, IsNext, HasOutcome, Standing, Asks};
 
-use crate::body::read_body;
+use crate::kept::{Bodies, read};
 use crate::listing::Part;
-use crate::notes::{Note, note_labels};
+use crate::notes::Note;
 use crate::rising::RiseTable;
 use crate::spots::{Outcome, Spot, Spots};
 use crate::stack::copy_at;
@@ -33,44 +34,48 @@ pub(crate) enum Mark<D: Drop> {
 
 // A body that is being read from its root.
 #[derive(Drop)]
-pub(crate) struct Descent<S: Drop, D: Drop> {
+pub(crate) struct Descent<D: Drop> {
     pub(crate) spot: Spot<D>,
-    pub(crate) notes: Vec<Note<S>>,
+    // How many of the pair's notes are left. They stand from the last node to the first, so that the next one is the last of these.
+    pub(crate) left: usize,
     pub(crate) marks: Vec<Mark<D>>,
     pub(crate) here: Here,
     pub(crate) outcome: Outcome<D>,
 }
 
-// Begins a body. At most two steps for each of its nodes.
+// Begins a body, which is read where that wasn't done yet. At most two steps for each of its nodes.
 pub(crate) fn begin<A: Falling, L: Ledger>(
     alloc: Global,
     automaton: &A,
     grammar: &Grammar,
     risen: &RiseTable<A>,
+    bodies: &mut Bodies<A::State>,
     spot: Spot<A::Down>,
     steps: &mut Steps<L>,
-) -> Result<Descent<A::State, A::Down>, AllocError>
+) -> Result<Descent<A::Down>, AllocError>
     requires run { IsRun (A.algebra automaton.now) (rules_of grammar.now.rules) risen.now.known }
     requires there { spot.pair < length (keys risen.now.known) }
     requires met { Falls A.State A.Down (A.algebra automaton.now) (A.downward automaton.now) (rules_of grammar.now.rules) (pair_at (keys risen.now.known) spot.pair).0 (pair_at (keys risen.now.known) spot.pair).1 spot.down }
+    requires kept { AreKept (A.algebra automaton.now) (rules_of grammar.now.rules) (keys risen.now.known) bodies.old.kept.items }
+    ensures kept { AreKept (A.algebra automaton.now) (rules_of grammar.now.rules) (keys risen.now.known) bodies.new.kept.items }
+    ensures stays { (i : ℕ) → HasBody bodies.old.kept.items i → HasBody bodies.new.kept.items i }
+    ensures read { OnOk result (HasBody bodies.new.kept.items spot.pair) }
     ensures spot { IfOk result (λ descent. descent.spot ≡ spot) }
     ensures stands { IfOk result (λ descent. (lists : List (Vec Part TheGlobal)) → Standing (A.algebra automaton.now) (A.downward automaton.now) (rules_of grammar.now.rules) (keys risen.now.known) lists descent) }
-    ensures cost { IfOk result (λ descent. length descent.notes.items ≡ length (body_at (rules_of grammar.now.rules) (pair_at (keys risen.now.known) spot.pair).0)) }
+    ensures cost { IfOk result (λ descent. descent.left ≡ length (body_at (rules_of grammar.now.rules) (pair_at (keys risen.now.known) spot.pair).0)) }
     ensures steps { steps.new ≤ steps.old + 2 * length (body_at (rules_of grammar.now.rules) (pair_at (keys risen.now.known) spot.pair).0) }
     ensures counted { steps.old ≤ steps.new }
+    ensures reads { steps.new ≤ steps.old + 2 * unread (rules_of grammar.now.rules) (keys risen.now.known) bodies.old.kept.items }
+    ensures once { OnOk result (steps.new + 2 * unread (rules_of grammar.now.rules) (keys risen.now.known) bodies.new.kept.items ≤ steps.old + 2 * unread (rules_of grammar.now.rules) (keys risen.now.known) bodies.old.kept.items) }
 {
     // The call tells that the rules are a grammar.
     let _rules = grammar.rules();
-    let Some(pair) = risen.known.pair(spot.pair) else {
-        unreachable!()
-    };
-    let labels = read_body(alloc, grammar, pair.rule, steps)?;
-    let notes = note_labels(alloc, automaton, grammar, &risen.known, pair, &labels)?;
+    let left = read(alloc, automaton, grammar, risen, bodies, spot.pair, steps)?;
     let mut marks = Vec::new(alloc);
     marks.push(Mark::Term(spot.down.copy()?))?;
     Ok(Descent {
         spot,
-        notes,
+        left,
         marks,
         here: Here::new(alloc),
         outcome: Outcome {
@@ -86,11 +91,13 @@ pub(crate) fn descend<A: Falling>(
     automaton: &A,
     grammar: &Grammar,
     risen: &RiseTable<A>,
+    notes: &Vec<Note<A::State>>,
     known: &Spots<A::Down>,
     lists: &mut Vec<Vec<Part>>,
-    descent: &mut Descent<A::State, A::Down>,
+    descent: &mut Descent<A::Down>,
 ) -> Result<Option<Spot<A::Down>>, AllocError>
     requires run { IsRun (A.algebra automaton.now) (rules_of grammar.now.rules) risen.now.known }
+    requires noted { AreNotes (A.algebra automaton.now) (rules_of grammar.now.rules) (keys risen.now.known) (pair_at (keys risen.now.known) descent.old.spot.pair).1 (body_at (rules_of grammar.now.rules) (pair_at (keys risen.now.known) descent.old.spot.pair).0) (reverse notes.now.items) }
     requires known { All (λ e. HasOutcome (A.algebra automaton.now) (A.downward automaton.now) (rules_of grammar.now.rules) (keys risen.now.known) lists.old.items e.0 e.1) known.now }
     requires earlier { AreEarlier lists.old.items }
     requires there { descent.old.spot.pair < length (keys risen.now.known) }
@@ -105,7 +112,9 @@ pub(crate) fn descend<A: Falling>(
 {
     // The call tells that the rules are a grammar.
     let _rules = grammar.rules();
-    'notes: while let Some(note) = descent.notes.pop() {
+    'notes: while descent.left > 0 {
+        descent.left -= 1;
+        let note = &notes[descent.left];
         let Some(down) = next_term(&mut descent.marks, &mut descent.here)? else {
             unreachable!()
         };
@@ -116,11 +125,11 @@ pub(crate) fn descend<A: Falling>(
                 descent.outcome.handed.push(down)?;
             }
             Note::Symbol(symbol, kids, rest) => {
-                let fell = automaton.step(symbol, &down, &kids, &rest)?;
-                enter_symbol(&mut descent.marks, &mut descent.here, symbol, fell)?;
+                let fell = automaton.step(*symbol, &down, kids, rest)?;
+                enter_symbol(&mut descent.marks, &mut descent.here, *symbol, fell)?;
             }
             Note::Call(pair) => {
-                let spot = Spot { pair, down };
+                let spot = Spot { pair: *pair, down };
                 match known.find(&spot) {
                     Some(outcome) => enter_call(&mut descent.marks, &mut descent.here, outcome)?,
                     None => return Ok(Some(spot)),

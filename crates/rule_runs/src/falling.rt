@@ -1,13 +1,15 @@
-// Runs downward: each rule is read once for each list of argument states and each down state that it is met with.
-ghost use Rattle.std.specs.Prelude.{◌≡◌, ◌-◌, ◌^◌, ◌<◌, ◌≤◌, List, length, slice_get, Some, All, IfOk};
+// Runs downward: each rule is read once for each list of argument states, and gone through once for each down state that it is met
+// with.
+ghost use Rattle.std.specs.Prelude.{◌≡◌, ◌-◌, ◌+◌, ◌*◌, ◌^◌, ◌<◌, ◌≤◌, List, length, sum_by, slice_get, Some, All, IfOk};
 ghost use Rattle.slt_grammar.specs.Automata.{hits, nodes_in};
-ghost use Rattle.slt_grammar.specs.Grammars.{value};
+ghost use Rattle.slt_grammar.specs.Grammars.{body_at, value};
 ghost use Rattle.slt_grammar.specs.Keyed.{rules_of};
 ghost use Rattle.rule_runs.specs.Hits.{numbers, symbols_in};
 ghost use Rattle.rule_runs.specs.Reached.{RuleStates, FallsOnce};
-ghost use Rattle.rule_runs.specs.Risen.{IsRun};
+ghost use Rattle.rule_runs.specs.Risen.{IsRun, keys};
 
 use crate::descent::{begin, descend, enter_call};
+use crate::kept::Bodies;
 use crate::listing::Part;
 use crate::rising::RiseTable;
 use crate::spots::{Spot, Spots};
@@ -49,8 +51,9 @@ impl FallTable {
 /// Runs the automaton downward, over what its run upward found in this grammar: which nodes are hit of all that the grammar stands for,
 /// and which symbols they have.
 ///
-/// What the grammar stands for has at most 2^63 - 1 nodes that aren't bottom. Each triple of a rule, states of its arguments and a
-/// down state that the run meets is read once, with at most two steps a node, whatever is answered. It fails where memory is refused.
+/// What the grammar stands for has at most 2^63 - 1 nodes that aren't bottom. Each pair of a rule and states of its arguments that the
+/// run meets is read once for all its down states, with at most two steps a node, whatever is answered. It fails where memory is
+/// refused.
 pub fn fall<A: Falling, L: Ledger>(
     alloc: Global,
     grammar: &Grammar,
@@ -63,25 +66,31 @@ pub fn fall<A: Falling, L: Ledger>(
     ensures hits { IfOk result (λ table. numbers table ≡ hits (A.algebra automaton.now) (A.downward automaton.now) (value (rules_of grammar.now.rules))) }
     ensures symbols { IfOk result (λ table. All (λ hit. slice_get (symbols_in (value (rules_of grammar.now.rules))) hit.number ≡ Some hit.symbol) table) }
     ensures steps { (triples : List (RuleStates A.State × A.Down)) × FallsOnce (A.algebra automaton.now) (A.downward automaton.now) (rules_of grammar.now.rules) triples (steps.new - steps.old) }
+    ensures reads { steps.new ≤ steps.old + 2 * sum_by (λ k. length (body_at (rules_of grammar.now.rules) k.0)) (keys risen.now.known) }
     ensures counted { steps.old ≤ steps.new }
 {
     // The call tells that the rules are a grammar.
     let _rules = grammar.rules();
+    let pairs = risen.known.len();
+    let mut bodies = Bodies::new(alloc, pairs)?;
     let mut known = Spots::new(alloc);
     let mut lists = Vec::new(alloc);
     let mut frames = Vec::new(alloc);
     let start = Spot {
-        pair: risen.known.len() - 1,
+        pair: pairs - 1,
         down: automaton.start()?,
     };
-    let mut frame = begin(alloc, automaton, grammar, risen, start, steps)?;
+    let mut frame = begin(alloc, automaton, grammar, risen, &mut bodies, start, steps)?;
     'bodies: loop {
+        let Some(notes) = bodies.notes(frame.spot.pair) else {
+            unreachable!()
+        };
         match descend(
-            alloc, automaton, grammar, risen, &known, &mut lists, &mut frame,
+            alloc, automaton, grammar, risen, notes, &known, &mut lists, &mut frame,
         )? {
             Some(spot) => {
                 frames.push(frame)?;
-                frame = begin(alloc, automaton, grammar, risen, spot, steps)?;
+                frame = begin(alloc, automaton, grammar, risen, &mut bodies, spot, steps)?;
             }
             None => match frames.pop() {
                 None => {

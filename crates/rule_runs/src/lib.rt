@@ -1,13 +1,13 @@
 //! Runs of automata over shared rules: one run answers for all that the grammar stands for.
 //!
-//! A run upward reads each rule once for each list of argument states that it meets, a run downward once for each down state too,
-//! however often the value has it. `rise` runs upward, `fall` downward over what that found, and `Answers` tells the nodes that are
-//! hit, by their numbers and symbols, one after another.
+//! A run upward reads each rule once for each list of argument states that it meets, however often the value has it. So does a run
+//! downward, and goes through what it read once for each down state. `rise` runs upward, `fall` downward over what that found, and
+//! `Answers` tells the nodes that are hit, by their numbers and symbols, one after another.
 //!
 //! `body` reads a rule's body. Upward: `rising` runs over the bodies of `frame`, with states on a `stack`, and notes them in `memo`.
 //! Where an automaton has one state, `one_state` notes all pairs without reading.
-//! Downward: `falling` runs over the bodies of `descent`, which `notes` has made ready, and keeps in `spots` what each was found to
-//! be, as stretches of nodes (`told`). `listing` tells a list that is made of earlier lists, for `answers`.
+//! Downward: `falling` runs over the bodies of `descent`, which `kept` has as their `notes`, and keeps in `spots` what each was
+//! found to be, as stretches of nodes (`told`). `listing` tells a list that is made of earlier lists, for `answers`.
 //!
 //! `specs/Reached.antt` says which pairs and triples a run meets. Counts tell that a value is small enough for `fall`, by the lemma
 //! `nodes-weigh` of `proofs/Sizes.antt`; a hit's symbol tells its node's kind and name, by `document-symbol` of `proofs/Symbols.antt`.
@@ -19,6 +19,7 @@ mod calls;
 mod descent;
 mod falling;
 mod frame;
+mod kept;
 mod listing;
 mod memo;
 mod notes;

@@ -1,19 +1,40 @@
-use Rattle.std.proofs.Common.{◌≡◌, ◌<◌, ◌^◌, ◌∙◌, ◌++◌, ◌∷◌, [], sym, ap, subst, arith, reverse, length, append_assoc}
+use Rattle.std.proofs.Common.{◌≡◌, ◌<◌, ◌^◌, ◌∙◌, ◌≤◌, ◌-◌, ◌++◌, ◌∷◌, [], refl, sym, ap, subst, arith, reverse, take, length, append_assoc, append-nil}
 use Rattle.std.proofs.lemmas.List.Elements.{All-contains, All-get_or}
-use Rattle.std.proofs.lemmas.List.{length_push}
 use Rattle.slt_grammar.specs.Automata.{nodes_in}
 use Rattle.slt_grammar.specs.Keyed.{rules_of}
-use Rattle.slt_grammar.specs.Grammars.{value_at}
+use Rattle.slt_grammar.specs.Grammars.{body_at, value_at}
 use Rattle.rule_runs.specs.Cuts.{cut}
 use Rattle.rule_runs.specs.Descents.{Walks, HasOutcome}
+use Rattle.rule_runs.specs.Notes.{AreNotes}
 use Rattle.rule_runs.specs.Risen.{IsPair, keys, pair_at}
 use Rattle.rule_runs.specs.Tellings.{AreTold}
 use Rattle.rule_runs.specs.Walks.{absorbed}
-use Rattle.rule_runs.proofs.Lists.{reverse-push, empty_reverse, no_more}
+use Rattle.rule_runs.proofs.Lists.{reverse-last, no_more}
+use Rattle.rule_runs.proofs.NoteLemmas.{same-reversed}
 use Rattle.rule_runs.proofs.Descents.{outcome-more, outcome-lengths, walk-next, walk-open, walk-bottom, walk-symbol, walk-call, walk-meets, walk-param, walk-end}
 use Rattle.rule_runs.proofs.Marks.{open-term}
 use Rattle.rule_runs.proofs.Rooms.{walk-room, walk-room-one, walk-room-call}
 use Rattle.rule_runs.proofs.descent.descend.Goals as goal
+
+pub notes-init : goal.notes-init
+notes-init g c =
+    let A = g.A.Rising.algebra c.args.automaton.now in
+    let W = g.A.Falling.downward c.args.automaton.now in
+    let G = rules_of c.args.grammar.now.rules in
+    let ks = keys c.args.risen.now.known in
+    let f = c.args.descent.now in
+    let k = pair_at ks f.spot.pair in
+    let ns = c.args.notes.now.items in
+    let st = c.requires.stands in
+    let same = same-reversed A G ks c.requires.run.distinct k.1 (body_at G k.0) st.notes ns st.noted c.requires.noted in
+    record {
+      same = refl;
+      more = ([], sym (append-nil c.args.lists.now.items));
+      earlier = c.requires.earlier;
+      stands = subst (λ xs. Walks A W G ks c.args.lists.now.items k f.spot.down (reverse (take f.left xs)) (reverse f.marks.items) f.here f.outcome) same st.walks;
+      fewer = omega arith;
+      within = subst (λ xs. f.left ≤ length xs) same st.within;
+    }
 
 pub next_term-requires : goal.next_term-requires
 next_term-requires g c =
@@ -25,7 +46,7 @@ next_term-requires g c =
     let k = pair_at ks f.spot.pair in
     let ls = c.notes.lists.items in
     let small : nodes_in (value_at G k.0) < 2 ^ 63 = subst (λ s. nodes_in (value_at G (pair_at ks s.pair).0) < 2 ^ 63) (sym c.notes.invariant.same) c.requires.small in
-    walk-room A W G ks ls k f.spot.down f.outcome (reverse f.notes.items) (reverse f.marks.items) f.here c.notes.invariant.stands small
+    walk-room A W G ks ls k f.spot.down f.outcome (reverse (take f.left c.args.notes.now.items)) (reverse f.marks.items) f.here c.notes.invariant.stands small
 
 pub unreachable-requires : goal.unreachable-requires
 unreachable-requires g c =
@@ -36,13 +57,14 @@ unreachable-requires g c =
     let f = c.notes.descent in
     let k = pair_at ks f.spot.pair in
     let ls = c.notes.lists.items in
-    let p : reverse f.notes.items ≡ c.in-Some.note ∷ reverse c.pop.new.self.items = ap reverse c.in-Some.ensures.items ∙ reverse-push c.pop.new.self.items c.in-Some.note in
+    let ns = c.args.notes.now.items in
+    let p = reverse-last ns f.left (f.left - 1) c.index-note.result.now (let t = c.notes-test.true in omega arith) c.notes.invariant.within c.index-note.ensures in
     let w = rw p at c.notes.invariant.stands in
-    let next = rw (no_more c.in_ok-down.field-0 c.in_default-2.not-Some) at (c.in_ok-down.ensures ls w.s w.ms w.telling w.marked) in
-    walk-open A W G ks ls k f.spot.down f.outcome c.in-Some.note (reverse c.pop.new.self.items) (reverse f.marks.items) f.here w next.is
+    let next = rw (no_more c.in_ok-down.field-0 c.in_default.not-Some) at (c.in_ok-down.ensures ls w.s w.ms w.telling w.marked) in
+    walk-open A W G ks ls k f.spot.down f.outcome c.index-note.result.now (reverse (take (f.left - 1) ns)) (reverse f.marks.items) f.here w next.is
 
-pub notes-preserved-in-Bottom-note-2 : goal.notes-preserved-in-Bottom-note-2
-notes-preserved-in-Bottom-note-2 g c =
+pub notes-preserved-in-Bottom-1 : goal.notes-preserved-in-Bottom-1
+notes-preserved-in-Bottom-1 g c =
     let A = g.A.Rising.algebra c.args.automaton.now in
     let W = g.A.Falling.downward c.args.automaton.now in
     let G = rules_of c.args.grammar.now.rules in
@@ -50,15 +72,17 @@ notes-preserved-in-Bottom-note-2 g c =
     let f = c.notes.descent in
     let k = pair_at ks f.spot.pair in
     let ls = c.notes.lists.items in
-    let p : reverse f.notes.items ≡ c.in-Some.note ∷ reverse c.pop.new.self.items = ap reverse c.in-Some.ensures.items ∙ reverse-push c.pop.new.self.items c.in-Some.note in
-    let d = c.in-Some-2.down in
-    let w = walk-next A W G ks ls k f.spot.down f.outcome _ (reverse f.marks.items) (reverse c.next_term.new.marks.items) f.here c.next_term.new.here d c.in_ok-down.field-0 (rw (p, c.in-Bottom.is) at c.notes.invariant.stands) c.in-Some-2.is (c.in_ok-down.ensures ls) in
+    let ns = c.args.notes.now.items in
+    let p = reverse-last ns f.left (f.left - 1) c.index-note.result.now (let t = c.notes-test.true in omega arith) c.notes.invariant.within c.index-note.ensures in
+    let d = c.in-Some.down in
+    let w = walk-next A W G ks ls k f.spot.down f.outcome _ (reverse f.marks.items) (reverse c.next_term.new.marks.items) f.here c.next_term.new.here d c.in_ok-down.field-0 (rw (p, c.in-Bottom.is) at c.notes.invariant.stands) c.in-Some.is (c.in_ok-down.ensures ls) in
     record {
       same = c.notes.invariant.same;
       more = c.notes.invariant.more;
       earlier = c.notes.invariant.earlier;
-      stands = walk-bottom A W G ks ls k f.spot.down f.outcome (reverse c.pop.new.self.items) (reverse c.next_term.new.marks.items) c.next_term.new.here d w;
-      fewer = omega (arith, c.notes.invariant.fewer, ap length c.in-Some.ensures.items, length_push c.pop.new.self.items c.in-Some.note);
+      stands = walk-bottom A W G ks ls k f.spot.down f.outcome (reverse (take (f.left - 1) ns)) (reverse c.next_term.new.marks.items) c.next_term.new.here d w;
+      fewer = (let h = c.notes.invariant.fewer in omega arith);
+      within = (let h = c.notes.invariant.within in omega arith);
     }
 
 pub notes-preserved-in-Continue-branch-4 : goal.notes-preserved-in-Continue-branch-4
@@ -70,9 +94,10 @@ notes-preserved-in-Continue-branch-4 g c =
     let f = c.notes.descent in
     let k = pair_at ks f.spot.pair in
     let ls = c.notes.lists.items in
-    let p : reverse f.notes.items ≡ c.in-Some.note ∷ reverse c.pop.new.self.items = ap reverse c.in-Some.ensures.items ∙ reverse-push c.pop.new.self.items c.in-Some.note in
-    let d = c.in-Some-2.down in
-    let w = walk-next A W G ks ls k f.spot.down f.outcome _ (reverse f.marks.items) (reverse c.next_term.new.marks.items) f.here c.next_term.new.here d c.in_ok-down.field-0 (rw (p, c.in-Param.is) at c.notes.invariant.stands) c.in-Some-2.is (c.in_ok-down.ensures ls) in
+    let ns = c.args.notes.now.items in
+    let p = reverse-last ns f.left (f.left - 1) c.index-note.result.now (let t = c.notes-test.true in omega arith) c.notes.invariant.within c.index-note.ensures in
+    let d = c.in-Some.down in
+    let w = walk-next A W G ks ls k f.spot.down f.outcome _ (reverse f.marks.items) (reverse c.next_term.new.marks.items) f.here c.next_term.new.here d c.in_ok-down.field-0 (rw (p, c.in-Param.is) at c.notes.invariant.stands) c.in-Some.is (c.in_ok-down.ensures ls) in
     let ended = c.in_ok-end_stretch-in-Param.ensures in
     let m = ended.more in
     let n = c.notes.invariant.more in
@@ -83,8 +108,9 @@ notes-preserved-in-Continue-branch-4 g c =
       same = c.notes.invariant.same;
       more = (n.0 ++ m.0, m.1 ∙ ap (λ x. x ++ m.0) n.1 ∙ append_assoc c.args.lists.now.items n.0 m.0);
       earlier = ended.earlier w.s w.telling c.notes.invariant.earlier;
-      stands = rw m.1 (walk-param A W G ks ls k f.spot.down f.outcome m.0 (reverse c.pop.new.self.items) (reverse c.next_term.new.marks.items) c.next_term.new.here c.end_stretch.new.here d (record { told = new.told; handed = c.push.new.self }) w told (ended.empty (ls ++ m.0)) handed);
-      fewer = omega (arith, c.notes.invariant.fewer, ap length c.in-Some.ensures.items, length_push c.pop.new.self.items c.in-Some.note);
+      stands = rw m.1 (walk-param A W G ks ls k f.spot.down f.outcome m.0 (reverse (take (f.left - 1) ns)) (reverse c.next_term.new.marks.items) c.next_term.new.here c.end_stretch.new.here d (record { told = new.told; handed = c.push.new.self }) w told (ended.empty (ls ++ m.0)) handed);
+      fewer = (let h = c.notes.invariant.fewer in omega arith);
+      within = (let h = c.notes.invariant.within in omega arith);
     }
 
 pub enter_symbol-requires : goal.enter_symbol-requires
@@ -97,14 +123,15 @@ enter_symbol-requires g c =
     let k = pair_at ks f.spot.pair in
     let ls = c.notes.lists.items in
     let small : nodes_in (value_at G k.0) < 2 ^ 63 = subst (λ s. nodes_in (value_at G (pair_at ks s.pair).0) < 2 ^ 63) (sym c.notes.invariant.same) c.requires.small in
-    let p : reverse f.notes.items ≡ c.in-Some.note ∷ reverse c.pop.new.self.items = ap reverse c.in-Some.ensures.items ∙ reverse-push c.pop.new.self.items c.in-Some.note in
-    let d = c.in-Some-2.down in
-    let w = walk-next A W G ks ls k f.spot.down f.outcome _ (reverse f.marks.items) (reverse c.next_term.new.marks.items) f.here c.next_term.new.here d c.in_ok-down.field-0 (rw (p, c.in-Symbol.is) at c.notes.invariant.stands) c.in-Some-2.is (c.in_ok-down.ensures ls) in
+    let ns = c.args.notes.now.items in
+    let p = reverse-last ns f.left (f.left - 1) c.index-note.result.now (let t = c.notes-test.true in omega arith) c.notes.invariant.within c.index-note.ensures in
+    let d = c.in-Some.down in
+    let w = walk-next A W G ks ls k f.spot.down f.outcome _ (reverse f.marks.items) (reverse c.next_term.new.marks.items) f.here c.next_term.new.here d c.in_ok-down.field-0 (rw (p, c.in-Symbol.is) at c.notes.invariant.stands) c.in-Some.is (c.in_ok-down.ensures ls) in
     let room = walk-room-one A W G ks ls k f.spot.down f.outcome _ _ c.next_term.new.here w small in
     record { nodes = room.0; hits = room.1 }
 
-pub notes-preserved-in-Symbol-note-2 : goal.notes-preserved-in-Symbol-note-2
-notes-preserved-in-Symbol-note-2 g c =
+pub notes-preserved-in-Symbol-1 : goal.notes-preserved-in-Symbol-1
+notes-preserved-in-Symbol-1 g c =
     let A = g.A.Rising.algebra c.args.automaton.now in
     let W = g.A.Falling.downward c.args.automaton.now in
     let G = rules_of c.args.grammar.now.rules in
@@ -112,16 +139,18 @@ notes-preserved-in-Symbol-note-2 g c =
     let f = c.notes.descent in
     let k = pair_at ks f.spot.pair in
     let ls = c.notes.lists.items in
-    let p : reverse f.notes.items ≡ c.in-Some.note ∷ reverse c.pop.new.self.items = ap reverse c.in-Some.ensures.items ∙ reverse-push c.pop.new.self.items c.in-Some.note in
-    let d = c.in-Some-2.down in
-    let w = walk-next A W G ks ls k f.spot.down f.outcome _ (reverse f.marks.items) (reverse c.next_term.new.marks.items) f.here c.next_term.new.here d c.in_ok-down.field-0 (rw (p, c.in-Symbol.is) at c.notes.invariant.stands) c.in-Some-2.is (c.in_ok-down.ensures ls) in
+    let ns = c.args.notes.now.items in
+    let p = reverse-last ns f.left (f.left - 1) c.index-note.result.now (let t = c.notes-test.true in omega arith) c.notes.invariant.within c.index-note.ensures in
+    let d = c.in-Some.down in
+    let w = walk-next A W G ks ls k f.spot.down f.outcome _ (reverse f.marks.items) (reverse c.next_term.new.marks.items) f.here c.next_term.new.here d c.in_ok-down.field-0 (rw (p, c.in-Symbol.is) at c.notes.invariant.stands) c.in-Some.is (c.in_ok-down.ensures ls) in
     let entered = c.in_ok-enter_symbol-in-Symbol.ensures in
     record {
       same = c.notes.invariant.same;
       more = c.notes.invariant.more;
       earlier = c.notes.invariant.earlier;
-      stands = rw entered.marks (walk-symbol A W G ks ls k f.spot.down f.outcome c.in-Symbol.symbol c.in-Symbol.kids c.in-Symbol.rest (reverse c.pop.new.self.items) (reverse c.next_term.new.marks.items) c.next_term.new.here c.enter_symbol.new.here d c.in_ok-fell-in-Symbol.fell w c.in_ok-fell-in-Symbol.ensures (entered.telling ls w.s w.telling));
-      fewer = omega (arith, c.notes.invariant.fewer, ap length c.in-Some.ensures.items, length_push c.pop.new.self.items c.in-Some.note);
+      stands = rw entered.marks (walk-symbol A W G ks ls k f.spot.down f.outcome c.in-Symbol.symbol c.in-Symbol.kids c.in-Symbol.rest (reverse (take (f.left - 1) ns)) (reverse c.next_term.new.marks.items) c.next_term.new.here c.enter_symbol.new.here d c.in_ok-fell-in-Symbol.fell w c.in_ok-fell-in-Symbol.ensures (entered.telling ls w.s w.telling));
+      fewer = (let h = c.notes.invariant.fewer in omega arith);
+      within = (let h = c.notes.invariant.within in omega arith);
     }
 
 pub enter_call-requires : goal.enter_call-requires
@@ -134,9 +163,10 @@ enter_call-requires g c =
     let k = pair_at ks f.spot.pair in
     let ls = c.notes.lists.items in
     let small : nodes_in (value_at G k.0) < 2 ^ 63 = subst (λ s. nodes_in (value_at G (pair_at ks s.pair).0) < 2 ^ 63) (sym c.notes.invariant.same) c.requires.small in
-    let p : reverse f.notes.items ≡ c.in-Some.note ∷ reverse c.pop.new.self.items = ap reverse c.in-Some.ensures.items ∙ reverse-push c.pop.new.self.items c.in-Some.note in
-    let d = c.in-Some-2.down in
-    let w = walk-next A W G ks ls k f.spot.down f.outcome _ (reverse f.marks.items) (reverse c.next_term.new.marks.items) f.here c.next_term.new.here d c.in_ok-down.field-0 (rw (p, c.in-Call.is) at c.notes.invariant.stands) c.in-Some-2.is (c.in_ok-down.ensures ls) in
+    let ns = c.args.notes.now.items in
+    let p = reverse-last ns f.left (f.left - 1) c.index-note.result.now (let t = c.notes-test.true in omega arith) c.notes.invariant.within c.index-note.ensures in
+    let d = c.in-Some.down in
+    let w = walk-next A W G ks ls k f.spot.down f.outcome _ (reverse f.marks.items) (reverse c.next_term.new.marks.items) f.here c.next_term.new.here d c.in_ok-down.field-0 (rw (p, c.in-Call.is) at c.notes.invariant.stands) c.in-Some.is (c.in_ok-down.ensures ls) in
     let i = c.in-Call.pair in
     let o = c.in-Some-find.outcome.now in
     let n = c.notes.invariant.more in
@@ -145,7 +175,7 @@ enter_call-requires g c =
     let lengths = outcome-lengths A W G ks ls (record { pair = i; down = d }) o h in
     record {
       lengths = lengths;
-      room = walk-room-call A W G ks ls k f.spot.down f.outcome i (reverse c.pop.new.self.items) (reverse c.next_term.new.marks.items) c.next_term.new.here d w o h (omega arith) small;
+      room = walk-room-call A W G ks ls k f.spot.down f.outcome i (reverse (take (f.left - 1) ns)) (reverse c.next_term.new.marks.items) c.next_term.new.here d w o h (omega arith) small;
     }
 
 pub notes-preserved : goal.notes-preserved
@@ -157,9 +187,10 @@ notes-preserved g c =
     let f = c.notes.descent in
     let k = pair_at ks f.spot.pair in
     let ls = c.notes.lists.items in
-    let p : reverse f.notes.items ≡ c.in-Some.note ∷ reverse c.pop.new.self.items = ap reverse c.in-Some.ensures.items ∙ reverse-push c.pop.new.self.items c.in-Some.note in
-    let d = c.in-Some-2.down in
-    let w = walk-next A W G ks ls k f.spot.down f.outcome _ (reverse f.marks.items) (reverse c.next_term.new.marks.items) f.here c.next_term.new.here d c.in_ok-down.field-0 (rw (p, c.in-Call.is) at c.notes.invariant.stands) c.in-Some-2.is (c.in_ok-down.ensures ls) in
+    let ns = c.args.notes.now.items in
+    let p = reverse-last ns f.left (f.left - 1) c.index-note.result.now (let t = c.notes-test.true in omega arith) c.notes.invariant.within c.index-note.ensures in
+    let d = c.in-Some.down in
+    let w = walk-next A W G ks ls k f.spot.down f.outcome _ (reverse f.marks.items) (reverse c.next_term.new.marks.items) f.here c.next_term.new.here d c.in_ok-down.field-0 (rw (p, c.in-Call.is) at c.notes.invariant.stands) c.in-Some.is (c.in_ok-down.ensures ls) in
     let i = c.in-Call.pair in
     let o = c.in-Some-find.outcome.now in
     let n = c.notes.invariant.more in
@@ -172,8 +203,9 @@ notes-preserved g c =
       same = c.notes.invariant.same;
       more = n;
       earlier = c.notes.invariant.earlier;
-      stands = walk-call A W G ks ls k f.spot.down f.outcome c.rules-rules.ensures.grammar pair i (reverse c.pop.new.self.items) (reverse c.next_term.new.marks.items) (reverse c.enter_call.new.marks.items) c.next_term.new.here c.enter_call.new.here d o w h e.0 e.1;
-      fewer = omega (arith, c.notes.invariant.fewer, ap length c.in-Some.ensures.items, length_push c.pop.new.self.items c.in-Some.note);
+      stands = walk-call A W G ks ls k f.spot.down f.outcome c.rules-rules.ensures.grammar pair i (reverse (take (f.left - 1) ns)) (reverse c.next_term.new.marks.items) (reverse c.enter_call.new.marks.items) c.next_term.new.here c.enter_call.new.here d o w h e.0 e.1;
+      fewer = (let h = c.notes.invariant.fewer in omega arith);
+      within = (let h = c.notes.invariant.within in omega arith);
     }
 
 pub returns-in-None-clause-waits : goal.returns-in-None-clause-waits
@@ -185,16 +217,22 @@ returns-in-None-clause-waits g c =
     let f = c.notes.descent in
     let k = pair_at ks f.spot.pair in
     let ls = c.notes.lists.items in
-    let p : reverse f.notes.items ≡ c.in-Some.note ∷ reverse c.pop.new.self.items = ap reverse c.in-Some.ensures.items ∙ reverse-push c.pop.new.self.items c.in-Some.note in
-    let d = c.in-Some-2.down in
-    let w = walk-next A W G ks ls k f.spot.down f.outcome _ (reverse f.marks.items) (reverse c.next_term.new.marks.items) f.here c.next_term.new.here d c.in_ok-down.field-0 (rw (p, c.in-Call.is) at c.notes.invariant.stands) c.in-Some-2.is (c.in_ok-down.ensures ls) in
-    let m = walk-meets A W G ks ls k f.spot.down f.outcome c.in-Call.pair (reverse c.pop.new.self.items) (reverse c.next_term.new.marks.items) c.next_term.new.here d w in
+    let ns = c.args.notes.now.items in
+    let p = reverse-last ns f.left (f.left - 1) c.index-note.result.now (let t = c.notes-test.true in omega arith) c.notes.invariant.within c.index-note.ensures in
+    let d = c.in-Some.down in
+    let w = walk-next A W G ks ls k f.spot.down f.outcome _ (reverse f.marks.items) (reverse c.next_term.new.marks.items) f.here c.next_term.new.here d c.in_ok-down.field-0 (rw (p, c.in-Call.is) at c.notes.invariant.stands) c.in-Some.is (c.in_ok-down.ensures ls) in
+    let m = walk-meets A W G ks ls k f.spot.down f.outcome c.in-Call.pair (reverse (take (f.left - 1) ns)) (reverse c.next_term.new.marks.items) c.next_term.new.here d w in
     record {
-      waits = w;
+      waits = record {
+        notes = ns;
+        noted = subst (λ s. AreNotes A G ks (pair_at ks s.pair).1 (body_at G (pair_at ks s.pair).0) (reverse ns)) (sym c.notes.invariant.same) c.requires.noted;
+        within = (let h = c.notes.invariant.within in omega arith);
+        walks = w;
+      };
       met = m.0;
       there = m.1;
       earlier = rw c.notes.invariant.same at m.2;
-      fewer = omega (arith, c.notes.invariant.fewer, ap length c.in-Some.ensures.items, length_push c.pop.new.self.items c.in-Some.note);
+      fewer = (let t = c.notes-test.true in let h = c.notes.invariant.fewer in omega arith);
     }
 
 pub next_term-requires-2 : goal.next_term-requires-2
@@ -207,7 +245,7 @@ next_term-requires-2 g c =
     let k = pair_at ks f.spot.pair in
     let ls = c.notes.lists.items in
     let small : nodes_in (value_at G k.0) < 2 ^ 63 = subst (λ s. nodes_in (value_at G (pair_at ks s.pair).0) < 2 ^ 63) (sym c.notes.invariant.same) c.requires.small in
-    walk-room A W G ks ls k f.spot.down f.outcome (reverse f.notes.items) (reverse f.marks.items) f.here c.notes.invariant.stands small
+    walk-room A W G ks ls k f.spot.down f.outcome (reverse (take f.left c.args.notes.now.items)) (reverse f.marks.items) f.here c.notes.invariant.stands small
 
 pub returns-clause-more : goal.returns-clause-more
 returns-clause-more g c =
@@ -224,9 +262,8 @@ returns-clause-earlier g c =
     let f = c.notes.descent in
     let k = pair_at ks f.spot.pair in
     let ls = c.notes.lists.items in
-    let none = rw (no_more c.pop.result c.in_default.not-Some) at c.pop.ensures.cases in
-    let z : length f.notes.items ≡ 0 = omega (arith, none.0, f.notes.ok.0) in
-    let w : Walks A W G ks ls k f.spot.down [] (reverse f.marks.items) f.here f.outcome = rw (empty_reverse f.notes.items z) at c.notes.invariant.stands in
+    let z : f.left ≡ 0 = (let t = c.notes-test.false in omega arith) in
+    let w : Walks A W G ks ls k f.spot.down [] (reverse f.marks.items) f.here f.outcome = rw z at c.notes.invariant.stands in
     let i = (c.in_ok-next_term.ensures ls w.s w.ms w.telling w.marked).telling in
     c.in_ok-end_stretch.ensures.earlier (absorbed w.s w.ms) i c.notes.invariant.earlier
 
@@ -239,9 +276,8 @@ returns-clause-done g c =
     let f = c.notes.descent in
     let k = pair_at ks f.spot.pair in
     let ls = c.notes.lists.items in
-    let none = rw (no_more c.pop.result c.in_default.not-Some) at c.pop.ensures.cases in
-    let z : length f.notes.items ≡ 0 = omega (arith, none.0, f.notes.ok.0) in
-    let w : Walks A W G ks ls k f.spot.down [] (reverse f.marks.items) f.here f.outcome = rw (empty_reverse f.notes.items z) at c.notes.invariant.stands in
+    let z : f.left ≡ 0 = (let t = c.notes-test.false in omega arith) in
+    let w : Walks A W G ks ls k f.spot.down [] (reverse f.marks.items) f.here f.outcome = rw z at c.notes.invariant.stands in
     let i = (c.in_ok-next_term.ensures ls w.s w.ms w.telling w.marked).telling in
     let told = c.in_ok-end_stretch.ensures.told (absorbed w.s w.ms) w.done i c.notes.invariant.earlier w.finished in
     let e = walk-end A W G ks ls k f.spot.down f.outcome c.end_stretch-2.new.lists.items (reverse f.marks.items) f.here c.end_stretch-2.new.outcome w told (ap (λ v. v.items) c.end_stretch-2.ensures.handed) in

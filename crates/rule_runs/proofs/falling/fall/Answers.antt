@@ -1,14 +1,16 @@
-use Rattle.std.proofs.Common.{◌≡◌, ◌-◌, ◌∙◌, ◌++◌, ◌∷◌, [], sym, ap, subst, arith, reverse, length, All, Some, slice_get}
-use Rattle.std.proofs.lemmas.List.Elements.{All-append, All-nil}
+use Rattle.std.proofs.Common.{◌≡◌, ◌-◌, ◌∙◌, ◌++◌, ◌∷◌, [], sym, ap, subst, arith, reverse, take, length, All, Some, slice_get}
+use Rattle.std.proofs.lemmas.List.Elements.{All-append, All-cons, All-head, All-nil, All-tail, All-weaker}
 use Rattle.slt_grammar.specs.Grammars.{value}
 use Rattle.slt_grammar.specs.Keyed.{rules_of}
 use Rattle.rule_runs.specs.Hits.{numbers, symbols_in}
 use Rattle.rule_runs.specs.Reached.{FallsOnce}
 use Rattle.rule_runs.specs.Descents.{HasOutcome, Asks, AreWaiting, triple_at}
+use Rattle.rule_runs.specs.Notes.{HasBody}
 use Rattle.rule_runs.specs.Risen.{keys, pair_at}
-use Rattle.rule_runs.proofs.Lists.{reverse-push, all-one}
+use Rattle.rule_runs.proofs.Lists.{reverse-push, all-one, no_more}
 use Rattle.rule_runs.proofs.Descents.{outcome-lengths, waiting-more}
 use Rattle.rule_runs.proofs.Triples.{known_triples, open_triples, start-last, start-falls, falls-none, falls-start, falls-more, pair-of, waiting-begin, triples-return, stands-again, frame-small, outer-small, fall-cost-begin, whole-told, told-answers, told-answered, outcomes-more, spot-apart}
+use Rattle.rule_runs.proofs.KeptNotes.{unread-most}
 use Rattle.rule_runs.proofs.Found.{found-hits, found-right, found-small}
 use Rattle.rule_runs.proofs.Rooms.{walk-room-call}
 use Rattle.rule_runs.proofs.falling.fall.Goals as goal
@@ -16,13 +18,29 @@ use Rattle.rule_runs.proofs.falling.fall.Goals as goal
 pub returns-in_err-start-clause-steps : goal.returns-in_err-start-clause-steps
 returns-in_err-start-clause-steps g c = ([], falls-none (g.A.Rising.algebra c.args.automaton.now) (g.A.Falling.downward c.args.automaton.now) (rules_of c.args.grammar.now.rules) _ (omega arith))
 
+pub unreachable-requires : goal.unreachable-requires
+unreachable-requires g c =
+    let none : HasBody c.bodies.bodies.kept.items c.bodies.frame.spot.pair → ⊥ = rw (no_more c.notes.result c.in_default.not-Some) at c.notes.ensures.none in
+    none c.bodies.invariant.read
+
+pub descend-requires-clause-noted : goal.descend-requires-clause-noted
+descend-requires-clause-noted g c = c.bodies.invariant.kept.noted c.bodies.frame.spot.pair c.in-Some.notes.now c.in-Some.ensures.some
+
+pub returns-in_err-bodies-clause-steps : goal.returns-in_err-bodies-clause-steps
+returns-in_err-bodies-clause-steps g c = ([], falls-none (g.A.Rising.algebra c.args.automaton.now) (g.A.Falling.downward c.args.automaton.now) (rules_of c.args.grammar.now.rules) _ (omega arith))
+
+pub begin-requires-clause-kept : goal.begin-requires-clause-kept
+begin-requires-clause-kept g c =
+    let kn = ap (λ r. r.known) c.risen.view_is in
+    c.in_ok-bodies.ensures.kept (g.A.Rising.algebra c.args.automaton.now) (rules_of c.args.grammar.now.rules) (keys c.args.risen.now.known) (sym (c.len-pairs.ensures ∙ ap (λ es. length (keys es)) kn))
+
 pub begin-requires-clause-met : goal.begin-requires-clause-met
 begin-requires-clause-met g c =
     let A = g.A.Rising.algebra c.args.automaton.now in
     let W = g.A.Falling.downward c.args.automaton.now in
     let G = rules_of c.args.grammar.now.rules in
     let kn = ap (λ r. r.known) c.risen.view_is in
-    start-falls A W G c.args.risen.now.known c.requires.run c.rules-rules.ensures.grammar (c.len.result - 1) c.in_ok-start.field-0 (ap (λ n. n - 1) c.len.ensures ∙ ap (λ es. length (keys es) - 1) kn) c.in_ok-start.ensures
+    start-falls A W G c.args.risen.now.known c.requires.run c.rules-rules.ensures.grammar (c.len-pairs.result - 1) c.in_ok-start.field-0 (ap (λ n. n - 1) c.len-pairs.ensures ∙ ap (λ es. length (keys es) - 1) kn) c.in_ok-start.ensures
 
 pub returns-in_err-frame-clause-steps : goal.returns-in_err-frame-clause-steps
 returns-in_err-frame-clause-steps g c =
@@ -31,7 +49,18 @@ returns-in_err-frame-clause-steps g c =
     let G = rules_of c.args.grammar.now.rules in
     let kn = ap (λ r. r.known) c.risen.view_is in
     let k = c.begin.ensures.steps in
-    (_, falls-start A W G c.args.risen.now.known c.requires.run c.rules-rules.ensures.grammar (record { pair = c.len.result - 1; down = c.in_ok-start.field-0 }) (c.begin.new.steps - c.args.steps.now) (ap (λ n. n - 1) c.len.ensures ∙ ap (λ es. length (keys es) - 1) kn) c.in_ok-start.ensures (omega arith))
+    (_, falls-start A W G c.args.risen.now.known c.requires.run c.rules-rules.ensures.grammar (record { pair = c.len-pairs.result - 1; down = c.in_ok-start.field-0 }) (c.begin.new.steps - c.args.steps.now) (ap (λ n. n - 1) c.len-pairs.ensures ∙ ap (λ es. length (keys es) - 1) kn) c.in_ok-start.ensures (omega arith))
+
+pub returns-in_err-frame-clause-reads : goal.returns-in_err-frame-clause-reads
+returns-in_err-frame-clause-reads g c =
+    let h = c.begin.ensures.reads in
+    omega (arith, unread-most (rules_of c.args.grammar.now.rules) (keys c.args.risen.now.known) c.in_ok-bodies.bodies.kept.items)
+
+pub returns-in_err-frame-in-Some-2-clause-reads : goal.returns-in_err-frame-in-Some-2-clause-reads
+returns-in_err-frame-in-Some-2-clause-reads g c =
+    let h = c.begin-in-Some-2.ensures.reads in
+    let few = c.bodies.invariant.few in
+    omega arith
 
 pub bodies-init : goal.bodies-init
 bodies-init g c =
@@ -41,48 +70,52 @@ bodies-init g c =
     let es = c.args.risen.now.known in
     let kn = ap (λ r. r.known) c.risen.view_is in
     let k = c.begin.ensures.steps in
-    let n : c.len.result - 1 ≡ length (keys es) - 1 = ap (λ n. n - 1) c.len.ensures ∙ ap (λ es. length (keys es) - 1) kn in
+    let n : c.len-pairs.result - 1 ≡ length (keys es) - 1 = ap (λ n. n - 1) c.len-pairs.ensures ∙ ap (λ es. length (keys es) - 1) kn in
     let s = c.in_ok-frame.ensures.spot in
     let last = start-last A W G es c.requires.run in
     let p = ap (λ x. x.pair) s in
-    let r = falls-start A W G es c.requires.run c.rules-rules.ensures.grammar (record { pair = c.len.result - 1; down = c.in_ok-start.field-0 }) (c.begin.new.steps - c.args.steps.now) n c.in_ok-start.ensures (omega arith) in
+    let r = falls-start A W G es c.requires.run c.rules-rules.ensures.grammar (record { pair = c.len-pairs.result - 1; down = c.in_ok-start.field-0 }) (c.begin.new.steps - c.args.steps.now) n c.in_ok-start.ensures (omega arith) in
     record {
       outcomes = rw c.new-known.ensures (All-nil (λ e. HasOutcome A W G (keys es) c.new-lists.result.items e.0 e.1));
+      kept = c.begin.ensures.kept;
+      read = rw s c.in_ok-frame.ensures.read;
+      outer = rw c.new-frames.ensures.items (All-nil (λ f. HasBody c.begin.new.bodies.kept.items f.spot.pair));
       earlier = rw c.new-lists.ensures.items (λ i lt. absurd (omega arith));
       there = omega (arith, p, n, last.1);
       stands = c.in_ok-frame.ensures.stands c.new-lists.result.items;
       waiting = rw c.new-frames.ensures.items (s ∙ ap (λ x. record { pair = x; down = c.in_ok-start.field-0 }) n ∙ ap (λ d. record { pair = length (keys es) - 1; down = d }) c.in_ok-start.ensures);
       reads = rw (c.new-known.ensures, c.new-frames.ensures.items, s) r;
       counted = c.begin.ensures.counted;
+      few = (let h = c.in_ok-frame.ensures.once in omega (arith, unread-most G (keys es) c.in_ok-bodies.bodies.kept.items));
     }
 
-pub returns-in_err-frame-in-Some-clause-steps : goal.returns-in_err-frame-in-Some-clause-steps
-returns-in_err-frame-in-Some-clause-steps g c =
+pub returns-in_err-frame-in-Some-2-clause-steps : goal.returns-in_err-frame-in-Some-2-clause-steps
+returns-in_err-frame-in-Some-2-clause-steps g c =
     let A = g.A.Rising.algebra c.args.automaton.now in
     let W = g.A.Falling.downward c.args.automaton.now in
     let G = rules_of c.args.grammar.now.rules in
     let ks = keys c.args.risen.now.known in
-    let a = rw c.in-Some.is at c.in_ok-spot.ensures.waits in
-    let n = rw c.in-Some.is at c.in_ok-spot.ensures.new in
-    let k = c.begin-in-Some.ensures.steps in
+    let a = rw c.in-Some-2.is at c.in_ok-spot.ensures.waits in
+    let n = rw c.in-Some-2.is at c.in_ok-spot.ensures.new in
+    let k = c.begin-in-Some-2.ensures.steps in
     let o = c.bodies.invariant.counted in
-    (_, falls-more A W G ks c.requires.run.distinct c.bodies.lists.items c.bodies.known c.bodies.frame c.descend.new.descent (reverse c.bodies.frames.items) c.in-Some.spot (c.bodies.steps - c.args.steps.now) (c.begin-in-Some.new.steps - c.args.steps.now) c.descend.new.lists.items c.bodies.invariant.reads c.bodies.invariant.waiting a c.bodies.invariant.outcomes n (omega arith))
+    (_, falls-more A W G ks c.requires.run.distinct c.bodies.lists.items c.bodies.known c.bodies.frame c.descend.new.descent (reverse c.bodies.frames.items) c.in-Some-2.spot (c.bodies.steps - c.args.steps.now) (c.begin-in-Some-2.new.steps - c.args.steps.now) c.descend.new.lists.items c.bodies.invariant.reads c.bodies.invariant.waiting a c.bodies.invariant.outcomes n (omega arith))
 
-pub bodies-smaller-in-Some : goal.bodies-smaller-in-Some
-bodies-smaller-in-Some g c =
+pub bodies-smaller-in-Some-2 : goal.bodies-smaller-in-Some-2
+bodies-smaller-in-Some-2 g c =
     let A = g.A.Rising.algebra c.args.automaton.now in
     let W = g.A.Falling.downward c.args.automaton.now in
     let G = rules_of c.args.grammar.now.rules in
     let es = c.args.risen.now.known in
     let ks = keys es in
-    let a = rw c.in-Some.is at c.in_ok-spot.ensures.waits in
-    let e = ap reverse c.in_ok-push-in-Some.ensures.items ∙ reverse-push c.bodies.frames.items c.descend.new.descent in
-    let p = pair-of A W G es c.requires.run c.in-Some.spot.pair a.there in
-    let k = fall-cost-begin A W G ks c.bodies.frame c.descend.new.descent c.in_ok-frame-in-Some.frame (reverse c.bodies.frames.items) (pair_at ks c.in-Some.spot.pair).0 p.there a.earlier c.in_ok-spot.ensures.same a.fewer (ap (λ s. (pair_at ks s.pair).0) c.in_ok-frame-in-Some.ensures.spot) c.in_ok-frame-in-Some.ensures.cost in
+    let a = rw c.in-Some-2.is at c.in_ok-spot.ensures.waits in
+    let e = ap reverse c.in_ok-push-in-Some-2.ensures.items ∙ reverse-push c.bodies.frames.items c.descend.new.descent in
+    let p = pair-of A W G es c.requires.run c.in-Some-2.spot.pair a.there in
+    let k = fall-cost-begin A W G ks c.bodies.frame c.descend.new.descent c.in_ok-frame-in-Some-2.frame (reverse c.bodies.frames.items) (pair_at ks c.in-Some-2.spot.pair).0 p.there a.earlier c.in_ok-spot.ensures.same a.fewer (ap (λ s. (pair_at ks s.pair).0) c.in_ok-frame-in-Some-2.ensures.spot) c.in_ok-frame-in-Some-2.ensures.cost in
     rw e k
 
-pub bodies-preserved-in-Some : goal.bodies-preserved-in-Some
-bodies-preserved-in-Some g c =
+pub bodies-preserved-in-Some-2 : goal.bodies-preserved-in-Some-2
+bodies-preserved-in-Some-2 g c =
     let A = g.A.Rising.algebra c.args.automaton.now in
     let W = g.A.Falling.downward c.args.automaton.now in
     let G = rules_of c.args.grammar.now.rules in
@@ -91,26 +124,30 @@ bodies-preserved-in-Some g c =
     let gs = reverse c.bodies.frames.items in
     let f = c.bodies.frame in
     let f' = c.descend.new.descent in
-    let s = c.in-Some.spot in
-    let a = rw c.in-Some.is at c.in_ok-spot.ensures.waits in
-    let n = rw c.in-Some.is at c.in_ok-spot.ensures.new in
-    let k = c.begin-in-Some.ensures.steps in
+    let s = c.in-Some-2.spot in
+    let a = rw c.in-Some-2.is at c.in_ok-spot.ensures.waits in
+    let n = rw c.in-Some-2.is at c.in_ok-spot.ensures.new in
+    let k = c.begin-in-Some-2.ensures.steps in
     let o = c.bodies.invariant.counted in
     let m = c.in_ok-spot.ensures.more in
     let same = c.in_ok-spot.ensures.same in
-    let r = falls-more A W G ks c.requires.run.distinct ls c.bodies.known f f' gs s (c.bodies.steps - c.args.steps.now) (c.begin-in-Some.new.steps - c.args.steps.now) c.descend.new.lists.items c.bodies.invariant.reads c.bodies.invariant.waiting a c.bodies.invariant.outcomes n (omega arith) in
-    let e = ap reverse c.in_ok-push-in-Some.ensures.items ∙ reverse-push c.bodies.frames.items f' in
+    let r = falls-more A W G ks c.requires.run.distinct ls c.bodies.known f f' gs s (c.bodies.steps - c.args.steps.now) (c.begin-in-Some-2.new.steps - c.args.steps.now) c.descend.new.lists.items c.bodies.invariant.reads c.bodies.invariant.waiting a c.bodies.invariant.outcomes n (omega arith) in
+    let e = ap reverse c.in_ok-push-in-Some-2.ensures.items ∙ reverse-push c.bodies.frames.items f' in
     let a' : Asks A W G ks (ls ++ m.0) f s f' = subst (λ x. Asks A W G ks x f s f') m.1 a in
     let w = waiting-begin A W G ks ls m.0 f f' gs s c.bodies.invariant.waiting c.bodies.invariant.there a' same in
-    let spot = c.in_ok-frame-in-Some.ensures.spot in
+    let spot = c.in_ok-frame-in-Some-2.ensures.spot in
     record {
       outcomes = subst (λ x. All (λ e. HasOutcome A W G ks x e.0 e.1) c.bodies.known) (sym m.1) (outcomes-more A W G ks ls m.0 c.bodies.known c.bodies.invariant.outcomes);
+      kept = c.begin-in-Some-2.ensures.kept;
+      read = rw spot c.in_ok-frame-in-Some-2.ensures.read;
+      outer = rw e (All-weaker (λ f. HasBody c.bodies.bodies.kept.items f.spot.pair) (λ f. HasBody c.begin-in-Some-2.new.bodies.kept.items f.spot.pair) (λ f h. c.begin-in-Some-2.ensures.stays f.spot.pair h) (f' ∷ gs) (All-cons (λ f. HasBody c.bodies.bodies.kept.items f.spot.pair) f' gs (rw same c.bodies.invariant.read) c.bodies.invariant.outer));
       earlier = c.in_ok-spot.ensures.earlier;
       there = rw spot a.there;
-      stands = c.in_ok-frame-in-Some.ensures.stands c.descend.new.lists.items;
+      stands = c.in_ok-frame-in-Some-2.ensures.stands c.descend.new.lists.items;
       waiting = rw (e, spot) (subst (λ x. AreWaiting A W G ks x s (f' ∷ gs)) (sym m.1) w);
       reads = rw (e, spot, same) r;
-      counted = (let h = c.begin-in-Some.ensures.counted in omega arith);
+      counted = (let h = c.begin-in-Some-2.ensures.counted in omega arith);
+      few = (let h = c.in_ok-frame-in-Some-2.ensures.once in let few = c.bodies.invariant.few in omega arith);
     }
 
 pub index-requires : goal.index-requires
@@ -183,7 +220,7 @@ enter_call-requires g c =
     let lengths = outcome-lengths A W G ks ls f'.spot f'.outcome h in
     record {
       lengths = lengths;
-      room = walk-room-call A W G ks ls (pair_at ks below.spot.pair) below.spot.down below.outcome f'.spot.pair (reverse below.notes.items) (reverse below.marks.items) below.here f'.spot.down w3.0 f'.outcome h (omega arith) small;
+      room = walk-room-call A W G ks ls (pair_at ks below.spot.pair) below.spot.down below.outcome f'.spot.pair (reverse (take below.left w3.0.notes)) (reverse below.marks.items) below.here f'.spot.down w3.0.walks f'.outcome h (omega arith) small;
     }
 
 pub note-requires : goal.note-requires
@@ -216,14 +253,19 @@ bodies-preserved g c =
     let w2 : AreWaiting A W G ks ls' f.spot (below ∷ gs) = subst (λ x. AreWaiting A W G ks x f.spot (below ∷ gs)) (sym m.1) w1 in
     let w3 : AreWaiting A W G ks ls' f'.spot (below ∷ gs) = subst (λ x. AreWaiting A W G ks ls' x (below ∷ gs)) (sym same) w2 in
     let k = c.in_ok-note-in-Some-pop.ensures.ok in
+    let outer : All (λ f. HasBody c.bodies.bodies.kept.items f.spot.pair) (below ∷ gs) = rw e at c.bodies.invariant.outer in
     let pair = pair-of A W G es c.requires.run below.spot.pair w3.2 in
     let r : FallsOnce A W G (known_triples A W G ks c.bodies.known ++ (triple_at ks f.spot ∷ open_triples A W G ks (below ∷ gs))) (c.bodies.steps - c.args.steps.now) = rw e at c.bodies.invariant.reads in
     record {
       outcomes = rw k (All-append (λ e. HasOutcome A W G ks ls' e.0 e.1) c.bodies.known _ (subst (λ x. All (λ e. HasOutcome A W G ks x e.0 e.1) c.bodies.known) (sym m.1) (outcomes-more A W G ks ls m.0 c.bodies.known c.bodies.invariant.outcomes)) (all-one (λ e. HasOutcome A W G ks ls' e.0 e.1) (f'.spot, f'.outcome) h));
+      kept = c.bodies.invariant.kept;
+      read = All-head (λ f. HasBody c.bodies.bodies.kept.items f.spot.pair) below gs outer;
+      outer = All-tail (λ f. HasBody c.bodies.bodies.kept.items f.spot.pair) below gs outer;
       earlier = c.in_ok-spot.ensures.earlier;
       there = w3.2;
-      stands = stands-again A W G ks c.rules-rules.ensures.grammar ls' below f'.spot f'.outcome (reverse c.enter_call.new.marks.items) c.enter_call.new.here pair w3.0 h (λ s ms ss. c.in_ok-enter_call-in-Some-pop.ensures ls' s ms ss);
+      stands = stands-again A W G ks c.rules-rules.ensures.grammar ls' below f'.spot f'.outcome c.enter_call.new.marks c.enter_call.new.here pair w3.0 h (λ s ms ss. c.in_ok-enter_call-in-Some-pop.ensures ls' s ms ss);
       waiting = w3.3;
       reads = rw (k, triples-return A W G ks c.bodies.known f'.spot f'.outcome (below ∷ gs), same) r;
       counted = c.bodies.invariant.counted;
+      few = c.bodies.invariant.few;
     }

@@ -1,8 +1,10 @@
-use Rattle.std.proofs.Common.{◌<◌, ◌≤◌, ◌+◌, ◌-◌, ◌++◌, ◌∷◌, length, reverse, sum_by, All}
+use Rattle.std.proofs.Common.{◌<◌, ◌≤◌, ◌+◌, ◌*◌, ◌-◌, ◌++◌, ◌∷◌, length, reverse, sum_by, All}
+use Rattle.slt_grammar.specs.Grammars.{body_at}
 use Rattle.slt_grammar.specs.Keyed.{rules_of}
 use Rattle.rule_runs.specs.Reached.{FallsOnce}
 use Rattle.rule_runs.specs.Descents.{HasOutcome, Standing, AreWaiting, triple_at, fall_cost}
 use Rattle.rule_runs.specs.Listing.{AreEarlier}
+use Rattle.rule_runs.specs.Notes.{AreKept, HasBody, unread}
 use Rattle.rule_runs.specs.Risen.{keys}
 use Rattle.rule_runs.proofs.Triples.{known_triples, open_triples}
 use Rattle.rule_runs.proofs.falling.fall.Given as goal
@@ -18,10 +20,14 @@ invariant-bodies g l =
     let ks = keys l.risen.known in
     record {
       outcomes : All (λ e. HasOutcome A W G ks l.lists.items e.0 e.1) l.known;
+      kept : AreKept A G ks l.bodies.kept.items;
+      read : HasBody l.bodies.kept.items l.frame.spot.pair;
+      outer : All (λ f. HasBody l.bodies.kept.items f.spot.pair) (reverse l.frames.items);
       earlier : AreEarlier l.lists.items;
       there : l.frame.spot.pair < length ks;
       stands : Standing A W G ks l.lists.items l.frame;
       waiting : AreWaiting A W G ks l.lists.items l.frame.spot (reverse l.frames.items);
       reads : FallsOnce A W G (known_triples A W G ks l.known ++ (triple_at ks l.frame.spot ∷ open_triples A W G ks (reverse l.frames.items))) (l.steps - l.fn.steps);
       counted : l.fn.steps ≤ l.steps;
+      few : l.steps + 2 * unread G ks l.bodies.kept.items ≤ l.fn.steps + 2 * sum_by (λ k. length (body_at G k.0)) ks;
     }

@@ -1,0 +1,110 @@
+use Rattle.std.proofs.Common.{◌≡◌, ◌<◌, ◌∙◌, [], sym, ap, subst, arith, reverse, length, All}
+use Rattle.std.proofs.lemmas.List.Elements.{All-get_or}
+use Rattle.std.proofs.lemmas.List.{length-reverse}
+use Rattle.slt_grammar.specs.Keyed.{rules_of}
+use Rattle.slt_grammar.specs.Grammars.{body_at}
+use Rattle.rule_runs.specs.Reached.{RuleStates}
+use Rattle.rule_runs.specs.Entries.{key_of}
+use Rattle.rule_runs.specs.Notes.{AreNotes, HasBody}
+use Rattle.rule_runs.specs.Risen.{state_at, keys, pair_at, AreKnown}
+use Rattle.rule_runs.proofs.KeptNotes.{set-there, has-set, kept-set, unread-some, unread-set}
+use Rattle.rule_runs.proofs.Lists.{no_more}
+use Rattle.rule_runs.proofs.NoteLemmas.{notes-length}
+use Rattle.rule_runs.proofs.kept.read.Goals as goal
+
+pub returns-in-Some-clause-nodes : goal.returns-in-Some-clause-nodes
+returns-in-Some-clause-nodes g c =
+    let A = g.A.Rising.algebra c.args.automaton.now in
+    let G = rules_of c.args.grammar.now.rules in
+    let ks = keys c.args.risen.now.known in
+    let k = pair_at ks c.args.pair in
+    let noted = c.requires.kept.noted c.args.pair c.in-Some.notes.now c.in-Some.ensures.some in
+    omega (arith, c.len.ensures, c.in-Some.notes.now.ok.0, notes-length A G ks k.1 (body_at G k.0) (reverse c.in-Some.notes.now.items) noted, length-reverse c.in-Some.notes.now.items)
+
+pub note_labels-requires-clause-closed : goal.note_labels-requires-clause-closed
+note_labels-requires-clause-closed g c =
+    let A = g.A.Rising.algebra c.args.automaton.now in
+    let G = rules_of c.args.grammar.now.rules in
+    let es = c.args.risen.now.known in
+    let kn = ap (λ r. r.known) c.risen.view_is in
+    let k : key_of c.in-Some-pair.met.now ≡ pair_at (keys es) c.args.pair = c.in-Some-pair.ensures.pair ∙ ap (λ x. pair_at (keys x) c.args.pair) kn in
+    let h = All-get_or (λ k. AreKnown A G es k 0) (keys es) c.args.pair (0, []) c.requires.there c.requires.run.closed in
+    subst (λ x. AreKnown A G x (key_of c.in-Some-pair.met.now) 0) (sym kn) (subst (λ x. AreKnown A G es x 0) (sym k) h)
+
+pub note_labels-requires-clause-right : goal.note_labels-requires-clause-right
+note_labels-requires-clause-right g c =
+    let A = g.A.Rising.algebra c.args.automaton.now in
+    let G = rules_of c.args.grammar.now.rules in
+    let kn = ap (λ r. r.known) c.risen.view_is in
+    subst (λ es. All (λ e. e.1 ≡ state_at A G e.0) es) (sym kn) c.requires.run.right
+
+pub returns-clause-kept : goal.returns-clause-kept
+returns-clause-kept g c =
+    let A = g.A.Rising.algebra c.args.automaton.now in
+    let G = rules_of c.args.grammar.now.rules in
+    let es = c.args.risen.now.known in
+    let kn = ap (λ r. r.known) c.risen.view_is in
+    let k : key_of c.in-Some-pair.met.now ≡ pair_at (keys es) c.args.pair = c.in-Some-pair.ensures.pair ∙ ap (λ x. pair_at (keys x) c.args.pair) kn in
+    let b : c.in_ok-labels.labels.items ≡ body_at G c.in-Some-pair.met.now.rule = c.in_ok-labels.ensures.labels in
+    let n0 : AreNotes A G (keys es) c.in-Some-pair.met.now.states.items c.in_ok-labels.labels.items (reverse c.in_ok-notes.notes.items) = rw kn at c.in_ok-notes.ensures in
+    let n1 : AreNotes A G (keys es) (key_of c.in-Some-pair.met.now).1 (body_at G (key_of c.in-Some-pair.met.now).0) (reverse c.in_ok-notes.notes.items) = rw b at n0 in
+    let n2 : AreNotes A G (keys es) (pair_at (keys es) c.args.pair).1 (body_at G (pair_at (keys es) c.args.pair).0) (reverse c.in_ok-notes.notes.items) = subst (λ (x : RuleStates g.row.A-State.Denot). AreNotes A G (keys es) x.1 (body_at G x.0) (reverse c.in_ok-notes.notes.items)) k n1 in
+    kept-set A G (keys es) c.args.bodies.now.kept.items c.args.pair c.in_ok-notes.notes c.requires.kept n2
+
+pub returns-clause-stays : goal.returns-clause-stays
+returns-clause-stays g c = λ i h. has-set c.args.bodies.now.kept.items c.args.pair c.in_ok-notes.notes i h
+
+pub returns-clause-read : goal.returns-clause-read
+returns-clause-read g c = (c.in_ok-notes.notes, set-there c.args.bodies.now.kept.items c.args.pair _ (let r = c.requires.kept.rows in let t = c.requires.there in omega arith))
+
+pub returns-in_err-labels-clause-reads : goal.returns-in_err-labels-clause-reads
+returns-in_err-labels-clause-reads g c =
+    let G = rules_of c.args.grammar.now.rules in
+    let ks = keys c.args.risen.now.known in
+    let ms = c.args.bodies.now.kept.items in
+    let none : HasBody ms c.args.pair → ⊥ = rw (no_more c.notes.result c.in_default.not-Some) at c.notes.ensures.none in
+    let kn = ap (λ r. r.known) c.risen.view_is in
+    let k : key_of c.in-Some-pair.met.now ≡ pair_at ks c.args.pair = c.in-Some-pair.ensures.pair ∙ ap (λ x. pair_at (keys x) c.args.pair) kn in
+    let n : length (body_at G c.in-Some-pair.met.now.rule) ≡ length (body_at G (pair_at ks c.args.pair).0) = ap (λ (x : RuleStates g.row.A-State.Denot). length (body_at G x.0)) k in
+    let within : c.args.pair < length ms = (let r = c.requires.kept.rows in let t = c.requires.there in omega arith) in
+    let h = c.read_body.ensures.steps in
+    omega (arith, unread-some G ks ms c.args.pair c.requires.there within none)
+
+pub returns-in_err-notes-clause-reads : goal.returns-in_err-notes-clause-reads
+returns-in_err-notes-clause-reads g c =
+    let G = rules_of c.args.grammar.now.rules in
+    let ks = keys c.args.risen.now.known in
+    let ms = c.args.bodies.now.kept.items in
+    let none : HasBody ms c.args.pair → ⊥ = rw (no_more c.notes.result c.in_default.not-Some) at c.notes.ensures.none in
+    let kn = ap (λ r. r.known) c.risen.view_is in
+    let k : key_of c.in-Some-pair.met.now ≡ pair_at ks c.args.pair = c.in-Some-pair.ensures.pair ∙ ap (λ x. pair_at (keys x) c.args.pair) kn in
+    let n : length (body_at G c.in-Some-pair.met.now.rule) ≡ length (body_at G (pair_at ks c.args.pair).0) = ap (λ (x : RuleStates g.row.A-State.Denot). length (body_at G x.0)) k in
+    let within : c.args.pair < length ms = (let r = c.requires.kept.rows in let t = c.requires.there in omega arith) in
+    let h = c.read_body.ensures.steps in
+    omega (arith, unread-some G ks ms c.args.pair c.requires.there within none)
+
+pub returns-clause-reads : goal.returns-clause-reads
+returns-clause-reads g c =
+    let G = rules_of c.args.grammar.now.rules in
+    let ks = keys c.args.risen.now.known in
+    let ms = c.args.bodies.now.kept.items in
+    let none : HasBody ms c.args.pair → ⊥ = rw (no_more c.notes.result c.in_default.not-Some) at c.notes.ensures.none in
+    let kn = ap (λ r. r.known) c.risen.view_is in
+    let k : key_of c.in-Some-pair.met.now ≡ pair_at ks c.args.pair = c.in-Some-pair.ensures.pair ∙ ap (λ x. pair_at (keys x) c.args.pair) kn in
+    let n : length (body_at G c.in-Some-pair.met.now.rule) ≡ length (body_at G (pair_at ks c.args.pair).0) = ap (λ (x : RuleStates g.row.A-State.Denot). length (body_at G x.0)) k in
+    let within : c.args.pair < length ms = (let r = c.requires.kept.rows in let t = c.requires.there in omega arith) in
+    let h = c.read_body.ensures.steps in
+    omega (arith, unread-some G ks ms c.args.pair c.requires.there within none)
+
+pub returns-clause-once : goal.returns-clause-once
+returns-clause-once g c =
+    let G = rules_of c.args.grammar.now.rules in
+    let ks = keys c.args.risen.now.known in
+    let ms = c.args.bodies.now.kept.items in
+    let none : HasBody ms c.args.pair → ⊥ = rw (no_more c.notes.result c.in_default.not-Some) at c.notes.ensures.none in
+    let kn = ap (λ r. r.known) c.risen.view_is in
+    let k : key_of c.in-Some-pair.met.now ≡ pair_at ks c.args.pair = c.in-Some-pair.ensures.pair ∙ ap (λ x. pair_at (keys x) c.args.pair) kn in
+    let n : length (body_at G c.in-Some-pair.met.now.rule) ≡ length (body_at G (pair_at ks c.args.pair).0) = ap (λ (x : RuleStates g.row.A-State.Denot). length (body_at G x.0)) k in
+    let within : c.args.pair < length ms = (let r = c.requires.kept.rows in let t = c.requires.there in omega arith) in
+    let h = c.read_body.ensures.steps in
+    omega (arith, unread-set G ks ms c.args.pair c.in_ok-notes.notes c.requires.there within none)

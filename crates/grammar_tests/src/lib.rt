@@ -17,3 +17,5 @@ mod grammar;
 mod grammar_bytes;
 #[cfg(test)]
 mod numbers;
+#[cfg(test)]
+mod rises;

@@ -19,3 +19,5 @@ mod grammar_bytes;
 mod grammar_reads;
 #[cfg(test)]
 mod numbers;
+#[cfg(test)]
+mod rises;

@@ -18,3 +18,4 @@ pub mod StateCounts
 pub mod HitLines
 pub mod Gathering
 pub mod Asked
+pub mod RiseRooms

@@ -13,7 +13,7 @@ use read_steps::Steps;
 use slt_grammar::Grammar;
 use std::alloc::{AllocError, Global};
 use std::sync::ledger::Ledger;
-use value_cursor::{Cursor, Token};
+use value_cursor::{Cursor, Token, most_open};
 
 // Where a walk along tokens stands: the symbols of the nodes that are open, the innermost last, and how many texts were used.
 #[derive(Drop)]
@@ -61,8 +61,8 @@ impl NodeWalk {
 // So many places for open nodes are enough for a walk from the node with this number. It is refused only for want of memory.
 //
 // Where the value has no more nodes than the rules, as where little repeats, each gets a place: that takes fewer bytes than the
-// rules do, and a walk ahead would double the time. Else there may be far more nodes than memory, so a walk ahead finds how many
-// are open at once.
+// rules do, and no time. Else there may be far more nodes than memory. For the whole document a pass over the rules then finds how
+// many are open at once, and for another node, which may be small, a walk ahead.
 fn enough_places<L: Ledger>(
     alloc: Global,
     store: &Store,
@@ -77,6 +77,9 @@ fn enough_places<L: Ledger>(
     let nodes = store.counts.total();
     if nodes <= store.grammar.size() {
         return Ok(nodes as usize);
+    }
+    if number == 0 {
+        return most_open(alloc, &store.grammar, &store.counts, steps);
     }
     match Cursor::new(alloc, &store.grammar, &store.counts, number, steps)? {
         Some(ahead) => Ok(deepest(&store.grammar, ahead, steps)),

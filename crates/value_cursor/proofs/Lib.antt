@@ -9,3 +9,5 @@ pub mod Going
 pub mod Telling
 pub mod Beginning
 pub mod Subtrees
+pub mod RiseLemmas
+pub mod RuleRises

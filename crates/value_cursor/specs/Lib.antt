@@ -3,3 +3,4 @@ pub mod Tokens
 pub mod Cursors
 pub mod Work
 pub mod Laws
+pub mod Rises

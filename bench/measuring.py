@@ -1,12 +1,15 @@
 """Runs programs and measures them; the scripts of this folder share it."""
 import os
+import re
 import resource
+import statistics
 import subprocess
 import sys
 
 HERE = os.path.dirname(os.path.abspath(__file__))
 TREESTORE = os.path.join(HERE, "..", "treestore")
 LIMIT = 120  # processor seconds, behind which a program is ended
+SHORTEST = 0.2  # seconds of a measurement of a command
 
 
 def limit_time():
@@ -32,3 +35,38 @@ def measure(words, script=b"", folder="."):
     if status != 0:
         sys.exit(f"{words[0]} ended with {status}")
     return output, seconds, memory
+
+
+class Session:
+    """A program that runs in a folder, and does commands one after another."""
+
+    def __init__(self, folder):
+        self.child = subprocess.Popen([TREESTORE], stdin=subprocess.PIPE, stdout=subprocess.PIPE, cwd=folder)
+
+    def do(self, command, times=1):
+        """The last answer to a command whose answer is one line."""
+        self.child.stdin.write(f"{command}\n".encode() * times)
+        self.child.stdin.flush()
+        return [self.child.stdout.readline().decode().rstrip() for _ in range(times)][-1]
+
+    def seconds(self):
+        with open(f"/proc/{self.child.pid}/schedstat") as told:
+            return int(told.read().split()[0]) / 1e9
+
+    def timed(self, command, times):
+        before = self.seconds()
+        self.do(command, times)
+        return self.seconds() - before
+
+    def seconds_of(self, command, runs):
+        """The seconds of a command that was done before."""
+        times = max(1, min(1000, int(SHORTEST / max(self.timed(command, 1), 1e-6))))
+        return statistics.median(self.timed(command, times) / times for _ in range(runs))
+
+    def anonymous(self):
+        """The bytes of its own memory, without those of files that it maps."""
+        with open(f"/proc/{self.child.pid}/status") as status:
+            return int(re.search(r"RssAnon:\s+(\d+)", status.read())[1]) * 1024
+
+    def close(self):
+        self.child.communicate()

@@ -1,0 +1,64 @@
+"""Grammar files, put together of pieces, each with how often it stands there; the scripts of this folder share it."""
+MAGIC, BOTTOM, PARAMETER = b"TGF1", b"\x00", b"\x01"
+DOCUMENT, ELEMENT, ATTRIBUTE, TEXT = range(4)  # kinds of names
+
+
+def number(value):
+    """A number as the file has it."""
+    low = []
+    while value >= 128:
+        low.append(value & 127 | 128)
+        value >>= 7
+    return bytes([*low, value])
+
+
+def name(kind, text=b""):
+    return bytes([kind]) + number(len(text)) + text
+
+
+def symbol(place):
+    return b"\x02" + number(place)
+
+
+def call(rule):
+    return b"\x03" + number(rule)
+
+
+def text(value):
+    return number(len(value)) + value
+
+
+def header(*names):
+    """The front of a file with a document, an element r, and further names, whose places begin at 2."""
+    listed = [name(DOCUMENT), name(ELEMENT, b"r"), *names]
+    return MAGIC + number(len(listed)) + b"".join(listed)
+
+
+def many(count, piece):
+    return [(count, piece)]
+
+
+def each(make, count):
+    """Pieces that differ, each made of its number."""
+    return ((1, make(at)) for at in range(count))
+
+
+ROW = symbol(2) + BOTTOM  # a node with nothing below it, to which its next sibling comes
+LEAF = b"\x01" + ROW + PARAMETER  # a rule of it
+START = b"\x00" + symbol(0) + symbol(1)  # the front of the start rule: r's children come, and then an end
+END = BOTTOM * 3
+NO_TEXTS = number(0)
+
+
+def doublings(count, leaf_name, *texts):
+    """A rule of a node, and rules that each call the one before twice."""
+    rules = each(lambda at: b"\x01" + call(at) * 2 + PARAMETER, count)
+    return [many(1, header(leaf_name) + number(count + 2) + LEAF), rules, START, many(1, call(count)), END, *texts]
+
+
+def write_pieces(path, pieces):
+    """Writes pieces, or bytes that stand there once, or iterators over pieces."""
+    with open(path, "wb") as out:
+        for part in pieces:
+            for count, piece in ((1, part),) if isinstance(part, bytes) else part:
+                out.write(piece * count)

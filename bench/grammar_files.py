@@ -1,4 +1,6 @@
 """Grammar files, put together of pieces, each with how often it stands there; the scripts of this folder share it."""
+import itertools
+
 MAGIC, BOTTOM, PARAMETER = b"TGF1", b"\x00", b"\x01"
 DOCUMENT, ELEMENT, ATTRIBUTE, TEXT = range(4)  # kinds of names
 
@@ -56,9 +58,15 @@ def doublings(count, leaf_name, *texts):
     return [many(1, header(leaf_name) + number(count + 2) + LEAF), rules, START, many(1, call(count)), END, *texts]
 
 
-def write_pieces(path, pieces):
-    """Writes pieces, or bytes that stand there once, or iterators over pieces."""
+def joined(*parts):
+    """The pieces of parts that are pieces, or bytes that stand there once, or iterators over pieces."""
+    return itertools.chain(*(((1, part),) if isinstance(part, bytes) else part for part in parts))
+
+
+def write(path, pieces):
+    """Writes the pieces, never many at once: a program's peak of memory is at least what its caller had."""
     with open(path, "wb") as out:
-        for part in pieces:
-            for count, piece in ((1, part),) if isinstance(part, bytes) else part:
-                out.write(piece * count)
+        for times, piece in pieces:
+            most = max(1, 65_536 // len(piece))
+            for start in range(0, times, most):
+                out.write(piece * min(most, times - start))

@@ -351,9 +351,9 @@ fn read<L: Ledger>(grammar: &Grammar, lower: Key, blank: Blank) -> Reading
 {
     let _rules = grammar.rules();
     let mut steps: Steps<L> = Steps::new(blank);
-    let low = grammar.item(lower, &mut steps);
+    let low = grammar.site(lower, &mut steps);
     let (high, place) = low.parent.unwrap();
-    let up = grammar.item(high, &mut steps);
+    let up = grammar.site(high, &mut steps);
     let rank = (arity_of(grammar, up.label) + arity_of(grammar, low.label)).saturating_sub(1);
     Reading {
         digram: Digram {

@@ -24,5 +24,5 @@ mod uppers;
 
 pub use building::{build, link_all, link_nodes, unlink_all, unlink_nodes};
 pub use index::Index;
-pub use nodes::{arity_of, following, item, link_node, unlink_kids, unlink_node};
+pub use nodes::{arity_of, following, item, link_node, site, unlink_kids, unlink_node};
 pub use slt_grammar::Digram;

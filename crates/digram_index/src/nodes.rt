@@ -13,7 +13,7 @@ ghost use Rattle.digram_index.specs.Partly.{IsPartOf, IsRight};
 
 use crate::index::Index;
 use read_steps::Steps;
-use slt_grammar::{Grammar, Item, Key, Kids, Label};
+use slt_grammar::{Grammar, Item, Key, Kids, Label, Site};
 use std::marker::Brand;
 use std::sync::ledger::{Blank, Ledger};
 
@@ -40,6 +40,29 @@ fn item_of<L: Ledger>(grammar: &Grammar, key: Key, blank: Blank) -> Item
 {
     let mut steps: Steps<L> = Steps::new(blank);
     grammar.item(key, &mut steps)
+}
+
+/// What stands at a node, without the keys of its children.
+pub fn site(grammar: &Grammar, key: Key) -> Site
+    requires { (r : ℕ) × (p : ℕ) × (key_at grammar.now.rules r p ≡ Some key) }
+    ensures node { (r p : ℕ) → key_at grammar.now.rules r p ≡ Some key → slice_get (nodes_at grammar.now.rules r) p
+        ≡ Some (record { key = key; label = result.label; kids = result.arity }) }
+    ensures parent { (r p : ℕ) → key_at grammar.now.rules r p ≡ Some key → parent_in (nodes_at grammar.now.rules r) p ≡ result.parent }
+{
+    site_of::<Brand>(grammar, key, Blank::new(1))
+}
+
+fn site_of<L: Ledger>(grammar: &Grammar, key: Key, blank: Blank) -> Site
+    requires there { (r : ℕ) × (p : ℕ) × (key_at grammar.now.rules r p ≡ Some key) }
+    requires name { blank.name ≡ L.name }
+    requires parts { blank.parts ≡ L.parts }
+    requires some { 0 < blank.parts }
+    ensures node { (r p : ℕ) → key_at grammar.now.rules r p ≡ Some key → slice_get (nodes_at grammar.now.rules r) p
+        ≡ Some (record { key = key; label = result.label; kids = result.arity }) }
+    ensures parent { (r p : ℕ) → key_at grammar.now.rules r p ≡ Some key → parent_in (nodes_at grammar.now.rules r) p ≡ result.parent }
+{
+    let mut steps: Steps<L> = Steps::new(blank);
+    grammar.site(key, &mut steps)
 }
 
 /// The next node of the same body.
@@ -116,8 +139,8 @@ pub(crate) fn is_lower(grammar: &Grammar, key: Key) -> bool
     requires { (r : ℕ) × (p : ℕ) × (key_at grammar.now.rules r p ≡ Some key) }
     ensures { MatchBool result ((o : Cell) × OccursAt grammar.now.rules key o) ((r p : ℕ) → key_at grammar.now.rules r p ≡ Some key → occurrence_at grammar.now.rules r p ≡ None) }
 {
-    let item = item(grammar, key);
-    is_real(item.parent, item.label)
+    let site = site(grammar, key);
+    is_real(site.parent, site.label)
 }
 
 // Whether a node with this parent and this label is the lower node of an occurrence.

@@ -71,10 +71,10 @@ fn list_rule<L: Ledger>(
     let mut walk = TourWalk::new(grammar, rule);
     let mut listing = Listing::new(alloc);
     'stops: loop {
-        let item = grammar.item(walk.key, steps);
-        let part = part_at(names, lists, item.label, walk.part);
-        listing.add(alloc, item.label, part)?;
-        if !walk.advance(grammar, &item, steps) {
+        let site = grammar.site(walk.key, steps);
+        let part = part_at(names, lists, site.label, walk.part);
+        listing.add(alloc, site.label, part)?;
+        if !walk.advance(grammar, &site, steps) {
             return listing.finish();
         }
     }

@@ -155,17 +155,17 @@ pub(crate) fn find_part<L: Ledger>(
     let mut walk = TourWalk::new(grammar, wanted.rule);
     let mut number = wanted.number;
     loop {
-        let item = grammar.item(walk.key, steps);
-        let weight = by.weight(counts, item.label, walk.part);
+        let site = grammar.site(walk.key, steps);
+        let weight = by.weight(counts, site.label, walk.part);
         if number < weight {
             return FoundPart {
                 walk,
-                label: item.label,
+                label: site.label,
                 offset: number,
             };
         }
         number -= weight;
-        if !walk.advance(grammar, &item, steps) {
+        if !walk.advance(grammar, &site, steps) {
             unreachable!()
         }
     }

@@ -102,5 +102,5 @@ pub(crate) fn label_of<L: Ledger>(
         last = Some(level.key);
     }
     let Some(key) = last else { unreachable!() };
-    grammar.item(key, steps).label
+    grammar.site(key, steps).label
 }

@@ -207,8 +207,8 @@ fn edge_above<L: Ledger>(grammar: &Grammar, key: Key, steps: &mut Steps<L>) -> O
     ensures steps { steps.new ≤ steps.old + 2 }
     ensures more { steps.old < steps.new }
 {
-    let (up, place) = grammar.item(key, steps).parent?;
-    let label = grammar.item(up, steps).label;
+    let (up, place) = grammar.site(key, steps).parent?;
+    let label = grammar.site(up, steps).label;
     Some(Edge {
         key: up,
         label,
@@ -251,12 +251,12 @@ fn param_at<L: Ledger>(grammar: &Grammar, rule: usize, number: usize, steps: &mu
     let mut walk = TourWalk::new(grammar, rule);
     let mut passed = 0;
     loop {
-        let item = grammar.item(walk.key, steps);
-        if is_param(item.label, passed, number) {
+        let site = grammar.site(walk.key, steps);
+        if is_param(site.label, passed, number) {
             return walk.key;
         }
-        passed += params_of(item.label);
-        if !walk.advance(grammar, &item, steps) {
+        passed += params_of(site.label);
+        if !walk.advance(grammar, &site, steps) {
             unreachable!()
         }
     }

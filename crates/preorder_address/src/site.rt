@@ -127,10 +127,10 @@ pub(crate) fn pass_to<L: Ledger>(
         if begins_at(&walk, key) {
             return passed;
         }
-        let item = grammar.item(walk.key, steps);
-        passed.weight += part_weight(counts, weigher, item.label, walk.part, args, passed.params);
-        passed.params += params_of(item.label);
-        if !walk.advance(grammar, &item, steps) {
+        let site = grammar.site(walk.key, steps);
+        passed.weight += part_weight(counts, weigher, site.label, walk.part, args, passed.params);
+        passed.params += params_of(site.label);
+        if !walk.advance(grammar, &site, steps) {
             unreachable!()
         }
     }
@@ -187,8 +187,8 @@ fn node_of<L: Ledger>(grammar: &Grammar, key: Key, steps: &mut Steps<L>) -> (Lab
         ≡ Some (record { key = key; label = result.0; kids = result.1 }) }
     ensures step { steps.new ≡ steps.old + 1 }
 {
-    let item = grammar.item(key, steps);
-    (item.label, item.kids.len())
+    let site = grammar.site(key, steps);
+    (site.label, site.arity)
 }
 
 // What a part of a node weighs, where so many parameters stand before it.

@@ -6,7 +6,7 @@ ghost use Rattle.rule_arena.specs.Siblings.{seen, Tied};
 ghost use Rattle.rule_arena.specs.Slots.{KeysFit, Standing, room};
 
 use crate::cell::RawCell;
-use crate::item::Item;
+use crate::item::{Item, Site};
 use crate::key::Key;
 use crate::label::Label;
 use crate::slots::{cell_of, free, kids_of, read, set_kid, set_kids, set_label, set_parent, strip};
@@ -137,6 +137,23 @@ impl Arena {
             label: cell.label(),
             parent: cell.parent(),
             kids: kids_of(&self.slots, cell),
+        }
+    }
+
+    /// What stands at a node, without the keys of its children. One step.
+    pub fn site<L: Ledger>(&self, key: Key, steps: &mut Steps<L>) -> Site
+        requires { At self.now key }
+        ensures node { (x : At self.now key) → slice_get x.nodes x.place
+            ≡ Some (record { key = key; label = result.label; kids = result.arity }) }
+        ensures parent { (x : At self.now key) → parent_in x.nodes x.place ≡ result.parent }
+        ensures few { result.arity ≤ 8 }
+        ensures step { steps.new ≡ steps.old + 1 }
+    {
+        let cell = read(&self.slots, key, steps);
+        Site {
+            label: cell.label(),
+            parent: cell.parent(),
+            arity: cell.count(),
         }
     }
 

@@ -129,12 +129,12 @@ fn count_rule<L: Ledger>(
     let mut walk = TourWalk::new(grammar, rule);
     let mut tallies = Tallies::new();
     'stops: loop {
-        let item = grammar.item(walk.key, steps);
-        let weights = counts.weights(names, item.label, walk.part);
-        if !tallies.add(item.label, weights) {
+        let site = grammar.site(walk.key, steps);
+        let weights = counts.weights(names, site.label, walk.part);
+        if !tallies.add(site.label, weights) {
             return None;
         }
-        if !walk.advance(grammar, &item, steps) {
+        if !walk.advance(grammar, &site, steps) {
             return Some(tallies.row());
         }
     }

@@ -57,7 +57,7 @@ impl<'a> BodyWalk<'a> {
         let key = self.next?;
         // The call tells that a body's places are few.
         let _limit = self.grammar.limit();
-        let label = self.grammar.item(key, steps).label;
+        let label = self.grammar.label(key, steps);
         self.next = self.grammar.next_in_preorder(key, steps);
         self.place += 1;
         Some(label)

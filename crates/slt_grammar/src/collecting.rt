@@ -2,7 +2,7 @@
 ghost use Rattle.std.specs.Prelude.{◌≡◌, ◌≤◌, ℕ, Some, OnOk, IsOk, List, length, slice_get, vec_capacity};
 ghost use Rattle.rule_arena.specs.Terms.{Node, At, IsRoot, term_at};
 
-use crate::reading::{look, pass};
+use crate::reading::{pass, site};
 use crate::shape::Shape;
 use rule_arena::{Arena, Key};
 use std::alloc::AllocError;
@@ -29,11 +29,11 @@ fn shape_of(arena: &Arena, key: Key) -> Shape
     requires { At arena.now key }
     ensures { (x : At arena.now key) → slice_get x.nodes x.place ≡ Some result }
 {
-    let item = look(arena, key);
+    let site = site(arena, key);
     Shape {
         key,
-        label: item.label,
-        kids: item.kids.len(),
+        label: site.label,
+        kids: site.arity,
     }
 }
 

@@ -1,5 +1,5 @@
 // Grammars whose rules lie in an arena.
-ghost use Rattle.std.specs.Prelude.{◌≡◌, ◌+◌, ◌<◌, ℕ, Some, length};
+ghost use Rattle.std.specs.Prelude.{◌≡◌, ◌+◌, ◌<◌, ◌≤◌, ℕ, Some, length};
 
 use crate::bodies::{body_of, rank_of};
 use crate::body_walk::BodyWalk;
@@ -9,7 +9,7 @@ use crate::order::{Order, place_label};
 use crate::rules::Rule;
 use crate::shape::Shape;
 use read_steps::Steps;
-use rule_arena::{Arena, Item, Key, Label};
+use rule_arena::{Arena, Item, Key, Label, Site};
 use std::alloc::{AllocError, Global};
 use std::marker::Model;
 use std::sync::ledger::Ledger;
@@ -152,6 +152,22 @@ impl Grammar {
             label: place_label(&self.order, item.label),
             parent: item.parent,
             kids: item.kids,
+        }
+    }
+
+    /// What stands at a node, without the keys of its children. One step.
+    pub fn site<L: Ledger>(&self, key: Key, steps: &mut Steps<L>) -> Site
+        requires { (r : ℕ) × (p : ℕ) × (key_at self.now.rules r p ≡ Some key) }
+        ensures node { (r p : ℕ) → key_at self.now.rules r p ≡ Some key → slice_get (nodes_at self.now.rules r) p
+            ≡ Some (record { key = key; label = result.label; kids = result.arity }) }
+        ensures parent { (r p : ℕ) → key_at self.now.rules r p ≡ Some key → parent_in (nodes_at self.now.rules r) p ≡ result.parent }
+        ensures few { result.arity ≤ 8 }
+        ensures step { steps.new ≡ steps.old + 1 }
+    {
+        let site = self.arena.site(key, steps);
+        Site {
+            label: place_label(&self.order, site.label),
+            ..site
         }
     }
 

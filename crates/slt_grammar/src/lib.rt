@@ -54,7 +54,7 @@ pub use laws::{
     substitutions_compose, tours_spell_values, values_are_linear,
 };
 pub use level::Level;
-pub use rule_arena::{Item, Key, Kids, Label};
+pub use rule_arena::{Item, Key, Kids, Label, Site};
 pub use rules::{Body, Rule, RuleList};
 pub use tour_walk::TourWalk;
 pub use way::Way;

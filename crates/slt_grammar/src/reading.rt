@@ -7,7 +7,7 @@ ghost use Rattle.slt_grammar.specs.Placing.{placed_label, AreKnown};
 
 use crate::order::{Order, place_label};
 use read_steps::Steps;
-use rule_arena::{Arena, Item, Key, Label};
+use rule_arena::{Arena, Item, Key, Label, Site};
 use std::marker::Brand;
 use std::sync::ledger::{Blank, Ledger};
 
@@ -32,6 +32,27 @@ fn look_on<L: Ledger>(arena: &Arena, key: Key, blank: Blank) -> Item
 {
     let mut steps: Steps<L> = Steps::new(blank);
     arena.item(key, &mut steps)
+}
+
+// What stands at a node, without the keys of its children.
+pub(crate) fn site(arena: &Arena, key: Key) -> Site
+    requires { At arena.now key }
+    ensures node { (x : At arena.now key) → slice_get x.nodes x.place ≡ Some (record { key = key; label = result.label; kids = result.arity }) }
+    ensures parent { (x : At arena.now key) → parent_in x.nodes x.place ≡ result.parent }
+{
+    site_on::<Brand>(arena, key, Blank::new(1))
+}
+
+fn site_on<L: Ledger>(arena: &Arena, key: Key, blank: Blank) -> Site
+    requires name { blank.name ≡ L.name }
+    requires parts { blank.parts ≡ L.parts }
+    requires some { 0 < blank.parts }
+    requires there { At arena.now key }
+    ensures node { (x : At arena.now key) → slice_get x.nodes x.place ≡ Some (record { key = key; label = result.label; kids = result.arity }) }
+    ensures parent { (x : At arena.now key) → parent_in x.nodes x.place ≡ result.parent }
+{
+    let mut steps: Steps<L> = Steps::new(blank);
+    arena.site(key, &mut steps)
 }
 
 // The label of a node, and the next node in preorder.
@@ -70,7 +91,7 @@ pub(crate) fn parent_of(arena: &Arena, key: Key) -> Key
     requires { (x : At arena.now key) × (up : Key) × (i : ℕ) × (parent_in x.nodes x.place ≡ Some (up, i)) }
     ensures { (x : At arena.now key) (up : Key) (i : ℕ) → parent_in x.nodes x.place ≡ Some (up, i) → result ≡ up }
 {
-    look(arena, key).parent.unwrap().0
+    site(arena, key).parent.unwrap().0
 }
 
 // Writes the children of a node, and answers how many there are.
@@ -95,7 +116,7 @@ pub(crate) fn is_root(arena: &Arena, key: Key) -> bool
 {
     // The call tells that these are terms.
     let _limit = arena.limit();
-    look(arena, key).parent.is_none()
+    site(arena, key).parent.is_none()
 }
 
 // The place of the rule that a node calls.

@@ -8,7 +8,7 @@ ghost use Rattle.slt_grammar.specs.TourWalks.{StandsBefore, StandsBehindSkipped,
 
 use crate::grammar::Grammar;
 use read_steps::Steps;
-use rule_arena::{Item, Key};
+use rule_arena::{Key, Site};
 use std::sync::ledger::Ledger;
 
 /// A walk that stops at each node once before its children, and once behind each of them, in document order. It takes no memory.
@@ -36,25 +36,25 @@ impl TourWalk {
         }
     }
 
-    /// Goes to the next stop, or answers false where this was the last one. `item` is what stands at the walk's node. At most one
+    /// Goes to the next stop, or answers false where this was the last one. `site` is what stands at the walk's node. At most one
     /// step.
     pub fn advance<L: Ledger>(
         &mut self,
         grammar: &Grammar,
-        item: &Item,
+        site: &Site,
         steps: &mut Steps<L>,
     ) -> bool
         requires there { (r : ℕ) × (left : List (Stop Node)) × StandsBefore grammar.now.rules r self.old left }
         requires node { (r p : ℕ) → key_at grammar.now.rules r p ≡ Some self.old.key → slice_get (nodes_at grammar.now.rules r) p
-            ≡ Some (record { key = self.old.key; label = item.now.label; kids = length item.now.kids }) }
-        requires parent { (r p : ℕ) → key_at grammar.now.rules r p ≡ Some self.old.key → parent_in (nodes_at grammar.now.rules r) p ≡ item.now.parent }
+            ≡ Some (record { key = self.old.key; label = site.now.label; kids = site.now.arity }) }
+        requires parent { (r p : ℕ) → key_at grammar.now.rules r p ≡ Some self.old.key → parent_in (nodes_at grammar.now.rules r) p ≡ site.now.parent }
         ensures next { (r : ℕ) (here : Stop Node) (left : List (Stop Node)) → StandsBefore grammar.now.rules r self.old (here ∷ left)
             → StandsNext result grammar.now.rules r self.new left }
         ensures step { steps.new ≤ steps.old + 1 }
         ensures more { steps.old ≤ steps.new }
     {
-        if self.part >= item.kids.len() {
-            if let Some((key, part)) = item.parent {
+        if self.part >= site.arity {
+            if let Some((key, part)) = site.parent {
                 self.key = key;
                 self.part = part;
                 return true;

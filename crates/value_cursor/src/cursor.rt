@@ -174,8 +174,8 @@ impl Cursor {
             return;
         }
         let RuleStop { rule, mut walk } = stop;
-        let item = grammar.item(walk.key, steps);
-        if walk.advance(grammar, &item, steps) {
+        let site = grammar.site(walk.key, steps);
+        if walk.advance(grammar, &site, steps) {
             self.here = Some(RuleStop { rule, walk });
         } else {
             self.leave(grammar, steps);
@@ -212,8 +212,8 @@ impl Cursor {
         ensures work { work_of grammar.now.rules self.new ≤ work_at grammar.now.rules None self.old.calls.items }
     {
         while let Some(RuleStop { rule, mut walk }) = self.calls.pop() {
-            let item = grammar.item(walk.key, steps);
-            if walk.advance(grammar, &item, steps) {
+            let site = grammar.site(walk.key, steps);
+            if walk.advance(grammar, &site, steps) {
                 self.here = Some(RuleStop { rule, walk });
                 return;
             }

@@ -27,9 +27,9 @@ pub(crate) fn segment_start<L: Ledger>(
     // How many parameters are still before the segment.
     let mut params = part;
     while params > 0 {
-        let item = grammar.item(walk.key, steps);
-        params = params_behind(item.label, params);
-        if !walk.advance(grammar, &item, steps) {
+        let site = grammar.site(walk.key, steps);
+        params = params_behind(site.label, params);
+        if !walk.advance(grammar, &site, steps) {
             return None;
         }
     }

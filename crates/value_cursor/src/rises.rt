@@ -74,10 +74,10 @@ fn rises_of<L: Ledger>(
     let mut walk = TourWalk::new(grammar, rule);
     let mut rising = Rising::new();
     'stops: loop {
-        let item = grammar.item(walk.key, steps);
-        let passed = passed_at(counts, rows, item.label, walk.part);
-        rising.pass(item.label, passed);
-        if !walk.advance(grammar, &item, steps) {
+        let site = grammar.site(walk.key, steps);
+        let passed = passed_at(counts, rows, site.label, walk.part);
+        rising.pass(site.label, passed);
+        if !walk.advance(grammar, &site, steps) {
             return rising.most;
         }
     }

@@ -1,4 +1,4 @@
-use Rattle.std.proofs.Common.{◌≡◌, ℕ, length, Option, IsSome, refl, ap, sym, ◌∙◌, subst, arith}
+use Rattle.std.proofs.Common.{◌≡◌, ℕ, Option, IsSome, refl, ap, sym, ◌∙◌, subst, arith}
 use Rattle.rule_arena.specs.declared.key.Key.{Key}
 use Rattle.rule_arena.specs.declared.label.Label.{Label}
 use Rattle.slt_grammar.specs.Keyed.{nodes_at}
@@ -21,36 +21,36 @@ pub unwrap-high-requires : goal.unwrap-high-requires
 unwrap-high-requires g c =
     let o = c.requires.occurs.0 in
     let O = c.requires.occurs.1 in
-    let R = reads c.args.grammar.now.rules O.rule O.place o (record { key = c.args.lower; label = c.item-low.result.label; kids = length c.item-low.result.kids }) c.item-low.result.parent O.here (c.item-low.ensures.node O.rule O.place O.there) (c.item-low.ensures.parent O.rule O.place O.there) in
+    let R = reads c.args.grammar.now.rules O.rule O.place o (record { key = c.args.lower; label = c.site-low.result.label; kids = c.site-low.result.arity }) c.site-low.result.parent O.here (c.site-low.ensures.node O.rule O.place O.there) (c.site-low.ensures.parent O.rule O.place O.there) in
     subst (λ (p : Option (Key × ℕ)). IsSome p) (sym R.above) refl
 
-pub item-up-requires : goal.item-up-requires
-item-up-requires g c =
+pub site-up-requires : goal.site-up-requires
+site-up-requires g c =
     let o = c.requires.occurs.0 in
     let O = c.requires.occurs.1 in
-    let R = reads c.args.grammar.now.rules O.rule O.place o (record { key = c.args.lower; label = c.item-low.result.label; kids = length c.item-low.result.kids }) c.item-low.result.parent O.here (c.item-low.ensures.node O.rule O.place O.there) (c.item-low.ensures.parent O.rule O.place O.there) in
-    (O.rule, R.place, up-key c.args.grammar.now.rules O.rule R.place R.up.key R.child c.unwrap-high.result c.item-low.result.parent R.above c.unwrap-high.ensures R.key)
+    let R = reads c.args.grammar.now.rules O.rule O.place o (record { key = c.args.lower; label = c.site-low.result.label; kids = c.site-low.result.arity }) c.site-low.result.parent O.here (c.site-low.ensures.node O.rule O.place O.there) (c.site-low.ensures.parent O.rule O.place O.there) in
+    (O.rule, R.place, up-key c.args.grammar.now.rules O.rule R.place R.up.key R.child c.unwrap-high.result c.site-low.result.parent R.above c.unwrap-high.ensures R.key)
 
 pub returns-clause-told : goal.returns-clause-told
 returns-clause-told g c = λ o O.
-    let R = reads c.args.grammar.now.rules O.rule O.place o (record { key = c.args.lower; label = c.item-low.result.label; kids = length c.item-low.result.kids }) c.item-low.result.parent O.here (c.item-low.ensures.node O.rule O.place O.there) (c.item-low.ensures.parent O.rule O.place O.there) in
-    let k = up-key c.args.grammar.now.rules O.rule R.place R.up.key R.child c.unwrap-high.result c.item-low.result.parent R.above c.unwrap-high.ensures R.key in
-    let u = up-pair R.up.key R.child c.unwrap-high.result c.item-low.result.parent R.above c.unwrap-high.ensures in
-    let l = up-label (nodes_at c.args.grammar.now.rules O.rule) R.place R.up (record { key = c.unwrap-high.result.0; label = c.item-up.result.label; kids = length c.item-up.result.kids }) R.node (c.item-up.ensures.node O.rule R.place k) in
-    let rank : joint_rank (ranks_of (rules_of c.args.grammar.now.rules)) c.item-up.result.label c.item-low.result.label ≡ c.saturating_sub-rank.result = let x = c.arity_of.ensures.value in let y = c.arity_of-2.ensures.value in let z = c.saturating_sub-rank.ensures in omega arith in
-    R.told ∙ ap (λ (m : Label). record { digram = record { upper = m; place = R.child; lower = c.item-low.result.label }; rank = joint_rank (ranks_of (rules_of c.args.grammar.now.rules)) m c.item-low.result.label; upper = R.up.key.number }) l
-    ∙ ap (λ (v : Key × ℕ). record { digram = record { upper = c.item-up.result.label; place = v.1; lower = c.item-low.result.label }; rank = joint_rank (ranks_of (rules_of c.args.grammar.now.rules)) c.item-up.result.label c.item-low.result.label; upper = v.0.number }) u
-    ∙ ap (λ (x : ℕ). record { digram = record { upper = c.item-up.result.label; place = c.unwrap-high.result.1; lower = c.item-low.result.label }; rank = x; upper = c.unwrap-high.result.0.number }) rank
+    let R = reads c.args.grammar.now.rules O.rule O.place o (record { key = c.args.lower; label = c.site-low.result.label; kids = c.site-low.result.arity }) c.site-low.result.parent O.here (c.site-low.ensures.node O.rule O.place O.there) (c.site-low.ensures.parent O.rule O.place O.there) in
+    let k = up-key c.args.grammar.now.rules O.rule R.place R.up.key R.child c.unwrap-high.result c.site-low.result.parent R.above c.unwrap-high.ensures R.key in
+    let u = up-pair R.up.key R.child c.unwrap-high.result c.site-low.result.parent R.above c.unwrap-high.ensures in
+    let l = up-label (nodes_at c.args.grammar.now.rules O.rule) R.place R.up (record { key = c.unwrap-high.result.0; label = c.site-up.result.label; kids = c.site-up.result.arity }) R.node (c.site-up.ensures.node O.rule R.place k) in
+    let rank : joint_rank (ranks_of (rules_of c.args.grammar.now.rules)) c.site-up.result.label c.site-low.result.label ≡ c.saturating_sub-rank.result = let x = c.arity_of.ensures.value in let y = c.arity_of-2.ensures.value in let z = c.saturating_sub-rank.ensures in omega arith in
+    R.told ∙ ap (λ (m : Label). record { digram = record { upper = m; place = R.child; lower = c.site-low.result.label }; rank = joint_rank (ranks_of (rules_of c.args.grammar.now.rules)) m c.site-low.result.label; upper = R.up.key.number }) l
+    ∙ ap (λ (v : Key × ℕ). record { digram = record { upper = c.site-up.result.label; place = v.1; lower = c.site-low.result.label }; rank = joint_rank (ranks_of (rules_of c.args.grammar.now.rules)) c.site-up.result.label c.site-low.result.label; upper = v.0.number }) u
+    ∙ ap (λ (x : ℕ). record { digram = record { upper = c.site-up.result.label; place = c.unwrap-high.result.1; lower = c.site-low.result.label }; rank = x; upper = c.unwrap-high.result.0.number }) rank
 
 pub returns-clause-upper : goal.returns-clause-upper
 returns-clause-upper g c = λ q e.
     let o = c.requires.occurs.0 in
     let O = c.requires.occurs.1 in
-    let R = reads c.args.grammar.now.rules O.rule O.place o (record { key = c.args.lower; label = c.item-low.result.label; kids = length c.item-low.result.kids }) c.item-low.result.parent O.here (c.item-low.ensures.node O.rule O.place O.there) (c.item-low.ensures.parent O.rule O.place O.there) in
-    let k = up-key c.args.grammar.now.rules O.rule R.place R.up.key R.child c.unwrap-high.result c.item-low.result.parent R.above c.unwrap-high.ensures R.key in
-    call-there c.args.grammar.now.rules c.rules-rules.ensures.grammar O.rule R.place q c.unwrap-high.result.0 (record { key = c.unwrap-high.result.0; label = c.item-up.result.label; kids = length c.item-up.result.kids }) k (c.item-up.ensures.node O.rule R.place k) e
+    let R = reads c.args.grammar.now.rules O.rule O.place o (record { key = c.args.lower; label = c.site-low.result.label; kids = c.site-low.result.arity }) c.site-low.result.parent O.here (c.site-low.ensures.node O.rule O.place O.there) (c.site-low.ensures.parent O.rule O.place O.there) in
+    let k = up-key c.args.grammar.now.rules O.rule R.place R.up.key R.child c.unwrap-high.result c.site-low.result.parent R.above c.unwrap-high.ensures R.key in
+    call-there c.args.grammar.now.rules c.rules-rules.ensures.grammar O.rule R.place q c.unwrap-high.result.0 (record { key = c.unwrap-high.result.0; label = c.site-up.result.label; kids = c.site-up.result.arity }) k (c.site-up.ensures.node O.rule R.place k) e
 
 pub returns-clause-lower : goal.returns-clause-lower
 returns-clause-lower g c = λ q e.
     let O = c.requires.occurs.1 in
-    call-there c.args.grammar.now.rules c.rules-rules.ensures.grammar O.rule O.place q c.args.lower (record { key = c.args.lower; label = c.item-low.result.label; kids = length c.item-low.result.kids }) O.there (c.item-low.ensures.node O.rule O.place O.there) e
+    call-there c.args.grammar.now.rules c.rules-rules.ensures.grammar O.rule O.place q c.args.lower (record { key = c.args.lower; label = c.site-low.result.label; kids = c.site-low.result.arity }) O.there (c.site-low.ensures.node O.rule O.place O.there) e

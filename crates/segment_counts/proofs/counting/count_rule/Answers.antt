@@ -1,4 +1,4 @@
-use Rattle.std.proofs.Common.{◌∷◌, arith, length, refl}
+use Rattle.std.proofs.Common.{◌∷◌, arith, refl}
 use Rattle.rule_arena.specs.Terms.{Node}
 use Rattle.slt_grammar.proofs.TourWalking.{node-here}
 use Rattle.segment_counts.proofs.Tallying.{tallied-start, place-few, too-many, tallied-next, row-is, nodes-few}
@@ -10,8 +10,8 @@ stops-init g c =
     let e = c.new-tallies.ensures in
     tallied-start a.names.now a.grammar.now c.requires.keyed a.rule c.requires.rule c.new-walk.result c.new-tallies.result a.steps.now c.new-walk.ensures.stands e.sums e.width e.at e.total
 
-pub item-item-requires : goal.item-item-requires
-item-item-requires g c =
+pub site-site-requires : goal.site-site-requires
+site-site-requires g c =
     let i = c.stops.invariant in
     (c.args.rule, i.stands.place, node-here c.args.grammar.now.rules c.args.rule c.stops.walk (i.here ∷ i.left) i.stands)
 
@@ -19,34 +19,34 @@ pub add-requires-clause-at : goal.add-requires-clause-at
 add-requires-clause-at g c =
     let a = c.args in
     let i = c.stops.invariant in
-    let x : Node = record { key = c.stops.walk.key; label = c.item-item.result.label; kids = length c.item-item.result.kids } in
-    place-few a.names.now a.grammar.now c.requires.keyed a.rule c.requires.rule a.counts.now.rows c.requires.counts c.stops.walk c.stops.tallies a.steps.now c.stops.steps i x c.item-item.ensures.node c.weights-weights.result c.weights-weights.ensures
+    let x : Node = record { key = c.stops.walk.key; label = c.site-site.result.label; kids = c.site-site.result.arity } in
+    place-few a.names.now a.grammar.now c.requires.keyed a.rule c.requires.rule a.counts.now.rows c.requires.counts c.stops.walk c.stops.tallies a.steps.now c.stops.steps i x c.site-site.ensures.node c.weights-weights.result c.weights-weights.ensures
 
 pub returns-then-not-add-clause-many : goal.returns-then-not-add-clause-many
 returns-then-not-add-clause-many g c =
     let a = c.args in
     let i = c.stops.invariant in
-    let x : Node = record { key = c.stops.walk.key; label = c.item-item.result.label; kids = length c.item-item.result.kids } in
-    too-many a.names.now a.grammar.now c.requires.keyed a.rule c.requires.rule a.counts.now.rows c.requires.counts c.stops.walk c.stops.tallies a.steps.now c.stops.steps i x c.item-item.ensures.node c.weights-weights.result c.weights-weights.ensures (c.if-not-add.ensures.many refl)
+    let x : Node = record { key = c.stops.walk.key; label = c.site-site.result.label; kids = c.site-site.result.arity } in
+    too-many a.names.now a.grammar.now c.requires.keyed a.rule c.requires.rule a.counts.now.rows c.requires.counts c.stops.walk c.stops.tallies a.steps.now c.stops.steps i x c.site-site.ensures.node c.weights-weights.result c.weights-weights.ensures (c.if-not-add.ensures.many refl)
 
 pub returns-then-not-advance-clause-row : goal.returns-then-not-advance-clause-row
 returns-then-not-advance-clause-row g c =
     let a = c.args in
     let i = c.stops.invariant in
-    let x : Node = record { key = c.stops.walk.key; label = c.item-item.result.label; kids = length c.item-item.result.kids } in
-    row-is a.names.now a.grammar.now c.requires.keyed a.rule c.requires.rule a.counts.now.rows c.requires.counts c.stops.walk c.stops.tallies a.steps.now c.stops.steps i x c.item-item.ensures.node c.weights-weights.result c.weights-weights.ensures c.add.new.self (c.if-not-add.ensures.adds refl) (c.if-not-advance.ensures.next a.rule i.here i.left i.stands) c.row.result c.row.ensures
+    let x : Node = record { key = c.stops.walk.key; label = c.site-site.result.label; kids = c.site-site.result.arity } in
+    row-is a.names.now a.grammar.now c.requires.keyed a.rule c.requires.rule a.counts.now.rows c.requires.counts c.stops.walk c.stops.tallies a.steps.now c.stops.steps i x c.site-site.ensures.node c.weights-weights.result c.weights-weights.ensures c.add.new.self (c.if-not-add.ensures.adds refl) (c.if-not-advance.ensures.next a.rule i.here i.left i.stands) c.row.result c.row.ensures
 
 pub returns-then-not-advance-clause-few : goal.returns-then-not-advance-clause-few
 returns-then-not-advance-clause-few g c =
     let a = c.args in
     let i = c.stops.invariant in
-    let x : Node = record { key = c.stops.walk.key; label = c.item-item.result.label; kids = length c.item-item.result.kids } in
-    nodes-few a.names.now a.grammar.now c.requires.keyed a.rule c.requires.rule a.counts.now.rows c.requires.counts c.stops.walk c.stops.tallies a.steps.now c.stops.steps i x c.item-item.ensures.node c.weights-weights.result c.weights-weights.ensures c.add.new.self (c.if-not-add.ensures.adds refl) (c.if-not-advance.ensures.next a.rule i.here i.left i.stands) (c.if-not-add.ensures.small refl)
+    let x : Node = record { key = c.stops.walk.key; label = c.site-site.result.label; kids = c.site-site.result.arity } in
+    nodes-few a.names.now a.grammar.now c.requires.keyed a.rule c.requires.rule a.counts.now.rows c.requires.counts c.stops.walk c.stops.tallies a.steps.now c.stops.steps i x c.site-site.ensures.node c.weights-weights.result c.weights-weights.ensures c.add.new.self (c.if-not-add.ensures.adds refl) (c.if-not-advance.ensures.next a.rule i.here i.left i.stands) (c.if-not-add.ensures.small refl)
 
 pub stops-preserved : goal.stops-preserved
 stops-preserved g c =
     let a = c.args in
     let i = c.stops.invariant in
-    let x : Node = record { key = c.stops.walk.key; label = c.item-item.result.label; kids = length c.item-item.result.kids } in
-    tallied-next a.names.now a.grammar.now c.requires.keyed a.rule c.requires.rule a.counts.now.rows c.requires.counts c.stops.walk c.stops.tallies a.steps.now c.stops.steps i x c.item-item.ensures.node c.weights-weights.result c.weights-weights.ensures c.add.new.self (c.if-not-add.ensures.adds refl) c.advance.new.self c.advance.new.steps (c.if-not-advance.ensures.next a.rule i.here i.left i.stands) (c.if-not-add.ensures.small refl)
-    (omega (arith, c.item-item.ensures.step, c.advance.ensures.step))
+    let x : Node = record { key = c.stops.walk.key; label = c.site-site.result.label; kids = c.site-site.result.arity } in
+    tallied-next a.names.now a.grammar.now c.requires.keyed a.rule c.requires.rule a.counts.now.rows c.requires.counts c.stops.walk c.stops.tallies a.steps.now c.stops.steps i x c.site-site.ensures.node c.weights-weights.result c.weights-weights.ensures c.add.new.self (c.if-not-add.ensures.adds refl) c.advance.new.self c.advance.new.steps (c.if-not-advance.ensures.next a.rule i.here i.left i.stands) (c.if-not-add.ensures.small refl)
+    (omega (arith, c.site-site.ensures.step, c.advance.ensures.step))

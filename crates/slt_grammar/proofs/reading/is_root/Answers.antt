@@ -5,4 +5,4 @@ use Rattle.slt_grammar.proofs.reading.is_root.Goals as goal
 
 pub returns : goal.returns
 returns c = λ x.
-    none-root x.nodes x.place x.place c.look.result.parent c.is_none.result (c.limit-limit.ensures.sound.term x.root x.nodes x.stands) (key_in-within x.nodes x.place c.args.key x.there) (c.look.ensures.parent x) refl c.is_none.ensures
+    none-root x.nodes x.place x.place c.site.result.parent c.is_none.result (c.limit-limit.ensures.sound.term x.root x.nodes x.stands) (key_in-within x.nodes x.place c.args.key x.there) (c.site.ensures.parent x) refl c.is_none.ensures

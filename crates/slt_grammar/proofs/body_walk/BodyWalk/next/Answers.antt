@@ -1,4 +1,4 @@
-use Rattle.std.proofs.Common.{◌≡◌, [], length, arith, ◌∙◌, sym}
+use Rattle.std.proofs.Common.{◌≡◌, [], arith, ◌∙◌, sym}
 use Rattle.slt_grammar.proofs.Walking.{labels_from-node, labels_from-end, place-few}
 use Rattle.slt_grammar.proofs.body_walk.BodyWalk.next.Goals as goal
 
@@ -16,6 +16,6 @@ overflow_add-self g c =
 pub returns-clause-label : goal.returns-clause-label
 returns-clause-label g c =
     let w = c.self.inside in
+    let found = c.label-label.ensures.node w.rule w.place (c.self.invariant ∙ c.in_ok-key.was) in
     sym c.self.view_is
-    ∙ labels_from-node w.grammar.now.rules w.rule w.place (record { key = c.in_ok-key.key; label = c.item-label.result.label; kids = length c.item-label.result.kids })
-    (c.item-label.ensures.node w.rule w.place (c.self.invariant ∙ c.in_ok-key.was))
+    ∙ labels_from-node w.grammar.now.rules w.rule w.place (record { key = c.in_ok-key.key; label = c.label-label.result; kids = found.0 }) found.1

@@ -9,8 +9,8 @@ use Rattle.value_cursor.proofs.cursor.Cursor.leave.Goals as goal
 pub loop-rule-init : goal.loop-rule-init
 loop-rule-init g c = record { stops = c.requires.stops; left = refl; work = omega arith; room = refl; opened = refl }
 
-pub item-item-requires : goal.item-item-requires
-item-item-requires g c =
+pub site-site-requires : goal.site-site-requires
+site-site-requires g c =
     let G = c.args.grammar.now in
     let a = subst (λ (ss : List RuleStop). AreStops G.rules (length G.rules) ss) c.in-Some.ensures.items c.loop-rule.invariant.stops in
     last-key G c.requires.keyed c.pop.new.self.items c.in-Some.field-0 a

@@ -5,8 +5,8 @@ use Rattle.value_cursor.proofs.CallLemmas.{stops-front}
 use Rattle.value_cursor.proofs.Leaving.{last-key, last-stands, moved-left, moved-stops, moved-work, none-left, some-work}
 use Rattle.value_cursor.proofs.cursor.Cursor.pass.Goals as goal
 
-pub item-item-requires : goal.item-item-requires
-item-item-requires g c = last-key c.args.grammar.now c.requires.keyed c.args.self.now.calls.items c.args.stop c.requires.stops
+pub site-site-requires : goal.site-site-requires
+site-site-requires g c = last-key c.args.grammar.now c.requires.keyed c.args.self.now.calls.items c.args.stop c.requires.stops
 
 pub advance-requires-clause-there : goal.advance-requires-clause-there
 advance-requires-clause-there g c = last-stands c.args.grammar.now c.requires.keyed c.args.self.now.calls.items c.args.stop c.requires.stops

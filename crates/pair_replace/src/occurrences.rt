@@ -4,7 +4,7 @@ ghost use Rattle.digram_index.specs.Digrams.{Cell, OccursAt};
 ghost use Rattle.digram_index.specs.Keeping.{AreOccurrences};
 ghost use Rattle.pair_replace.specs.Chains.{IsHead, IsLinkedAs};
 
-use digram_index::{Index, item};
+use digram_index::{Index, item, site};
 use slt_grammar::{Digram, Grammar, Key};
 
 // An occurrence to fold next, by its lower node: its upper node is the lower node of no other. None exactly where there is none.
@@ -64,9 +64,9 @@ fn read(grammar: &Grammar, lower: Key) -> (Digram, Key)
     ensures digram { (o : Cell) → OccursAt grammar.now.rules lower o → o.digram ≡ result.0 }
     ensures upper { (o : Cell) → OccursAt grammar.now.rules lower o → o.upper ≡ result.1.number }
 {
-    let low = item(grammar, lower);
+    let low = site(grammar, lower);
     let (high, place) = low.parent.unwrap();
-    let up = item(grammar, high);
+    let up = site(grammar, high);
     let digram = Digram {
         upper: up.label,
         place,

@@ -4,7 +4,7 @@ ghost use Rattle.rule_arena.specs.Terms.{Node, kids_in, parent_in};
 ghost use Rattle.slt_grammar.specs.Keyed.{key_at, nodes_at};
 ghost use Rattle.rule_pruning.specs.Copies.{end_of};
 
-use digram_index::item;
+use digram_index::{item, site};
 use slt_grammar::{Grammar, Key, Kids, Label};
 
 // The next node of the same body that does not stand below a node.
@@ -31,7 +31,7 @@ pub(crate) fn label_of(grammar: &Grammar, key: Key) -> Label
     requires { (r : ℕ) × (p : ℕ) × (key_at grammar.now.rules r p ≡ Some key) }
     ensures { (r p : ℕ) (n : Node) → slice_get (nodes_at grammar.now.rules r) p ≡ Some n → n.key ≡ key → n.label ≡ result }
 {
-    item(grammar, key).label
+    site(grammar, key).label
 }
 
 // The children of a node.
@@ -47,7 +47,7 @@ fn parent_of(grammar: &Grammar, key: Key) -> Option<(Key, usize)>
     requires { (r : ℕ) × (p : ℕ) × (key_at grammar.now.rules r p ≡ Some key) }
     ensures { (r p : ℕ) → key_at grammar.now.rules r p ≡ Some key → parent_in (nodes_at grammar.now.rules r) p ≡ result }
 {
-    item(grammar, key).parent
+    site(grammar, key).parent
 }
 
 // The child of a node at a place from 0 on.

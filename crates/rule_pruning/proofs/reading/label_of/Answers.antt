@@ -8,4 +8,4 @@ use Rattle.rule_pruning.proofs.reading.label_of.Goals as goal
 pub returns : goal.returns
 returns c = λ r p n e k.
     let there = key_of_node (nodes_at c.args.grammar.now.rules r) p n e ∙ ap Some k in
-    ap (λ (x : Node). x.label) (same_some n _ (sym e ∙ c.item.ensures.node r p there))
+    ap (λ (x : Node). x.label) (same_some n _ (sym e ∙ c.site.ensures.node r p there))

@@ -1,6 +1,6 @@
 -- What is read of an occurrence.
-use Rattle.std.proofs.Common.{◌≡◌, ◌<◌, ℕ, zero, suc, List, [], ◌∷◌, length, get_or, Option, Some, None, slice_get, refl, ap, sym, ◌∙◌, subst, arith}
-use Rattle.rule_arena.specs.Terms.{Node, parent_in}
+use Rattle.std.proofs.Common.{◌≡◌, ◌<◌, ◌≤◌, ℕ, zero, suc, List, [], ◌∷◌, length, get_or, Option, Some, None, slice_get, refl, ap, sym, ◌∙◌, subst, arith}
+use Rattle.rule_arena.specs.Terms.{Node, kids_in, parent_in}
 use Rattle.rule_arena.specs.declared.key.Key.{Key}
 use Rattle.rule_arena.specs.declared.label.Label.{Label}
 use Rattle.rule_arena.specs.declared.label.Label.TheVariants.{Bottom, Symbol, Call, Param}
@@ -8,10 +8,13 @@ use Rattle.rule_arena.proofs.NodeLemmas.{key_of_node}
 use Rattle.slt_grammar.specs.Algebras.{ranks_of}
 use Rattle.slt_grammar.specs.Bodies.{CallsBelow}
 use Rattle.slt_grammar.specs.Grammars.{IsGrammar, rank_at, body_at}
-use Rattle.slt_grammar.specs.Keyed.{KeyedRule, rules_of, nodes_at, key_at}
+use Rattle.slt_grammar.specs.Keyed.{Keyed, IsKeyed, KeyedRule, rules_of, nodes_at, key_at}
 use Rattle.slt_grammar.specs.declared.rules.Rule.{Rule}
-use Rattle.slt_grammar.proofs.KeyedLemmas.{label-there, key_at-within, length-rules_of}
+use Rattle.slt_grammar.proofs.KeyedLemmas.{label-there, nodes-are-term, key_at-within, length-rules_of}
 use Rattle.digram_index.specs.Digrams.{Cell, parent_node, joint_rank, occurrence_under, occurrence_below, occurrence_at}
+use Rattle.rule_arena.proofs.ChildLemmas.{length-kids}
+use Rattle.std.proofs.lemmas.Option.{slice_get_within}
+use Rattle.digram_index.proofs.Kids.{child-of}
 use Rattle.digram_index.proofs.ParentLemmas.{keyed_place, parent-key, parent-there}
 
 pub rank-arity : (G : List Rule) (q : ℕ) → get_or (ranks_of G) q 0 ≡ rank_at G q
@@ -94,3 +97,15 @@ up-key G r q k child v parent a b e = e ∙ ap (λ (u : Key × ℕ). Some u.0) (
 
 pub up-label : (ns : List Node) (q : ℕ) (m n : Node) → slice_get ns q ≡ Some m → slice_get ns q ≡ Some n → m.label ≡ n.label
 up-label ns q m n a b = let z : Some m ≡ Some n = sym a ∙ b in let w : m ≡ n = cc in ap (λ (x : Node). x.label) w
+
+-- a node's place under its parent is one of the parent's children
+pub place-few : (g : Keyed) → IsKeyed g → (r p : ℕ) (key : Key) (v : Key × ℕ) (l : Label) (n : ℕ) → key_at g.rules r p ≡ Some key → parent_in (nodes_at g.rules r) p ≡ Some v → n ≤ 8
+    → ((q : ℕ) → key_at g.rules r q ≡ Some v.0 → slice_get (nodes_at g.rules r) q ≡ Some (record { key = v.0; label = l; kids = n })) → v.1 ≤ 8
+place-few g K r p key v l n there above few node =
+    let ns = nodes_at g.rules r in
+    let t = nodes-are-term g K r (key_at-within g.rules r p key there).0 in
+    let C = child-of ns p v t above in
+    let w = slice_get_within (kids_in ns C.above) C.child key (C.is_child ∙ there) in
+    let k = length-kids 1 ns C.above (record { key = v.0; label = l; kids = n }) t (node C.above C.there) in
+    let e = C.place in
+    omega (arith, w, k, e, few)

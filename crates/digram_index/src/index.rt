@@ -243,6 +243,7 @@ impl Index {
         requires upper { (q : ℕ) → digram.upper ≡ Call q → q < self.old.rules }
         requires lower { (q : ℕ) → digram.lower ≡ Call q → q < self.old.rules }
         requires small { rank < 16 }
+        requires place { digram.place ≤ 8 }
         ensures ok { OnOk result (cell self.new lower ≡ Some (record { digram = digram; rank = rank; upper = upper.number })) }
         ensures err { OnErr result (cell self.new lower ≡ None) }
         ensures rules { self.new.rules ≡ self.old.rules }
@@ -348,8 +349,10 @@ fn read<L: Ledger>(grammar: &Grammar, lower: Key, blank: Blank) -> Reading
     ensures upper { (q : ℕ) → result.digram.upper ≡ Call q → q < length grammar.now.rules }
     ensures lower { (q : ℕ) → result.digram.lower ≡ Call q → q < length grammar.now.rules }
     ensures small { result.rank < 16 }
+    ensures place { result.digram.place ≤ 8 }
 {
     let _rules = grammar.rules();
+    let _limit = grammar.limit();
     let mut steps: Steps<L> = Steps::new(blank);
     let low = grammar.site(lower, &mut steps);
     let (high, place) = low.parent.unwrap();

@@ -2,10 +2,10 @@
 //!
 //! An `Index` has an occurrence for each lower node, found by the node's number. `threads` keeps items in groups, each group a
 //! list in which one item is put in or taken out in a constant number of steps, and `thread` is what it keeps at a place;
-//! `uppers` has the upper node of each lower one; `patterns` tells digrams apart; `numbers` gives rules numbers that stay;
-//! `ranking` keeps the digrams in buckets by rank and count; `entries` joins these, and knows nothing of grammars. `index` links
-//! what it reads of a grammar and answers which digram to replace next (`top`, `twice`); `nodes` reads, unlinks and links single
-//! nodes, `building` all those of a rule or of a grammar.
+//! `uppers` has the upper node of each lower one; `patterns` tells digrams apart, and `packed_pattern` is what it keeps of one;
+//! `numbers` gives rules numbers that stay; `ranking` keeps the digrams in buckets by rank and count; `entries` joins these, and
+//! knows nothing of grammars. `index` links what it reads of a grammar and answers which digram to replace next (`top`, `twice`);
+//! `nodes` reads, unlinks and links single nodes, `building` all those of a rule or of a grammar.
 //! Contracts see the cells by node number (`specs/Linked.antt`) and compare them with the occurrences of a grammar
 //! (`specs/Digrams.antt`).
 #![tactic(auto)]
@@ -15,6 +15,7 @@ mod entries;
 mod index;
 mod nodes;
 mod numbers;
+mod packed_pattern;
 mod patterns;
 mod ranking;
 mod thread;

@@ -5,7 +5,7 @@ use Rattle.slt_grammar.specs.Keyed.{nodes_at}
 use Rattle.slt_grammar.specs.Algebras.{ranks_of}
 use Rattle.slt_grammar.specs.Keyed.{rules_of}
 use Rattle.digram_index.specs.Digrams.{joint_rank}
-use Rattle.digram_index.proofs.Readings.{reads, call-there, up-key, up-pair, up-label}
+use Rattle.digram_index.proofs.Readings.{reads, call-there, up-key, up-pair, up-label, place-few}
 use Rattle.digram_index.proofs.index.read.Goals as goal
 
 pub new-steps-requires-clause-name : goal.new-steps-requires-clause-name
@@ -54,3 +54,9 @@ pub returns-clause-lower : goal.returns-clause-lower
 returns-clause-lower g c = λ q e.
     let O = c.requires.occurs.1 in
     call-there c.args.grammar.now.rules c.rules-rules.ensures.grammar O.rule O.place q c.args.lower (record { key = c.args.lower; label = c.site-low.result.label; kids = c.site-low.result.arity }) O.there (c.site-low.ensures.node O.rule O.place O.there) e
+
+pub returns-clause-place : goal.returns-clause-place
+returns-clause-place g c =
+    let O = c.requires.occurs.1 in
+    place-few c.args.grammar.now c.limit-limit.ensures.keyed O.rule O.place c.args.lower c.unwrap-high.result c.site-up.result.label c.site-up.result.arity O.there
+    (c.site-low.ensures.parent O.rule O.place O.there ∙ c.unwrap-high.ensures) c.site-up.ensures.few (c.site-up.ensures.node O.rule)

@@ -3,5 +3,7 @@ pub mod Sums
 pub mod Tallying
 pub mod Sizes
 pub mod Rows
+pub mod Cuts
+pub mod Weighed
 pub mod Telling
 pub mod Coded

@@ -6,51 +6,51 @@ use Rattle.plain_tree.specs.declared.kind.Kind.{Kind}
 use Rattle.slt_grammar.specs.Grammars.{IsGrammar, IsSwept}
 use Rattle.slt_grammar.specs.Segments.{preorder}
 use Rattle.slt_grammar.specs.declared.rules.Rule.{Rule}
-use Rattle.segment_counts.specs.Counting.{AreCounts, AreCountsBelow, numbers, no_row, told}
+use Rattle.segment_counts.specs.Counting.{AreCounts, AreCountsBelow, no_row, no_weights, told, weight_by}
 use Rattle.segment_counts.specs.Weights.{weigh, count, node_weight}
 use Rattle.segment_counts.specs.declared.counts.Measure.{Measure}
 use Rattle.segment_counts.specs.declared.counts.Measure.TheVariants.{Nodes, Texts, All}
-use Rattle.segment_counts.specs.declared.counts.Row.{Row}
+use Rattle.segment_counts.specs.declared.counts.Weights.{Weights}
 use Rattle.segment_counts.proofs.Numbers.{texts-few, all-few}
 use Rattle.segment_counts.proofs.Sizes.{none-larger}
 
-row-set : (C : List Row) (k q : ℕ) (R : Row) → q < k → get_or (set C k R) q no_row ≡ get_or C q no_row
+row-set : (C : List (List Weights)) (k q : ℕ) (R : List Weights) → q < k → get_or (set C k R) q no_row ≡ get_or C q no_row
 row-set [] k q R h = refl
 row-set (S ∷ C) zero q R h = absurd (omega arith)
 row-set (S ∷ C) (suc k) zero R h = refl
 row-set (S ∷ C) (suc k) (suc q) R h = row-set C k q R (omega arith)
 
-row-new : (C : List Row) (k : ℕ) (R : Row) → k < length C → get_or (set C k R) k no_row ≡ R
+row-new : (C : List (List Weights)) (k : ℕ) (R : List Weights) → k < length C → get_or (set C k R) k no_row ≡ R
 row-new [] k R h = absurd (omega arith)
 row-new (S ∷ C) zero R h = refl
 row-new (S ∷ C) (suc k) R h = row-new C k R (omega arith)
 
-pub length-row : (C : List Row) (k : ℕ) (R : Row) → length (set C k R) ≡ length C
+pub length-row : (C : List (List Weights)) (k : ℕ) (R : List Weights) → length (set C k R) ≡ length C
 length-row [] k R = refl
 length-row (S ∷ C) zero R = refl
 length-row (S ∷ C) (suc k) R = ap suc (length-row C k R)
 
 -- the rules before k are counted, and each has few nodes
-pub record Counted (names : List (Kind × List ℕ)) (G : List Rule) (room k : ℕ) (C : List Row) : Type 0 where
+pub record Counted (names : List (Kind × List ℕ)) (G : List Rule) (room k : ℕ) (C : List (List Weights)) : Type 0 where
   pub counts : AreCountsBelow names k G C
   pub few : (q : ℕ) → q < k → sum_by node_weight (preorder G q) < 2 ^ 63
   pub room_is : length C ≡ room
 
-pub counted-none : (names : List (Kind × List ℕ)) (G : List Rule) (C : List Row) → Counted names G (length C) 0 C
+pub counted-none : (names : List (Kind × List ℕ)) (G : List Rule) (C : List (List Weights)) → Counted names G (length C) 0 C
 counted-none names G C = record { counts = record { each = λ m q i h. absurd (omega arith); small = λ m q h. absurd (omega arith) }; few = λ q h. absurd (omega arith); room_is = refl }
 
-module _ (names : List (Kind × List ℕ)) (G : List Rule) (room k : ℕ) (C : List Row) (c : Counted names G room k C) (h : k < room) (R : Row)
-    (row : (m : Measure) (i : ℕ) → get_or (numbers m R) i 0 ≡ count (weigh names m) G k i) (few : sum_by node_weight (preorder G k) < 2 ^ 63) where
+module _ (names : List (Kind × List ℕ)) (G : List Rule) (room k : ℕ) (C : List (List Weights)) (c : Counted names G room k C) (h : k < room) (R : List Weights)
+    (row : (m : Measure) (i : ℕ) → weight_by m (get_or R i no_weights) ≡ count (weigh names m) G k i) (few : sum_by node_weight (preorder G k) < 2 ^ 63) where
   small-new : (m : Measure) → sum_by (weigh names m) (preorder G k) < 2 ^ 64
   small-new Nodes = omega arith
   small-new Texts = omega (arith, texts-few names (preorder G k))
   small-new All = omega (arith, all-few G k)
 
   told-new : (m : Measure) (i : ℕ) → told m (set C k R) k i ≡ count (weigh names m) G k i
-  told-new m i = ap (λ (S : Row). get_or (numbers m S) i 0) (row-new C k R (omega (arith, c.room_is))) ∙ row m i
+  told-new m i = ap (λ (S : List Weights). weight_by m (get_or S i no_weights)) (row-new C k R (omega (arith, c.room_is))) ∙ row m i
 
   each : (m : Measure) (q i : ℕ) → (q < k) ⊎ (k ≤ q) → q < suc k → told m (set C k R) q i ≡ count (weigh names m) G q i
-  each m q i (inl l) d = ap (λ (S : Row). get_or (numbers m S) i 0) (row-set C k q R l) ∙ c.counts.each m q i l
+  each m q i (inl l) d = ap (λ (S : List Weights). weight_by m (get_or S i no_weights)) (row-set C k q R l) ∙ c.counts.each m q i l
   each m q i (inr e) d = let z : q ≡ k = omega arith in subst (λ (j : ℕ). told m (set C k R) j i ≡ count (weigh names m) G j i) (sym z) (told-new m i)
 
   small_at : (m : Measure) (q : ℕ) → (q < k) ⊎ (k ≤ q) → q < suc k → sum_by (weigh names m) (preorder G q) < 2 ^ 64
@@ -69,7 +69,7 @@ module _ (names : List (Kind × List ℕ)) (G : List Rule) (room k : ℕ) (C : L
   }
 
 -- all rules were counted
-pub counted-all : (names : List (Kind × List ℕ)) (G : List Rule) (room k n : ℕ) (C : List Row) → Counted names G room k C → length G ≤ k → length G ≤ room → n ≡ length G → AreCounts names G (record { rows = C; rules = n })
+pub counted-all : (names : List (Kind × List ℕ)) (G : List Rule) (room k n : ℕ) (C : List (List Weights)) → Counted names G room k C → length G ≤ k → length G ≤ room → n ≡ length G → AreCounts names G (record { rows = C; rules = n })
 counted-all names G room k n C c h f e = record {
   rules = e;
   room = omega (arith, f, c.room_is);

@@ -9,8 +9,7 @@ use Rattle.slt_grammar.specs.Segments.{segment, preorder, part_of}
 use Rattle.slt_grammar.specs.declared.rules.Rule.{Rule}
 use Rattle.slt_grammar.proofs.Meanings.{params-append}
 use Rattle.slt_grammar.proofs.TourLemmas.{params-segment, segment-first, segment-others}
-use Rattle.segment_counts.specs.Tallies.{Adds}
-use Rattle.segment_counts.specs.declared.tally.Tally.{Tally}
+use Rattle.segment_counts.specs.Tallies.{Adds, Tally}
 
 -- what labels still bring to a segment, where the tour stands at segment `at`
 abbrev pub later : (Label → ℕ) → List Label → ℕ → ℕ → ℕ

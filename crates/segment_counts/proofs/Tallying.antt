@@ -1,5 +1,5 @@
 -- The tallies along a rule's tour.
-use Rattle.std.proofs.Common.{◌≡◌, ℕ, ◌+◌, ◌*◌, ◌^◌, ◌<◌, ◌≤◌, List, [], ◌∷◌, ◌++◌, length, get_or, refl, ap, ◌∙◌, arith, sum_by, subst, Some}
+use Rattle.std.proofs.Common.{◌≡◌, ℕ, ◌+◌, ◌*◌, ◌^◌, ◌<◌, ◌≤◌, List, [], ◌∷◌, ◌++◌, length, get_or, refl, arith, sum_by, subst, Some}
 use Rattle.std.specs.Prelude.{slice_get}
 use Rattle.std.proofs.lemmas.List.Sums.{sum_by-append}
 use Rattle.plain_tree.specs.declared.kind.Kind.{Kind}
@@ -16,16 +16,16 @@ use Rattle.slt_grammar.specs.declared.tour_walk.TourWalk.{TourWalk}
 use Rattle.slt_grammar.proofs.KeyedLemmas.{length-rules_of}
 use Rattle.slt_grammar.proofs.StopLemmas.{stop-is, calls-here}
 use Rattle.slt_grammar.proofs.TourLemmas.{spread_nodes, preorder-nodes, params-preorder}
-use Rattle.segment_counts.specs.Counting.{AreCountsBelow, numbers, weight_by}
-use Rattle.segment_counts.specs.Tallies.{Adds, limit_by, tally_by}
+use Rattle.segment_counts.specs.Counting.{AreCountsBelow, no_weights, weight_by}
+use Rattle.segment_counts.specs.Tallies.{Adds, limit_by, row_of, tally_by}
 use Rattle.segment_counts.specs.Weights.{count, node_weight, weigh}
 use Rattle.segment_counts.specs.declared.counts.Measure.{Measure}
 use Rattle.segment_counts.specs.declared.counts.Measure.TheVariants.{Nodes, Texts, All}
-use Rattle.segment_counts.specs.declared.counts.Row.{Row}
 use Rattle.segment_counts.specs.declared.counts.Weights.{Weights}
 use Rattle.segment_counts.specs.declared.tally.Tallies.{Tallies}
 use Rattle.segment_counts.proofs.Numbers.{texts-few, all-few}
-use Rattle.segment_counts.proofs.Sums.{IsTally, tally-start, tally-step, tally-end}
+use Rattle.segment_counts.proofs.Sums.{IsTally, tally-start, tally-step}
+use Rattle.segment_counts.proofs.Weighed.{row-weighs}
 
 none-weigh : (names : List (Kind × List ℕ)) (m : Measure) → weigh names m Param ≡ 0
 none-weigh names Nodes = refl
@@ -70,7 +70,7 @@ module _ (names : List (Kind × List ℕ)) (g : Keyed) (k : IsKeyed g) (r : ℕ)
       omega (arith, params-preorder H r k.grammar b, (k.grammar.each r b).shaped.small)
 
   -- a turn of the loop: the node's item and the weights of its part are known
-  module _ (C : List Row) (counts : AreCountsBelow names r H C) (walk : TourWalk) (t : Tallies) (first steps : ℕ) (i : Tallied names g.rules r walk t first steps)
+  module _ (C : List (List Weights)) (counts : AreCountsBelow names r H C) (walk : TourWalk) (t : Tallies) (first steps : ℕ) (i : Tallied names g.rules r walk t first steps)
       (x : Node) (item : (r p : ℕ) → key_at g.rules r p ≡ Some walk.key → slice_get (nodes_at g.rules r) p ≡ Some x)
       (n : Weights) (law : (m : Measure) (j : ℕ) (G : List Rule) → AreCountsBelow names j G C → CallsBelow j (x.label ∷ []) → weight_by m n ≡ sum_by (weigh names m) (part_of G x.label walk.part)) where
     here-is : i.here ≡ stop x walk.part
@@ -102,8 +102,12 @@ module _ (names : List (Kind × List ℕ)) (g : Keyed) (k : IsKeyed g) (r : ℕ)
       pub tallied-next : (next : TourWalk) (steps' : ℕ) → StandsBefore g.rules r next i.left → ((m : Measure) → (tally_by m u).total ≤ limit_by m) → steps' ≤ steps + 2 → Tallied names g.rules r next u first steps'
       tallied-next next steps' s b f = tallied next u first steps' i.left s next-tally b (omega (arith, i.few))
 
-      pub row-is : i.left ≡ [] → (R : Row) → ((m : Measure) → numbers m R ≡ (tally_by m u).sums) → (m : Measure) (j : ℕ) → get_or (numbers m R) j 0 ≡ count (weigh names m) H r j
-      row-is e R s m j = ap (λ (ns : List ℕ). get_or ns j 0) (s m) ∙ tally-end (weigh names m) (preorder H r) (tally_by m u) (last-tally e m) j
+      pub row-is : i.left ≡ [] → (m : Measure) (j : ℕ) → weight_by m (get_or (row_of u) j no_weights) ≡ count (weigh names m) H r j
+      row-is e m j = row-weighs (weigh names m) (preorder H r) m u (last-tally e m) j
+
+      -- and so is the one at which it ends
+      pub place-last : i.left ≡ [] → u.at < 9
+      place-last e = omega (arith, (last-tally e Nodes).place, few-params)
 
       pub nodes-few : i.left ≡ [] → ((m : Measure) → (tally_by m u).total ≤ limit_by m) → sum_by node_weight (preorder H r) < 2 ^ 63
       nodes-few e b = omega (arith, (last-tally e Nodes).weight, b Nodes)

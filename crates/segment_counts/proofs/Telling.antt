@@ -11,19 +11,19 @@ use Rattle.slt_grammar.proofs.TourLemmas.{params-preorder, segment-first}
 use Rattle.segment_counts.specs.Counting.{told, told_before, AreCounts, AreCountsBelow, CountTable}
 use Rattle.segment_counts.specs.Weights.{weigh, count_before}
 use Rattle.segment_counts.specs.declared.counts.Measure.{Measure}
-use Rattle.segment_counts.specs.declared.counts.Row.{Row}
+use Rattle.segment_counts.specs.declared.counts.Weights.{Weights}
 use Rattle.segment_counts.proofs.Numbers.{segments_sum-suc}
 
-mono-step : (m : Measure) (C : List Row) (q i n : ℕ) → (i < n → told_before m C q i + told m C q i ≤ told_before m C q n) → (i < n) ⊎ (n ≤ i) → i < suc n → told_before m C q i + told m C q i ≤ told_before m C q n + told m C q n
+mono-step : (m : Measure) (C : List (List Weights)) (q i n : ℕ) → (i < n → told_before m C q i + told m C q i ≤ told_before m C q n) → (i < n) ⊎ (n ≤ i) → i < suc n → told_before m C q i + told m C q i ≤ told_before m C q n + told m C q n
 mono-step m C q i n ih (inl l) h = omega (arith, ih l)
 mono-step m C q i n ih (inr g) h = let e : i ≡ n = omega arith in omega (arith, ap (λ k. told_before m C q k + told m C q k) e)
 
-pub told_before-mono : (m : Measure) (C : List Row) (q i n : ℕ) → i < n → told_before m C q i + told m C q i ≤ told_before m C q n
+pub told_before-mono : (m : Measure) (C : List (List Weights)) (q i n : ℕ) → i < n → told_before m C q i + told m C q i ≤ told_before m C q n
 told_before-mono m C q i zero h = absurd (omega arith)
 told_before-mono m C q i (suc n) h = mono-step m C q i n (told_before-mono m C q i n) (cases_lt i n) h
 
 -- what is kept of the segments before one is what they weigh
-pub told_before-is : (names : List (Kind × List ℕ)) (k : ℕ) (G : List Rule) (C : List Row) → AreCountsBelow names k G C → (m : Measure) (q i : ℕ) → q < k → told_before m C q i ≡ count_before (weigh names m) G q i
+pub told_before-is : (names : List (Kind × List ℕ)) (k : ℕ) (G : List Rule) (C : List (List Weights)) → AreCountsBelow names k G C → (m : Measure) (q i : ℕ) → q < k → told_before m C q i ≡ count_before (weigh names m) G q i
 told_before-is names k G C a m q zero h = refl
 told_before-is names k G C a m q (suc i) h =
     let ih = told_before-is names k G C a m q i h in

@@ -6,40 +6,37 @@ use Rattle.slt_grammar.specs.declared.rules.Rule.{Rule}
 use Rattle.segment_counts.specs.Weights.{weigh, count}
 use Rattle.segment_counts.specs.declared.counts.Measure.{Measure}
 use Rattle.segment_counts.specs.declared.counts.Measure.TheVariants.{Nodes, Texts, All}
-use Rattle.segment_counts.specs.declared.counts.Row.{Row}
 use Rattle.segment_counts.specs.declared.counts.Weights.{Weights}
 
--- the rows of all rules for which there is room, and how many rules were counted
+-- the rows of all rules for which there is room, and how many rules were counted: a row has the weights of a rule's segments
 pub record CountTable : Type 0 where
-  pub rows : List Row
+  pub rows : List (List Weights)
   pub rules : ℕ
 
--- the numbers of a row by a measure, and so of what a label weighs
-abbrev pub numbers : Measure → Row → List ℕ
-numbers Nodes R = R.nodes
-numbers Texts R = R.texts
-numbers All R = R.all
-
+-- what is weighed by a measure
 abbrev pub weight_by : Measure → Weights → ℕ
 weight_by Nodes w = w.nodes
 weight_by Texts w = w.texts
 weight_by All w = w.all
 
--- where no rule is
-abbrev pub no_row : Row
-no_row = record { nodes = []; texts = []; all = [] }
+-- where no segment is, and where no rule is
+abbrev pub no_weights : Weights
+no_weights = record { nodes = 0; texts = 0; all = 0 }
+
+abbrev pub no_row : List Weights
+no_row = []
 
 -- the number that is kept of a rule's segment
-abbrev pub told : Measure → List Row → ℕ → ℕ → ℕ
-told m C q i = get_or (numbers m (get_or C q no_row)) i 0
+abbrev pub told : Measure → List (List Weights) → ℕ → ℕ → ℕ
+told m C q i = weight_by m (get_or (get_or C q no_row) i no_weights)
 
 -- and of the segments before one together
-abbrev pub told_before : Measure → List Row → ℕ → ℕ → ℕ
+abbrev pub told_before : Measure → List (List Weights) → ℕ → ℕ → ℕ
 told_before m C q zero = 0
 told_before m C q (suc i) = told_before m C q i + told m C q i
 
 -- the numbers of the rules before k are the weights of their segments, and each value's weight fits 64 bits
-pub record AreCountsBelow (names : List (Kind × List ℕ)) (k : ℕ) (G : List Rule) (C : List Row) : Type 0 where
+pub record AreCountsBelow (names : List (Kind × List ℕ)) (k : ℕ) (G : List Rule) (C : List (List Weights)) : Type 0 where
   pub each : (m : Measure) (q i : ℕ) → q < k → told m C q i ≡ count (weigh names m) G q i
   pub small : (m : Measure) (q : ℕ) → q < k → sum_by (weigh names m) (preorder G q) < 2 ^ 64
 

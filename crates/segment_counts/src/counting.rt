@@ -3,11 +3,12 @@ ghost use Rattle.std.specs.Prelude.{◌≡◌, ◌<◌, ◌≤◌, ◌^◌, ℕ,
 ghost use Rattle.slt_grammar.specs.Grammars.{IsSwept, value};
 ghost use Rattle.slt_grammar.specs.Keyed.{IsKeyed, rules_of};
 ghost use Rattle.slt_grammar.specs.Segments.{listed, preorder};
-ghost use Rattle.segment_counts.specs.Counting.{AreCounts, AreCountsBelow, no_row, numbers};
+ghost use Rattle.segment_counts.specs.Counting.{AreCounts, AreCountsBelow, no_weights, weight_by};
+ghost use Rattle.segment_counts.specs.Tallies.{row_of};
 ghost use Rattle.segment_counts.specs.Weights.{weigh, count, node_weight};
 ghost use Rattle.segment_counts.specs.declared.counts.Measure.{Measure};
 
-use crate::counts::{Counts, EMPTY_ROW, Row};
+use crate::counts::{Counts, MOST_SEGMENTS};
 use crate::tally::Tallies;
 use plain_tree::Names;
 use read_steps::Steps;
@@ -23,7 +24,7 @@ pub enum CountError {
     /// The grammar's value has more than 2^63 - 1 nodes that aren't bottom.
     #[error("the value of the grammar has more than 2^63 - 1 nodes")]
     TooMany,
-    /// Memory was refused.
+    /// Memory was refused, or so many rules might have 2^32 segments or more.
     #[error("there is no memory for the counts")]
     Memory,
 }
@@ -32,17 +33,14 @@ impl Counts {
     /// The counts of a swept grammar, with room for its rules. A symbol that isn't in `names` has no text.
     ///
     /// `TooMany` comes exactly where the grammar's value has more than 2^63 - 1 nodes that aren't bottom, and `Memory` only where memory
-    /// is refused.
+    /// is refused, or where so many rules might have 2^32 segments or more.
     pub fn new(alloc: Global, grammar: &Grammar, names: &Names) -> Result<Counts, CountError>
         requires swept { IsSwept (rules_of grammar.now.rules) }
         ensures counts { IfOk result (AreCounts names.now (rules_of grammar.now.rules)) }
         ensures few { OnOk result (sum_by node_weight (listed (value (rules_of grammar.now.rules)) []) < 2 ^ 63) }
         ensures many { result ≡ Err CountError.TooMany → 2 ^ 63 ≤ sum_by node_weight (listed (value (rules_of grammar.now.rules)) []) }
     {
-        let mut counts = Counts {
-            rows: Vec::new(alloc),
-            rules: 0,
-        };
+        let mut counts = Counts::empty(alloc);
         let rules = grammar.rules();
         if counts.reserve(rules).is_err() {
             return Err(CountError::Memory);
@@ -52,21 +50,6 @@ impl Counts {
         } else {
             Err(CountError::TooMany)
         }
-    }
-
-    /// Makes the room at least `rules`, and needs no memory where it is so already. What was counted stays.
-    pub fn reserve(&mut self, rules: usize) -> Result<(), AllocError>
-        ensures room { OnOk result (rules ≤ length self.new.rows) }
-        ensures grown { length self.old.rows ≤ length self.new.rows }
-        ensures rules { self.new.rules ≡ self.old.rules }
-        ensures kept { (q : ℕ) → q < length self.old.rows → get_or self.new.rows q no_row ≡ get_or self.old.rows q no_row }
-        ensures refused { OnErr result (self.new ≡ self.old) }
-        ensures succeeds { rules ≤ length self.old.rows → IsOk result }
-    {
-        if rules <= self.rows.len() {
-            return Ok(());
-        }
-        self.rows.resize(rules, EMPTY_ROW)
     }
 
     /// Makes the counts those of another grammar, for whose rules there is room and whose value is within the limit of `new`. It takes
@@ -101,13 +84,13 @@ fn count_all<L: Ledger>(grammar: &Grammar, names: &Names, counts: &mut Counts, b
     // The call tells what is true of every grammar.
     let _limit = grammar.limit();
     let rules = grammar.rules();
+    counts.clear();
     for rule in 0..rules {
         match count_rule(grammar, names, counts, rule, &mut steps) {
-            Some(row) => counts.rows[rule] = row,
+            Some(tallies) => counts.push(tallies.row()),
             None => return false,
         }
     }
-    counts.rules = rules;
     true
 }
 
@@ -118,12 +101,13 @@ fn count_rule<L: Ledger>(
     counts: &Counts,
     rule: usize,
     steps: &mut Steps<L>,
-) -> Option<Row>
+) -> Option<Tallies>
     requires keyed { IsKeyed grammar.now }
     requires counts { AreCountsBelow names.now rule (rules_of grammar.now.rules) counts.now.rows }
     requires rule { rule < length grammar.now.rules }
-    ensures row { IfSome result (λ row. (m : Measure) (i : ℕ) → get_or (numbers m row) i 0 ≡ count (weigh names.now m) (rules_of grammar.now.rules) rule i) }
-    ensures few { IfSome result (λ row. sum_by node_weight (preorder (rules_of grammar.now.rules) rule) < 2 ^ 63) }
+    ensures place { IfSome result (λ tallies. tallies.at < MOST_SEGMENTS) }
+    ensures row { IfSome result (λ tallies. (m : Measure) (i : ℕ) → weight_by m (get_or (row_of tallies) i no_weights) ≡ count (weigh names.now m) (rules_of grammar.now.rules) rule i) }
+    ensures few { IfSome result (λ tallies. sum_by node_weight (preorder (rules_of grammar.now.rules) rule) < 2 ^ 63) }
     ensures many { IfNone result (2 ^ 63 ≤ sum_by node_weight (preorder (rules_of grammar.now.rules) rule)) }
 {
     let mut walk = TourWalk::new(grammar, rule);
@@ -135,7 +119,7 @@ fn count_rule<L: Ledger>(
             return None;
         }
         if !walk.advance(grammar, &site, steps) {
-            return Some(tallies.row());
+            return Some(tallies);
         }
     }
 }

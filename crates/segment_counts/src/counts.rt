@@ -1,16 +1,18 @@
 // The numbers that are kept of each rule's segments.
-ghost use Rattle.std.specs.Prelude.{◌≡◌, ◌<◌, ◌-◌, ◌^◌, ℕ, List, [], ◌∷◌, get_or, length, slice_get, sum_by};
+ghost use Rattle.std.specs.Prelude.{◌≡◌, ◌<◌, ◌≤◌, ◌+◌, ◌-◌, ◌^◌, ℕ, List, [], ◌∷◌, get_or, length, set, slice_get, sum_by, IsOk, OnErr, OnOk};
 ghost use Rattle.plain_tree.specs.declared.kind.Kind.{Kind};
 ghost use Rattle.slt_grammar.specs.Bodies.{CallsBelow};
 ghost use Rattle.slt_grammar.specs.Grammars.{IsGrammar, value};
 ghost use Rattle.slt_grammar.specs.Segments.{listed, part_of};
 ghost use Rattle.slt_grammar.specs.declared.rules.Rule.{Rule};
-ghost use Rattle.segment_counts.specs.Counting.{AreCounts, AreCountsBelow, told, told_before, weight_by};
+ghost use Rattle.segment_counts.specs.Counting.{AreCounts, AreCountsBelow, no_row, no_weights, told, told_before, weight_by};
+ghost use Rattle.segment_counts.specs.Cuts.{AreCut, cut_rows};
 ghost use Rattle.segment_counts.specs.Weights.{all_weight, count, node_weight, text_weight, valued, weigh};
 ghost use Rattle.segment_counts.specs.declared.counts.Measure.TheVariants.{Nodes, Texts, All};
 
 use plain_tree::Names;
 use slt_grammar::Label;
+use std::alloc::{AllocError, Global};
 use std::marker::Model;
 
 // Of a rule of rank 8.
@@ -27,21 +29,10 @@ pub enum Measure {
     All,
 }
 
-// The numbers of one rule's segments, by measure.
-#[derive(Clone, Copy, Drop)]
-pub(crate) struct Row {
-    pub(crate) nodes: [u64; MOST_SEGMENTS],
-    pub(crate) texts: [u64; MOST_SEGMENTS],
-    pub(crate) all: [u64; MOST_SEGMENTS],
-}
+// How many rules can have segments that are numbered by 32 bits, whatever their ranks.
+const MOST_RULES: usize = ((1 << 32) - 1) / MOST_SEGMENTS;
 
-pub(crate) const EMPTY_ROW: Row = Row {
-    nodes: [0; MOST_SEGMENTS],
-    texts: [0; MOST_SEGMENTS],
-    all: [0; MOST_SEGMENTS],
-};
-
-// What one label weighs, by measure.
+// What a label or a segment weighs, by measure.
 #[derive(Clone, Copy, Drop)]
 pub(crate) struct Weights {
     pub(crate) nodes: u64,
@@ -49,22 +40,36 @@ pub(crate) struct Weights {
     pub(crate) all: u64,
 }
 
+pub(crate) const NO_WEIGHTS: Weights = Weights {
+    nodes: 0,
+    texts: 0,
+    all: 0,
+};
+
 /// The counts of a grammar's segments.
 ///
 /// They are seen as a row for each rule for which there is room, beside the number of rules that were counted. That they are those
 /// of a grammar is what `AreCounts` says.
 #[derive(Drop)]
 pub struct Counts {
-    pub(crate) rows: Vec<Row>,
-    pub(crate) rules: usize,
+    // The segments of the rules that were counted, one rule's behind those of the rule before, and where each rule's end.
+    segments: Vec<Weights>,
+    ends: Vec<u32>,
+    // For how many rules there is room, whatever their ranks. What the segments don't take of it is never written, so that the
+    // system needn't back it with memory.
+    room: usize,
 }
 
 impl Model for Counts {
+    ghost use Rattle.std.specs.Prelude.{vec_capacity};
     ghost use Rattle.segment_counts.specs.Counting.{CountTable};
+    ghost use Rattle.segment_counts.specs.Cuts.{HaveRoom, table_of};
 
     ghost Value = { CountTable };
 
-    ghost view = { λ c. record { rows = c.rows.items; rules = c.rules } };
+    ghost view = { λ c. table_of c.segments.items c.ends.items c.room };
+
+    ghost invariant = { λ c. HaveRoom c.segments.items c.ends.items (vec_capacity c.segments) (vec_capacity c.ends) c.room };
 }
 
 impl Counts {
@@ -97,7 +102,7 @@ impl Counts {
         ensures kept { result ≡ told Nodes self.now.rows (self.now.rules - 1) 0 }
         ensures nodes { (names : List (Kind × List ℕ)) (G : List Rule) → AreCounts names G self.now → IsGrammar G → result ≡ sum_by node_weight (listed (value G) []) }
     {
-        self.nodes(self.rules.saturating_sub(1), 0)
+        self.nodes(self.rules().saturating_sub(1), 0)
     }
 
     /// How many of them have a text.
@@ -105,34 +110,61 @@ impl Counts {
         ensures kept { result ≡ told Texts self.now.rows (self.now.rules - 1) 0 }
         ensures texts { (names : List (Kind × List ℕ)) (G : List Rule) → AreCounts names G self.now → IsGrammar G → result ≡ sum_by (text_weight names) (listed (value G) []) }
     {
-        self.texts(self.rules.saturating_sub(1), 0)
+        self.texts(self.rules().saturating_sub(1), 0)
     }
 
     /// How many rules were counted.
     pub fn rules(&self) -> usize
         ensures { result ≡ self.now.rules }
     {
-        self.rules
+        self.ends.as_slice().len()
     }
 
     /// For how many rules there is room.
     pub fn room(&self) -> usize
         ensures { result ≡ length self.now.rows }
     {
-        self.rows.len()
+        self.room
+    }
+
+    /// Makes the room at least `rules`, and needs no memory where it is so already. What was counted stays. It is refused for
+    /// want of memory, and where so many rules might have 2^32 segments or more.
+    pub fn reserve(&mut self, rules: usize) -> Result<(), AllocError>
+        ensures room { OnOk result (rules ≤ length self.new.rows) }
+        ensures grown { length self.old.rows ≤ length self.new.rows }
+        ensures rules { self.new.rules ≡ self.old.rules }
+        ensures kept { (q : ℕ) → q < length self.old.rows → get_or self.new.rows q no_row ≡ get_or self.old.rows q no_row }
+        ensures refused { OnErr result (self.new ≡ self.old) }
+        ensures succeeds { rules ≤ length self.old.rows → IsOk result }
+    {
+        if rules <= self.room {
+            return Ok(());
+        }
+        if rules > MOST_RULES {
+            return Err(AllocError);
+        }
+        let segments = rules * MOST_SEGMENTS;
+        self.segments
+            .reserve_exact(segments - self.segments.as_slice().len())?;
+        self.ends.reserve_exact(rules - self.ends.as_slice().len())?;
+        self.room = rules;
+        Ok(())
     }
 
     /// The number of a rule's segment by a measure, and 0 where there is no such segment.
     pub fn get(&self, measure: Measure, rule: usize, segment: usize) -> u64
         ensures { result ≡ told measure self.now.rows rule segment }
     {
-        let Some(row) = self.rows.get(rule) else {
-            return 0;
-        };
+        let weights = segment_at(
+            self.segments.as_slice(),
+            self.ends.as_slice(),
+            rule,
+            segment,
+        );
         match measure {
-            Measure::Nodes => number_at(&row.nodes, segment),
-            Measure::Texts => number_at(&row.texts, segment),
-            Measure::All => number_at(&row.all, segment),
+            Measure::Nodes => weights.nodes,
+            Measure::Texts => weights.texts,
+            Measure::All => weights.all,
         }
     }
 
@@ -169,23 +201,69 @@ impl Counts {
                 texts: 0,
                 all: 1,
             },
-            _ => Weights {
-                nodes: 0,
-                texts: 0,
-                all: 0,
-            },
+            _ => NO_WEIGHTS,
         }
+    }
+
+    // No counts. They take no memory.
+    pub(crate) fn empty(alloc: Global) -> Counts
+        ensures { result.rules ≡ 0 }
+    {
+        Counts {
+            segments: Vec::new(alloc),
+            ends: Vec::new(alloc),
+            room: 0,
+        }
+    }
+
+    // Forgets what was counted. The room stays.
+    pub(crate) fn clear(&mut self)
+        ensures rules { self.new.rules ≡ 0 }
+        ensures room { length self.new.rows ≡ length self.old.rows }
+    {
+        self.segments.clear();
+        self.ends.clear();
+    }
+
+    // Takes in the row of the rule behind those that were counted.
+    pub(crate) fn push(&mut self, row: &[Weights])
+        requires room { self.old.rules < length self.old.rows }
+        requires width { length row.now ≤ MOST_SEGMENTS }
+        ensures rows { self.new.rows ≡ set self.old.rows self.old.rules row.now }
+        ensures rules { self.new.rules ≡ self.old.rules + 1 }
+    {
+        let end = self.segments.as_slice().len() + row.len();
+        self.segments.extend_from_slice(row).unwrap();
+        self.ends.push_reserved(end as u32);
     }
 }
 
-// A number of a row, and 0 past its end.
-fn number_at(numbers: &[u64; MOST_SEGMENTS], segment: usize) -> u64
-    ensures { result ≡ get_or numbers.now segment 0 }
+// The weights of a rule's segment, and none where there is no such segment.
+fn segment_at(segments: &[Weights], ends: &[u32], rule: usize, segment: usize) -> Weights
+    requires { AreCut 0 segments.now ends.now }
+    ensures { result ≡ get_or (get_or (cut_rows 0 segments.now ends.now) rule no_row) segment no_weights }
 {
-    if segment < MOST_SEGMENTS {
-        numbers[segment]
+    if rule >= ends.len() {
+        return NO_WEIGHTS;
+    }
+    let start = start_of(ends, rule);
+    let end = ends[rule] as usize;
+    if segment < end - start {
+        segments[start + segment]
     } else {
+        NO_WEIGHTS
+    }
+}
+
+// Where a rule's segments begin.
+fn start_of(ends: &[u32], rule: usize) -> usize
+    requires { rule < length ends.now }
+    ensures { result ≡ get_or (0 ∷ ends.now) rule 0 }
+{
+    if rule == 0 {
         0
+    } else {
+        ends[rule - 1] as usize
     }
 }
 

@@ -1,65 +1,21 @@
 // The sums along the tour of one rule's body.
-ghost use Rattle.std.specs.Prelude.{◌≡◌, ◌<◌, ◌≤◌, ◌+◌, ℕ, true, false, get_or, length};
-ghost use Rattle.segment_counts.specs.Counting.{numbers, weight_by};
-ghost use Rattle.segment_counts.specs.Tallies.{Adds, limit_by, tally_by};
+ghost use Rattle.std.specs.Prelude.{◌≡◌, ◌<◌, ◌≤◌, ◌+◌, ◌^◌, ℕ, true, false, get_or, length};
+ghost use Rattle.segment_counts.specs.Counting.{weight_by};
+ghost use Rattle.segment_counts.specs.Tallies.{Adds, limit_by, row_of, tally_by};
 ghost use Rattle.segment_counts.specs.declared.counts.Measure.{Measure};
 
-use crate::counts::{MOST_SEGMENTS, Row, Weights};
+use crate::counts::{MOST_SEGMENTS, NO_WEIGHTS, Weights};
 use slt_grammar::Label;
 
 // The limit of a document: with its bottoms it still has fewer than 2^64.
 const MOST_NODES: u64 = (1 << 63) - 1;
 
-// The weights of a rule's segments so far, the segment in which the tour stands, and the weight of all so far.
-#[derive(Clone, Copy, Drop)]
-pub(crate) struct Tally {
-    pub(crate) sums: [u64; MOST_SEGMENTS],
-    pub(crate) at: usize,
-    pub(crate) total: u64,
-}
-
-impl Tally {
-    fn new() -> Tally
-        ensures sums { (i : ℕ) → get_or result.sums i 0 ≡ 0 }
-        ensures width { length result.sums ≡ 9 }
-        ensures at { result.at ≡ 0 }
-        ensures total { result.total ≡ 0 }
-    {
-        Tally {
-            sums: [0; MOST_SEGMENTS],
-            at: 0,
-            total: 0,
-        }
-    }
-
-    // Takes in a label, and answers false where all would weigh more than the limit.
-    fn add(&mut self, label: Label, weight: u64, limit: u64) -> bool
-        requires at { self.old.at < 9 }
-        requires under { (i : ℕ) → get_or self.old.sums i 0 ≤ self.old.total }
-        requires total { self.old.total ≤ limit }
-        ensures adds { result ≡ true → Adds label weight self.old self.new }
-        ensures small { result ≡ true → self.new.total ≤ limit }
-        ensures many { result ≡ false → limit < self.old.total + weight }
-    {
-        if let Label::Param = label {
-            self.at += 1;
-            return true;
-        }
-        if weight > limit - self.total {
-            return false;
-        }
-        self.sums[self.at] += weight;
-        self.total += weight;
-        true
-    }
-}
-
-// A tally for each measure.
+// The weights of a rule's segments so far, the segment in which the tour stands, and the weights of all so far.
 #[derive(Clone, Copy, Drop)]
 pub(crate) struct Tallies {
-    pub(crate) nodes: Tally,
-    pub(crate) texts: Tally,
-    pub(crate) all: Tally,
+    pub(crate) sums: [Weights; MOST_SEGMENTS],
+    pub(crate) at: usize,
+    pub(crate) total: Weights,
 }
 
 impl Tallies {
@@ -70,38 +26,67 @@ impl Tallies {
         ensures total { (m : Measure) → (tally_by m result).total ≡ 0 }
     {
         Tallies {
-            nodes: Tally::new(),
-            texts: Tally::new(),
-            all: Tally::new(),
+            sums: [NO_WEIGHTS; MOST_SEGMENTS],
+            at: 0,
+            total: NO_WEIGHTS,
         }
     }
 
     // Takes in a label, and answers false where a limit would be passed.
     pub(crate) fn add(&mut self, label: Label, weights: Weights) -> bool
-        requires at { (m : Measure) → (tally_by m self.old).at < 9 }
+        requires at { self.old.at < 9 }
         requires under { (m : Measure) (i : ℕ) → get_or (tally_by m self.old).sums i 0 ≤ (tally_by m self.old).total }
         requires total { (m : Measure) → (tally_by m self.old).total ≤ limit_by m }
         ensures adds { result ≡ true → (m : Measure) → Adds label (weight_by m weights) (tally_by m self.old) (tally_by m self.new) }
         ensures small { result ≡ true → (m : Measure) → (tally_by m self.new).total ≤ limit_by m }
         ensures many { result ≡ false → (m : Measure) × (limit_by m < (tally_by m self.old).total + weight_by m weights) }
     {
-        if !self.nodes.add(label, weights.nodes, MOST_NODES) {
+        if let Label::Param = label {
+            self.at += 1;
+            return true;
+        }
+        if !self.total.have_room_for(weights) {
             return false;
         }
-        if !self.texts.add(label, weights.texts, u64::MAX) {
-            return false;
-        }
-        self.all.add(label, weights.all, u64::MAX)
+        self.sums[self.at] = self.sums[self.at].plus(weights);
+        self.total = self.total.plus(weights);
+        true
     }
 
-    // The sums of the segments.
-    pub(crate) fn row(&self) -> Row
-        ensures { (m : Measure) → numbers m result ≡ (tally_by m self.now).sums }
+    // The sums of the segments up to the one in which the tour stands.
+    pub(crate) fn row(&self) -> &[Weights]
+        requires { self.now.at < MOST_SEGMENTS }
+        ensures { result.now ≡ row_of self.now }
     {
-        Row {
-            nodes: self.nodes.sums,
-            texts: self.texts.sums,
-            all: self.all.sums,
+        &self.sums[..self.at + 1]
+    }
+}
+
+impl Weights {
+    // Whether no limit is passed where others are added.
+    fn have_room_for(self, others: Weights) -> bool
+        requires { (m : Measure) → weight_by m self ≤ limit_by m }
+        ensures small { result ≡ true → (m : Measure) → weight_by m self + weight_by m others ≤ limit_by m }
+        ensures many { result ≡ false → (m : Measure) × (limit_by m < weight_by m self + weight_by m others) }
+    {
+        if others.nodes > MOST_NODES - self.nodes {
+            return false;
+        }
+        if others.texts > u64::MAX - self.texts {
+            return false;
+        }
+        others.all <= u64::MAX - self.all
+    }
+
+    // Both together.
+    fn plus(self, others: Weights) -> Weights
+        requires { (m : Measure) → weight_by m self + weight_by m others < 2 ^ 64 }
+        ensures { (m : Measure) → weight_by m result ≡ weight_by m self + weight_by m others }
+    {
+        Weights {
+            nodes: self.nodes + others.nodes,
+            texts: self.texts + others.texts,
+            all: self.all + others.all,
         }
     }
 }

@@ -6,11 +6,11 @@ ghost use Rattle.text_list.specs.Pieces.{pieces, AreCut};
 use std::alloc::{AllocError, Global};
 use std::marker::Model;
 
-// Texts, one after the other, and where each of them ends.
+// Texts, one after the other, and where each of them ends: they have fewer than 2^32 bytes in all.
 #[derive(Drop)]
 pub(crate) struct Blob {
     bytes: Vec<u8>,
-    ends: Vec<usize>,
+    ends: Vec<u32>,
 }
 
 impl Model for Blob {
@@ -41,14 +41,16 @@ impl Blob {
         self.ends.as_slice().len()
     }
 
-    // Adds a text at the end.
+    // Adds a text at the end. It is refused for want of memory, and where the bytes would be 2^32 or more.
     pub(crate) fn push(&mut self, text: &[u8]) -> Result<(), AllocError>
         ensures ok { OnOk result (self.new ≡ self.old ++ text.now ∷ []) }
         ensures err { OnErr result (self.new ≡ self.old) }
     {
+        let Ok(end) = u32::try_from(self.bytes.as_slice().len() + text.len()) else {
+            return Err(AllocError);
+        };
         self.ends.reserve(1)?;
         self.bytes.extend_from_slice(text)?;
-        let end = self.bytes.as_slice().len();
         self.ends.push(end)?;
         Ok(())
     }
@@ -73,7 +75,7 @@ impl Blob {
     }
 }
 
-fn piece_of<'a>(bytes: &'a [u8], ends: &[usize], at: usize) -> Option<&'a [u8]>
+fn piece_of<'a>(bytes: &'a [u8], ends: &[u32], at: usize) -> Option<&'a [u8]>
     requires { AreCut 0 bytes.now ends.now }
     ensures { option_copied result ≡ slice_get (pieces 0 bytes.now ends.now) at }
 {
@@ -81,13 +83,13 @@ fn piece_of<'a>(bytes: &'a [u8], ends: &[usize], at: usize) -> Option<&'a [u8]>
         return None;
     }
     let start = start_of(ends, at);
-    let end = ends[at];
+    let end = ends[at] as usize;
     Some(&bytes[start..end])
 }
 
-fn start_of(ends: &[usize], at: usize) -> usize
+fn start_of(ends: &[u32], at: usize) -> usize
     requires { at < length ends.now }
     ensures { result ≡ slice_index_or (0 ∷ ends.now) at 0 }
 {
-    if at == 0 { 0 } else { ends[at - 1] }
+    if at == 0 { 0 } else { ends[at - 1] as usize }
 }

@@ -83,7 +83,8 @@ impl TextList {
     }
 
     /// Makes room for this many more texts at one place. It is refused only for want of memory or of numbers for texts. Where
-    /// there is no room yet and edits have left much behind, it makes the list anew.
+    /// there is no room yet and edits have left much behind, it makes the list anew, unless memory is refused for that or the
+    /// different texts have 2^32 bytes or more.
     pub fn reserve(&mut self, more: u64) -> Result<(), AllocError>
         ensures texts { self.new.texts ≡ self.old.texts }
         ensures room { OnOk result (more ≤ self.new.room) }

@@ -38,7 +38,8 @@ impl TextTable {
         }
     }
 
-    /// Adds a text at the end. It is refused for want of memory, and where there are 2^31 different texts.
+    /// Adds a text at the end. It is refused for want of memory, and where there are 2^31 different texts, or they would have 2^32
+    /// bytes or more.
     pub fn push(&mut self, text: &[u8]) -> Result<(), AllocError>
         ensures ok { OnOk result (self.new ≡ self.old ++ text.now ∷ []) }
         ensures err { OnErr result (self.new ≡ self.old) }

@@ -1,7 +1,8 @@
 use Rattle.std.proofs.Common.{◌∷◌, arith, refl}
 use Rattle.rule_arena.specs.Terms.{Node}
 use Rattle.slt_grammar.proofs.TourWalking.{node-here}
-use Rattle.segment_counts.proofs.Tallying.{tallied-start, place-few, too-many, tallied-next, row-is, nodes-few}
+use Rattle.segment_counts.specs.declared.counts.Measure.TheVariants.{Nodes}
+use Rattle.segment_counts.proofs.Tallying.{tallied-start, place-few, place-last, too-many, tallied-next, row-is, nodes-few}
 use Rattle.segment_counts.proofs.counting.count_rule.Goals as goal
 
 pub stops-init : goal.stops-init
@@ -20,7 +21,7 @@ add-requires-clause-at g c =
     let a = c.args in
     let i = c.stops.invariant in
     let x : Node = record { key = c.stops.walk.key; label = c.site-site.result.label; kids = c.site-site.result.arity } in
-    place-few a.names.now a.grammar.now c.requires.keyed a.rule c.requires.rule a.counts.now.rows c.requires.counts c.stops.walk c.stops.tallies a.steps.now c.stops.steps i x c.site-site.ensures.node c.weights-weights.result c.weights-weights.ensures
+    place-few a.names.now a.grammar.now c.requires.keyed a.rule c.requires.rule a.counts.now.rows c.requires.counts c.stops.walk c.stops.tallies a.steps.now c.stops.steps i x c.site-site.ensures.node c.weights-weights.result c.weights-weights.ensures Nodes
 
 pub returns-then-not-add-clause-many : goal.returns-then-not-add-clause-many
 returns-then-not-add-clause-many g c =
@@ -34,7 +35,14 @@ returns-then-not-advance-clause-row g c =
     let a = c.args in
     let i = c.stops.invariant in
     let x : Node = record { key = c.stops.walk.key; label = c.site-site.result.label; kids = c.site-site.result.arity } in
-    row-is a.names.now a.grammar.now c.requires.keyed a.rule c.requires.rule a.counts.now.rows c.requires.counts c.stops.walk c.stops.tallies a.steps.now c.stops.steps i x c.site-site.ensures.node c.weights-weights.result c.weights-weights.ensures c.add.new.self (c.if-not-add.ensures.adds refl) (c.if-not-advance.ensures.next a.rule i.here i.left i.stands) c.row.result c.row.ensures
+    row-is a.names.now a.grammar.now c.requires.keyed a.rule c.requires.rule a.counts.now.rows c.requires.counts c.stops.walk c.stops.tallies a.steps.now c.stops.steps i x c.site-site.ensures.node c.weights-weights.result c.weights-weights.ensures c.add.new.self (c.if-not-add.ensures.adds refl) (c.if-not-advance.ensures.next a.rule i.here i.left i.stands)
+
+pub returns-then-not-advance-clause-place : goal.returns-then-not-advance-clause-place
+returns-then-not-advance-clause-place g c =
+    let a = c.args in
+    let i = c.stops.invariant in
+    let x : Node = record { key = c.stops.walk.key; label = c.site-site.result.label; kids = c.site-site.result.arity } in
+    place-last a.names.now a.grammar.now c.requires.keyed a.rule c.requires.rule a.counts.now.rows c.requires.counts c.stops.walk c.stops.tallies a.steps.now c.stops.steps i x c.site-site.ensures.node c.weights-weights.result c.weights-weights.ensures c.add.new.self (c.if-not-add.ensures.adds refl) (c.if-not-advance.ensures.next a.rule i.here i.left i.stands)
 
 pub returns-then-not-advance-clause-few : goal.returns-then-not-advance-clause-few
 returns-then-not-advance-clause-few g c =

@@ -1,29 +1,13 @@
-use Rattle.segment_counts.specs.declared.counts.Measure.TheVariants.{Nodes, Texts, All}
+use Rattle.std.proofs.Common.{refl, arith}
+use Rattle.segment_counts.proofs.Weighed.{added, fits-there}
 use Rattle.segment_counts.proofs.tally.Tallies.add.Goals as goal
 
-pub add-requires-clause-at : goal.add-requires-clause-at
-add-requires-clause-at c = c.requires.at Nodes
+pub plus-requires : goal.plus-requires
+plus-requires c = λ m. fits-there m c.args.self.now c.args.weights (c.requires.under m) (c.if-not-have_room_for.ensures.small refl m)
 
-pub add-requires-clause-under : goal.add-requires-clause-under
-add-requires-clause-under c = c.requires.under Nodes
-
-pub add-requires-clause-total : goal.add-requires-clause-total
-add-requires-clause-total c = c.requires.total Nodes
-
-pub add-requires-2-clause-at : goal.add-requires-2-clause-at
-add-requires-2-clause-at c = c.requires.at Texts
-
-pub add-requires-2-clause-under : goal.add-requires-2-clause-under
-add-requires-2-clause-under c = c.requires.under Texts
-
-pub add-requires-2-clause-total : goal.add-requires-2-clause-total
-add-requires-2-clause-total c = c.requires.total Texts
-
-pub add-requires-3-clause-at : goal.add-requires-3-clause-at
-add-requires-3-clause-at c = c.requires.at All
-
-pub add-requires-3-clause-under : goal.add-requires-3-clause-under
-add-requires-3-clause-under c = c.requires.under All
-
-pub add-requires-3-clause-total : goal.add-requires-3-clause-total
-add-requires-3-clause-total c = c.requires.total All
+pub returns : goal.returns
+returns c = record {
+  adds = λ _ m. added m c.args.label c.in_default.not-Param c.args.self.now c.args.weights c.plus.result c.plus-self.result (c.plus.ensures m) (c.plus-self.ensures m);
+  small = λ _ m. omega (arith, c.plus-self.ensures m, c.if-not-have_room_for.ensures.small refl m);
+  many = λ e. absurd (cc);
+}

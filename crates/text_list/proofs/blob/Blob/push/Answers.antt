@@ -1,11 +1,16 @@
-use Rattle.std.proofs.Common.{◌++◌, ◌∷◌, [], ap, length, ◌∙◌}
+use Rattle.std.proofs.Common.{◌≡◌, ◌++◌, ◌∷◌, [], ap, length, ◌∙◌, arith, length-append}
 use Rattle.text_list.proofs.PieceLemmas.{grown}
 use Rattle.text_list.proofs.blob.Blob.push.Goals as goal
 
 pub invariant_of-self-2 : goal.invariant_of-self-2
-invariant_of-self-2 c = (grown _ _ c.args.text.now _ _ _ _ c.in_ok-extend_from_slice.ensures.items (ap length c.as_slice-end.ensures.value) c.in_ok-reserve.ensures.items c.in_ok-push.ensures.items c.self.invariant).1
+invariant_of-self-2 c =
+    let longer = c.in_ok-extend_from_slice.ensures.items in
+    let end : c.in-Ok.end ≡ length c.extend_from_slice.new.self.items = omega (arith, c.in-Ok.ensures.1, ap length c.as_slice.ensures.value, ap length longer, length-append c.self.inside.bytes.items c.args.text.now) in
+    (grown _ _ c.args.text.now _ _ _ _ longer end c.in_ok-reserve.ensures.items c.in_ok-push.ensures.items c.self.invariant).1
 
 pub returns-clause-ok : goal.returns-clause-ok
 returns-clause-ok c =
-    (grown _ _ c.args.text.now _ _ _ _ c.in_ok-extend_from_slice.ensures.items (ap length c.as_slice-end.ensures.value) c.in_ok-reserve.ensures.items c.in_ok-push.ensures.items c.self.invariant).0
+    let longer = c.in_ok-extend_from_slice.ensures.items in
+    let end : c.in-Ok.end ≡ length c.extend_from_slice.new.self.items = omega (arith, c.in-Ok.ensures.1, ap length c.as_slice.ensures.value, ap length longer, length-append c.self.inside.bytes.items c.args.text.now) in
+    (grown _ _ c.args.text.now _ _ _ _ longer end c.in_ok-reserve.ensures.items c.in_ok-push.ensures.items c.self.invariant).0
     ∙ ap (λ ts. ts ++ c.args.text.now ∷ []) c.self.view_is

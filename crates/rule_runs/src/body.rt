@@ -8,23 +8,6 @@ use slt_grammar::{Grammar, Label};
 use std::alloc::{AllocError, Global};
 use std::sync::ledger::Ledger;
 
-// Reads a body, with at most two steps for each of its nodes.
-pub(crate) fn read_body<L: Ledger>(
-    alloc: Global,
-    grammar: &Grammar,
-    rule: usize,
-    steps: &mut Steps<L>,
-) -> Result<Vec<Label>, AllocError>
-    requires { rule < length grammar.now.rules }
-    ensures labels { IfOk result (λ labels. labels.items ≡ body_at (rules_of grammar.now.rules) rule) }
-    ensures steps { steps.new ≤ steps.old + 2 * length (body_at (rules_of grammar.now.rules) rule) }
-    ensures counted { steps.old ≤ steps.new }
-{
-    let mut labels = Vec::new(alloc);
-    append_body(grammar, rule, &mut labels, steps)?;
-    Ok(labels)
-}
-
 // Reads a body to the end of a list, with at most two steps for each of its nodes.
 pub(crate) fn append_body<L: Ledger>(
     grammar: &Grammar,

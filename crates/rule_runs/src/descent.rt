@@ -14,10 +14,10 @@ ghost use Rattle.rule_runs.specs.Walks.{Open, woven_marks};
 ghost use Rattle.rule_runs.specs.Descents.{AreOpen, HasRoomAhead, IsNext, HasOutcome, Standing, Asks, tolds, downs_handed};
 
 use crate::kept::{Bodies, read};
+use crate::layers::Layers;
 use crate::listing::Part;
 use crate::notes::Note;
 use crate::rising::RiseTable;
-use crate::layers::Layers;
 use crate::spots::{Handed, Outcome, Spot, Spots};
 use crate::told::{Here, Told};
 use read_steps::Steps;

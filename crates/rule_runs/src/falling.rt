@@ -82,7 +82,16 @@ pub fn fall<A: Falling, L: Ledger>(
         down: automaton.start()?,
     };
     let mut marks = Layers::new(alloc);
-    let mut frame = begin(alloc, automaton, grammar, risen, &mut bodies, &mut marks, start, steps)?;
+    let mut frame = begin(
+        alloc,
+        automaton,
+        grammar,
+        risen,
+        &mut bodies,
+        &mut marks,
+        start,
+        steps,
+    )?;
     'bodies: loop {
         let Some(notes) = bodies.notes(frame.spot.pair) else {
             unreachable!()
@@ -93,7 +102,16 @@ pub fn fall<A: Falling, L: Ledger>(
             Some(spot) => {
                 frames.push(frame)?;
                 marks.open()?;
-                frame = begin(alloc, automaton, grammar, risen, &mut bodies, &mut marks, spot, steps)?;
+                frame = begin(
+                    alloc,
+                    automaton,
+                    grammar,
+                    risen,
+                    &mut bodies,
+                    &mut marks,
+                    spot,
+                    steps,
+                )?;
             }
             None => match frames.pop() {
                 None => {

@@ -94,7 +94,6 @@ pub(crate) fn read<A: Rising, L: Ledger>(
         &bodies.labels,
         &mut bodies.states,
     )?;
-    let nodes = notes.len();
     bodies.kept[pair] = Some(notes);
-    Ok(nodes)
+    Ok(bodies.labels.len())
 }

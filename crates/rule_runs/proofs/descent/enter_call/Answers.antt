@@ -10,10 +10,11 @@ use Rattle.rule_runs.proofs.descent.enter_call.Goals as goal
 pub arguments-init : goal.arguments-init
 arguments-init g c =
     let o = c.args.outcome.now in
+    let n : c.len-left.result ≡ length o.handed.items = omega (arith, c.len-left.ensures, o.handed.ok.0) in
     record {
-      open_so_far = λ lists ms ss opened told. woven-none o lists c.len-left.result c.args.marks.now.top ms ss c.len-left.ensures opened;
-      behind = told-last o c.len-left.result c.len-left.ensures;
-      within = omega (arith, c.len-left.ensures);
+      open_so_far = λ lists ms ss opened told. woven-none o lists c.len-left.result c.args.marks.now.top ms ss n opened;
+      behind = told-last o c.len-left.result n;
+      within = omega (arith, n);
       below = refl;
     }
 

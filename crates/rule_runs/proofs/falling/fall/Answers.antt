@@ -209,7 +209,9 @@ enter_call-requires g c =
     let w3 : AreWaiting A W G ks ls f'.spot (below ∷ gs) mss = subst (λ x. AreWaiting A W G ks ls x (below ∷ gs) mss) (sym c.in_ok-spot.ensures.same) w2 in
     let r : FallsOnce A W G (known_triples A W G ks c.bodies.known ++ (triple_at ks f.spot ∷ open_triples A W G ks (below ∷ gs))) (c.bodies.steps - c.args.steps.now) = rw e at c.bodies.invariant.reads in
     let small = outer-small A W G ks c.rules-rules.ensures.grammar c.requires.small (known_triples A W G ks c.bodies.known) (triple_at ks f.spot) below.spot (open_triples A W G ks gs) _ r in
-    walk-room-call A W G ks ls (pair_at ks below.spot.pair) below.spot.down below.outcome f'.spot.pair (reverse (take below.left w3.0.notes)) (get_or mss 0 []) below.here f'.spot.down w3.0.walks f'.outcome h small
+    record {
+      room = walk-room-call A W G ks ls (pair_at ks below.spot.pair) below.spot.down below.outcome f'.spot.pair (reverse (take below.left w3.0.notes)) (get_or mss 0 []) below.here f'.spot.down w3.0.walks f'.outcome h small;
+    }
 
 pub note-requires : goal.note-requires
 note-requires g c =

@@ -57,8 +57,8 @@ returns-clause-stays g c = λ i h. has-set c.args.bodies.now.kept.items c.args.p
 pub returns-clause-read : goal.returns-clause-read
 returns-clause-read g c = (c.in_ok-notes.notes, set-there c.args.bodies.now.kept.items c.args.pair _ (let r = c.requires.kept.rows in let t = c.requires.there in omega arith))
 
-pub returns-in_err-clause-reads : goal.returns-in_err-clause-reads
-returns-in_err-clause-reads g c =
+pub returns-in_err-append_body-clause-reads : goal.returns-in_err-append_body-clause-reads
+returns-in_err-append_body-clause-reads g c =
     let G = rules_of c.args.grammar.now.rules in
     let ks = keys c.args.risen.now.known in
     let ms = c.args.bodies.now.kept.items in
@@ -108,3 +108,13 @@ returns-clause-once g c =
     let within : c.args.pair < length ms = (let r = c.requires.kept.rows in let t = c.requires.there in omega arith) in
     let h = c.append_body.ensures.steps in
     omega (arith, unread-set G ks ms c.args.pair c.in_ok-notes.notes c.requires.there within none)
+
+pub returns-clause-nodes : goal.returns-clause-nodes
+returns-clause-nodes g c =
+    let G = rules_of c.args.grammar.now.rules in
+    let ks = keys c.args.risen.now.known in
+    let kn = ap (λ r. r.known) c.risen.view_is in
+    let k : key_of c.in-Some-pair.met.now ≡ pair_at ks c.args.pair = c.in-Some-pair.ensures.pair ∙ ap (λ x. pair_at (keys x) c.args.pair) kn in
+    let n : length (body_at G c.in-Some-pair.met.now.rule) ≡ length (body_at G (pair_at ks c.args.pair).0) = ap (λ (x : RuleStates g.row.A-State.Denot). length (body_at G x.0)) k in
+    let b : c.append_body.new.labels.items ≡ body_at G c.in-Some-pair.met.now.rule = c.in_ok-append_body.ensures.labels ∙ ap (λ xs. xs ++ body_at G c.in-Some-pair.met.now.rule) c.clear.ensures.items in
+    omega (arith, c.len-2.ensures, ap length b, n, c.append_body.new.labels.ok.0)

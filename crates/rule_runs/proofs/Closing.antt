@@ -88,11 +88,11 @@ module _ {S : Type 0} (A : Algebra S) (G : List Rule) where
   }
 
   -- a body that was read to its root is known, and the body that waits for it goes on
-  pub closing-return : (known : List (RuleStates S × S)) (f g g' : Frame S) (gs : List (Frame S)) (s : S) → IsClosing A G known f (g ∷ gs) → AreKnown A G known (key_of f.pair) 0 → g'.pair ≡ g.pair → g'.left ≡ g.left
-      → IsClosing A G (known ++ (key_of f.pair, s) ∷ []) g' gs
-  closing-return known f g g' gs s h n e l = record {
-    now = rw (e, l) (λ place q le i. by_case place q (h.outer.0 place q le i));
-    outer = rw e (awaiting-more known ((key_of f.pair, s) ∷ []) (key_of g.pair) gs h.outer.1);
+  pub closing-return : (known : List (RuleStates S × S)) (f g : Frame S) (gs : List (Frame S)) (s : S) → IsClosing A G known f (g ∷ gs) → AreKnown A G known (key_of f.pair) 0
+      → IsClosing A G (known ++ (key_of f.pair, s) ∷ []) g gs
+  closing-return known f g gs s h n = record {
+    now = λ place q le i. by_case place q (h.outer.0 place q le i);
+    outer = awaiting-more known ((key_of f.pair, s) ∷ []) (key_of g.pair) gs h.outer.1;
     all = all-more known (key_of f.pair) s h.all n;
   }
     where

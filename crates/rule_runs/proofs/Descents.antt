@@ -29,7 +29,7 @@ use Rattle.rule_runs.specs.Notes.{AreNotes}
 use Rattle.rule_runs.specs.Risen.{IsPair, pair_at}
 use Rattle.rule_runs.specs.Tellings.{IsTelling, AreTold}
 use Rattle.rule_runs.specs.Walks.{Open, Place, absorbed, after, down_at, downs_of, woven_marks, told, param_downs, woven}
-use Rattle.rule_runs.specs.Descents.{AreOpen, IsNext, CallsMeet, Walks, HasOutcome, Waiting, AreWaiting}
+use Rattle.rule_runs.specs.Descents.{AreOpen, IsNext, CallsMeet, Walks, HasOutcome, Waiting, AreWaiting, befores, downs_handed, tolds}
 use Rattle.rule_runs.proofs.Cutting.{before-nothing, beside-nothing, length-joined, length-cut, cut-some}
 use Rattle.rule_runs.proofs.Handing.{AllHoles, linear, handed_all, length-handed, fall-body}
 use Rattle.rule_runs.proofs.Lists.{slice_get-at}
@@ -102,9 +102,9 @@ module _ {S D : Type 0} (A : Algebra S) (W : Downward S D) (G : List Rule) (g : 
 
   module _ (ks : List (RuleStates S)) (lists : List (Vec Part Global)) where
     -- a body that is not read yet
-    pub walk-start : (down : D) (notes : List (Note S)) (here : Here) (outcome : Outcome D) → Falls S D A W G key.0 key.1 down → AreNotes A G ks key.1 (body_at G key.0) notes → outcome.told.items ≡ [] → outcome.handed.items ≡ [] → IsTelling lists here nothing
+    pub walk-start : (down : D) (notes : List (Note S)) (here : Here) (outcome : Outcome D) → Falls S D A W G key.0 key.1 down → AreNotes A G ks key.1 (body_at G key.0) notes → outcome.handed.items ≡ [] → IsTelling lists here nothing
         → Walks A W G ks lists key down notes (MarkTerm down ∷ []) here outcome
-    walk-start down notes here outcome f noted t h i = record {
+    walk-start down notes here outcome f noted h i = record {
       args = key.1;
       ls = body_at G key.0;
       ms = Place down ∷ [];
@@ -113,7 +113,7 @@ module _ {S D : Type 0} (A : Algebra S) (W : Downward S D) (G : List Rule) (g : 
       noted = noted;
       marked = (refl, tt);
       telling = i;
-      finished = rw t tt;
+      finished = rw h tt;
       stretches = told-value down;
       hands = rw h (handed-value down);
       terms = (g.each key.0 pair.there).shaped.term;
@@ -133,7 +133,7 @@ module _ {S D : Type 0} (A : Algebra S) (W : Downward S D) (G : List Rule) (ks :
     noted = w.noted;
     marked = open-more lists more marks w.ms w.marked;
     telling = telling-more lists more here w.s w.telling;
-    finished = told-more lists more outcome.told.items w.done w.finished;
+    finished = told-more lists more (befores outcome) w.done w.finished;
     stretches = w.stretches;
     hands = w.hands;
     terms = w.terms;
@@ -142,25 +142,20 @@ module _ {S D : Type 0} (A : Algebra S) (W : Downward S D) (G : List Rule) (ks :
   }
 
   pub outcome-more : (lists more : List (Vec Part Global)) (spot : Spot D) (outcome : Outcome D) → HasOutcome A W G ks lists spot outcome → HasOutcome A W G ks (lists ++ more) spot outcome
-  outcome-more lists more spot outcome h = record { there = h.there; finished = told-more lists more outcome.told.items _ h.finished; hands = h.hands }
+  outcome-more lists more spot outcome h = record { there = h.there; finished = told-more lists more (tolds outcome) _ h.finished; hands = h.hands }
 
-  pub outcome-lengths : (lists : List (Vec Part Global)) (spot : Spot D) (outcome : Outcome D) → HasOutcome A W G ks lists spot outcome → length outcome.told.items ≡ length outcome.handed.items + 1
-  outcome-lengths lists spot outcome h =
-      let k : RuleStates S = pair_at ks spot.pair in
-      omega (arith, length-told lists outcome.told.items _ h.finished, length-cut A W (value_at G k.0) k.1 spot.down, ap length h.hands, length-handed A W (value_at G k.0) k.1 spot.down)
-
-  waits-more : (lists more : List (Vec Part Global)) (f : Descent D) (spot : Spot D) → Waiting A W G ks lists f spot → Waiting A W G ks (lists ++ more) f spot
-  waits-more lists more f spot h = record {
+  waits-more : (lists more : List (Vec Part Global)) (f : Descent D) (marks : List (Mark D)) (spot : Spot D) → Waiting A W G ks lists f marks spot → Waiting A W G ks (lists ++ more) f marks spot
+  waits-more lists more f marks spot h = record {
     notes = h.notes;
     noted = h.noted;
     within = h.within;
-    walks = walk-more lists more (pair_at ks f.spot.pair) f.spot.down (NoteCall spot.pair ∷ reverse (take f.left h.notes)) (MarkTerm spot.down ∷ reverse f.marks.items) f.here f.outcome h.walks;
+    walks = walk-more lists more (pair_at ks f.spot.pair) f.spot.down (NoteCall spot.pair ∷ reverse (take f.left h.notes)) (MarkTerm spot.down ∷ marks) f.here f.outcome h.walks;
   }
 
-  pub waiting-more : (lists more : List (Vec Part Global)) (spot : Spot D) (gs : List (Descent D)) → AreWaiting A W G ks lists spot gs → AreWaiting A W G ks (lists ++ more) spot gs
-  waiting-more lists more spot [] h = h
-  waiting-more lists more spot (f ∷ gs) h =
-      (waits-more lists more f spot h.0, h.1, h.2, waiting-more lists more f.spot gs h.3)
+  pub waiting-more : (lists more : List (Vec Part Global)) (spot : Spot D) (gs : List (Descent D)) (mss : List (List (Mark D))) → AreWaiting A W G ks lists spot gs mss → AreWaiting A W G ks (lists ++ more) spot gs mss
+  waiting-more lists more spot [] mss h = h
+  waiting-more lists more spot (f ∷ gs) mss h =
+      (waits-more lists more f (get_or mss 0 []) spot h.0, h.1, h.2, waiting-more lists more f.spot gs (drop 1 mss) h.3)
 
   module _ (lists : List (Vec Part Global)) (key : RuleStates S) (down : D) (outcome : Outcome D) where
     -- the next term's place is open
@@ -177,7 +172,7 @@ module _ {S D : Type 0} (A : Algebra S) (W : Downward S D) (G : List Rule) (ks :
       telling = n.telling;
       finished = w.finished;
       stretches = ap (λ x. w.done ++ x) (sym (told-placed A W G w.args w.s w.ms d w.ls n.is)) ∙ w.stretches;
-      hands = ap (λ x. outcome.handed.items ++ param_downs A W G w.args x w.ls) (sym n.is) ∙ w.hands;
+      hands = ap (λ x. downs_handed outcome ++ param_downs A W G w.args x w.ls) (sym n.is) ∙ w.hands;
       terms = (let t : AreTerms (arity (ranks_of G)) (length (d ∷ downs_of (after w.ms))) w.ls = rw n.is at w.terms in t);
       meet = (let t : CallsMeet A W G (Falls S D A W G) w.args (d ∷ downs_of (after w.ms)) w.ls = rw n.is at w.meet in t);
       earlier = w.earlier;
@@ -232,7 +227,7 @@ module _ {S D : Type 0} (A : Algebra S) (W : Downward S D) (G : List Rule) (ks :
           telling = telling;
           finished = w.finished;
           stretches = subst (λ (x : Fell D). w.done ++ told A W G w.args (beside w.s (one x.hit f)) (Place x.left ∷ Place x.right ∷ m.0) n.0 ≡ cut A W (value_at G key.0) key.1 down) e (rw (m.1, n.1) at w.stretches);
-          hands = subst (λ (x : Fell D). outcome.handed.items ++ param_downs A W G w.args (x.left ∷ x.right ∷ downs_of m.0) n.0 ≡ handed A W (value_at G key.0) key.1 down) e (rw (m.1, n.1) at w.hands);
+          hands = subst (λ (x : Fell D). downs_handed outcome ++ param_downs A W G w.args (x.left ∷ x.right ∷ downs_of m.0) n.0 ≡ handed A W (value_at G key.0) key.1 down) e (rw (m.1, n.1) at w.hands);
           terms = (let t : AreTerms (arity (ranks_of G)) (2 + length (downs_of m.0)) n.0 = rw (m.1, n.1) at w.terms in let k : 2 + length (downs_of m.0) ≡ suc (suc (length (downs_of m.0))) = omega arith in rw k at t);
           meet = subst (λ (x : Fell D). CallsMeet A W G (Falls S D A W G) w.args (x.left ∷ x.right ∷ downs_of m.0) n.0) e (rw (m.1, n.1) at w.meet);
           earlier = rw n.1 at w.earlier;
@@ -242,7 +237,7 @@ module _ {S D : Type 0} (A : Algebra S) (W : Downward S D) (G : List Rule) (ks :
     pub walk-call : IsGrammar G → IsPair G key → (i : ℕ) (notes : List (Note S)) (marks marks' : List (Mark D)) (here here' : Here) (d : D) (known : Outcome D) (w : Walks A W G ks lists key down (NoteCall i ∷ notes) (MarkTerm d ∷ marks) here outcome)
         → HasOutcome A W G ks lists (record { pair = i; down = d }) known
         → IsTelling lists here' (beside w.s (get_or (cut A W (value_at G (pair_at ks i).0) (pair_at ks i).1 d) 0 nothing))
-        → AreOpen lists marks' (woven_marks known.handed.items (drop 1 (cut A W (value_at G (pair_at ks i).0) (pair_at ks i).1 d)) ++ (open-term lists d marks w.ms w.marked).0)
+        → AreOpen lists marks' (woven_marks (downs_handed known) (drop 1 (cut A W (value_at G (pair_at ks i).0) (pair_at ks i).1 d)) ++ (open-term lists d marks w.ms w.marked).0)
         → Walks A W G ks lists key down notes marks' here' outcome
     walk-call g pair i notes marks marks' here here' d known w h telling marked =
         let m = open-term lists d marks w.ms w.marked in
@@ -253,7 +248,7 @@ module _ {S D : Type 0} (A : Algebra S) (W : Downward S D) (G : List Rule) (ks :
         let k : pair_at ks i ≡ (q, kids) = (slice_get-at ks i (q, kids) (0, []) n.3).1 in
         let c : List Stretch = cut A W (value_at G q) kids d in
         let ds : List D = handed A W (value_at G q) kids d in
-        let hd : known.handed.items ≡ ds = h.hands ∙ ap (λ (x : RuleStates S). handed A W (value_at G x.0) x.1 d) k in
+        let hd : downs_handed known ≡ ds = h.hands ∙ ap (λ (x : RuleStates S). handed A W (value_at G x.0) x.1 d) k in
         let ck : cut A W (value_at G (pair_at ks i).0) (pair_at ks i).1 d ≡ c = ap (λ (x : RuleStates S). cut A W (value_at G x.0) x.1 d) k in
         let ms : List (Open D) = woven_marks ds (drop 1 c) ++ m.0 in
         let dw : downs_of ms ≡ ds ++ downs_of m.0 = downs-woven ds (drop 1 c) m.0 in
@@ -290,13 +285,13 @@ module _ {S D : Type 0} (A : Algebra S) (W : Downward S D) (G : List Rule) (ks :
 
     -- a parameter ends a stretch
     pub walk-param : (more : List (Vec Part Global)) (notes : List (Note S)) (marks : List (Mark D)) (here here' : Here) (d : D) (new : Outcome D) (w : Walks A W G ks lists key down (NoteParam ∷ notes) (MarkTerm d ∷ marks) here outcome)
-        → AreTold (lists ++ more) new.told.items (w.done ++ w.s ∷ []) → IsTelling (lists ++ more) here' nothing → new.handed.items ≡ outcome.handed.items ++ d ∷ []
+        → AreTold (lists ++ more) (befores new) (w.done ++ w.s ∷ []) → IsTelling (lists ++ more) here' nothing → downs_handed new ≡ downs_handed outcome ++ d ∷ []
         → Walks A W G ks (lists ++ more) key down notes marks here' new
     walk-param more notes marks here here' d new w finished telling handed_is =
         let m = open-term lists d marks w.ms w.marked in
         let n = note-param A G ks w.args w.ls notes w.noted in
         let s : w.done ++ (w.s ∷ told A W G (drop 1 w.args) nothing m.0 n.0) ≡ cut A W (value_at G key.0) key.1 down = rw (m.1, n.1) at w.stretches in
-        let h : outcome.handed.items ++ (d ∷ param_downs A W G (drop 1 w.args) (downs_of m.0) n.0) ≡ handed A W (value_at G key.0) key.1 down = rw (m.1, n.1) at w.hands in
+        let h : downs_handed outcome ++ (d ∷ param_downs A W G (drop 1 w.args) (downs_of m.0) n.0) ≡ handed A W (value_at G key.0) key.1 down = rw (m.1, n.1) at w.hands in
         record {
           args = drop 1 w.args;
           ls = n.0;
@@ -308,7 +303,7 @@ module _ {S D : Type 0} (A : Algebra S) (W : Downward S D) (G : List Rule) (ks :
           telling = telling;
           finished = finished;
           stretches = append_assoc w.done (w.s ∷ []) (told A W G (drop 1 w.args) nothing m.0 n.0) ∙ s;
-          hands = rw handed_is (append_assoc outcome.handed.items (d ∷ []) (param_downs A W G (drop 1 w.args) (downs_of m.0) n.0) ∙ h);
+          hands = rw handed_is (append_assoc (downs_handed outcome) (d ∷ []) (param_downs A W G (drop 1 w.args) (downs_of m.0) n.0) ∙ h);
           terms = rw (m.1, n.1, zero-add) at w.terms;
           meet = rw (m.1, n.1) at w.meet;
           earlier = rw n.1 at w.earlier;
@@ -316,12 +311,12 @@ module _ {S D : Type 0} (A : Algebra S) (W : Downward S D) (G : List Rule) (ks :
 
     -- the end of a body ends the last stretch
     pub walk-end : (after_lists : List (Vec Part Global)) (marks : List (Mark D)) (here : Here) (new : Outcome D) (w : Walks A W G ks lists key down [] marks here outcome)
-        → AreTold after_lists new.told.items (w.done ++ absorbed w.s w.ms ∷ []) → new.handed.items ≡ outcome.handed.items
-        → AreTold after_lists new.told.items (cut A W (value_at G key.0) key.1 down) × (new.handed.items ≡ handed A W (value_at G key.0) key.1 down)
+        → AreTold after_lists (tolds new) (w.done ++ absorbed w.s w.ms ∷ []) → downs_handed new ≡ downs_handed outcome
+        → AreTold after_lists (tolds new) (cut A W (value_at G key.0) key.1 down) × (downs_handed new ≡ handed A W (value_at G key.0) key.1 down)
     walk-end after_lists marks here new w finished handed_is =
         let n = note-none A G ks w.args w.ls w.noted in
         let s : w.done ++ (absorbed w.s w.ms ∷ []) ≡ cut A W (value_at G key.0) key.1 down = rw n at w.stretches in
-        let h : outcome.handed.items ++ [] ≡ handed A W (value_at G key.0) key.1 down = rw n at w.hands in (
+        let h : downs_handed outcome ++ [] ≡ handed A W (value_at G key.0) key.1 down = rw n at w.hands in (
           rw s at finished,
-          handed_is ∙ sym (append-nil outcome.handed.items) ∙ h,
+          handed_is ∙ sym (append-nil (downs_handed outcome)) ∙ h,
         )

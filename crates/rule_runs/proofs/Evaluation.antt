@@ -1,6 +1,7 @@
 -- Bodies evaluated from their end, label by label.
 use Rattle.std.proofs.Common.{◌≡◌, ℕ, zero, suc, ◌+◌, ◌-◌, ◌<◌, ◌≤◌, List, [], ◌∷◌, length, get_or, take, drop, refl, ap, sym, ◌∙◌, arith, get_or-drop, add-zero}
 use Rattle.std.proofs.lemmas.List.{drop_more, take_more, take-append-drop, drop_all, drop-drop, get_or_default, take_all}
+use Rattle.rule_runs.proofs.Lists.{one_item}
 use Rattle.std.proofs.lemmas.Option.{slice_get-get_or}
 use Rattle.rule_arena.specs.Preorder.{AreTerms}
 use Rattle.rule_arena.specs.declared.label.Label.{Label}
@@ -172,17 +173,10 @@ module _ {S : Type 0} (A : Algebra S) (G : List Rule) (g : IsGrammar G) (k : Rul
     within = omega (arith, l);
   }
 
-  -- the state of a body that was evaluated to its root
-  pub state-at : (waiting : ℕ) (states : List S) (s : S) (rest : List S) → IsEvaluated A G k.1 body 0 waiting states → states ≡ s ∷ rest → s ≡ state_at A G k
-  state-at waiting states s rest ev e =
+  -- a body that was evaluated to its root has one state
+  pub root-states : (waiting : ℕ) (states : List S) → IsEvaluated A G k.1 body 0 waiting states → states ≡ state_at A G k ∷ []
+  root-states waiting states ev =
       let m = memo-at A G g k.0 pair.there k.1 in
       let b : states ≡ states_of A G k.1 (body_at G k.0) = rw (← is_body) ev.are in
-      sym (m ∙ ap (λ xs. get_or xs 0 A.bottom) (sym b ∙ e))
-
-  -- and it has one
-  pub state-there : (waiting : ℕ) (states : List S) → IsEvaluated A G k.1 body 0 waiting states → length states ≡ 0 → ⊥
-  state-there waiting states ev none =
-      let m = meanings-whole A (ranks_of G) (all_meanings A G) 1 k.1 (body_at G k.0) [] (g.each k.0 pair.there).shaped.term in
-      let b : states ≡ states_of A G k.1 (body_at G k.0) = rw (← is_body) ev.are in
-      let n : length states ≡ length (states_of A G k.1 (body_at G k.0)) = ap length b in
-      absurd (omega (arith, m.1, n))
+      let n = meanings-whole A (ranks_of G) (all_meanings A G) 1 k.1 (body_at G k.0) [] (g.each k.0 pair.there).shaped.term in
+      b ∙ one_item (states_of A G k.1 (body_at G k.0)) A.bottom n.1 ∙ ap (λ s. s ∷ []) (sym m)

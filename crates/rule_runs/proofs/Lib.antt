@@ -17,6 +17,7 @@ pub mod Weaving
 pub mod Telling
 pub mod Tellings
 pub mod Places
+pub mod Layering
 pub mod Marks
 pub mod NoteLemmas
 pub mod KeptNotes

@@ -119,3 +119,8 @@ all-get P xs i x h e = let r = slice_get-at xs i x x e in rw r.1 at (h i x r.0)
 pub no_more : {X : Type 0} (o : Option X) → ((x : X) → o ≡ Some x → ⊥) → o ≡ None
 no_more None h = refl
 no_more (Some x) h = absurd (h x refl)
+
+pub one_item : {X : Type 0} (xs : List X) (d : X) → length xs ≡ 1 → xs ≡ get_or xs 0 d ∷ []
+one_item [] d e = absurd (omega arith)
+one_item (x ∷ []) d e = refl
+one_item (x ∷ y ∷ xs) d e = absurd (omega arith)

@@ -1,7 +1,7 @@
 -- The pairs that a run upward reads: each is met, and no two are the same.
 use Rattle.rule_runs.proofs.Closing.{closing-end}
 use Rattle.std.proofs.lemmas.List.Elements.{All-append, All-cons, All-head, All-map, All-nil, All-tail}
-use Rattle.std.proofs.Common.{◌≡◌, ◌≢◌, ℕ, ◌+◌, ◌-◌, ◌*◌, ◌^◌, ◌<◌, ◌≤◌, List, [], ◌∷◌, ◌++◌, length, reverse, sum_by, refl, sym, ap, ◌∙◌, arith, Vec, Global, append_assoc, All}
+use Rattle.std.proofs.Common.{◌≡◌, ◌≢◌, ℕ, ◌+◌, ◌-◌, ◌*◌, ◌^◌, ◌<◌, ◌≤◌, List, [], ◌∷◌, ◌++◌, length, drop, reverse, sum_by, refl, sym, ap, ◌∙◌, arith, append_assoc, All}
 use Rattle.std.proofs.lemmas.List.{map-append}
 use Rattle.std.proofs.lemmas.List.Sums.{get_or-le-sum_by, sum_by-append}
 use Rattle.slt_grammar.specs.Algebras.{Algebra}
@@ -10,22 +10,23 @@ use Rattle.slt_grammar.specs.Grammars.{IsGrammar, body_at, value, no_rule, whole
 use Rattle.rule_runs.specs.Reached.{RuleStates, Uses, at_start, at_call, ReadsOnce}
 use Rattle.slt_grammar.specs.declared.rules.Rule.{Rule}
 use Rattle.slt_grammar.proofs.Carrying.{up-value_at}
+use Rattle.rule_arena.specs.declared.label.Label.{Label}
 use Rattle.rule_runs.specs.declared.memo.Pair.{Pair}
 use Rattle.rule_runs.specs.declared.frame.Frame.{Frame}
 use Rattle.rule_runs.specs.Entries.{key_of}
 use Rattle.rule_runs.specs.Risen.{IsPair, IsRun, state_at, keys, AreKnown}
-use Rattle.rule_runs.specs.Frames.{Stands, Waits, AreFrames, keys_of, cost, base, IsClosing}
+use Rattle.rule_runs.specs.Frames.{Stands, Waits, AreFrames, AreStacked, GivesWay, own, ahead, below, behind, keys_of, cost, base, IsClosing}
 use Rattle.rule_runs.proofs.Lists.{reverse-push, cost-lt, all-at, all-insert, all-one, distinct-one, distinct-insert, sum-insert}
 
 module _ {S : Type 0} (A : Algebra S) (G : List Rule) where
-  pub frames-stands : (extra : List S) (f : Frame S) (gs : List (Frame S)) → AreFrames A G extra f gs → Stands A G extra f
-  frames-stands extra f [] h = h.0
-  frames-stands extra f (g ∷ gs) h = h.0
+  pub frames-stands : (f : Frame S) (gs : List (Frame S)) → AreFrames A G f gs → Stands A G f
+  frames-stands f [] h = h.0
+  frames-stands f (g ∷ gs) h = h.0
 
   -- the rules of the outer bodies are later ones
-  pub outer-later : (r : ℕ) (extra : List S) (f : Frame S) (gs : List (Frame S)) → r ≤ f.pair.rule → AreFrames A G extra f gs → All (λ g. r < g.pair.rule) gs
-  outer-later r extra f [] h a = All-nil (λ (g : Frame S). r < g.pair.rule)
-  outer-later r extra f (g ∷ gs) h a = let k = a.1 in All-cons (λ (g : Frame S). r < g.pair.rule) g gs (omega arith) (outer-later r (state_at A G (key_of f.pair) ∷ []) g gs (omega arith) a.2)
+  pub outer-later : (r : ℕ) (f : Frame S) (gs : List (Frame S)) → r ≤ f.pair.rule → AreFrames A G f gs → All (λ g. r < g.pair.rule) gs
+  outer-later r f [] h a = All-nil (λ (g : Frame S). r < g.pair.rule)
+  outer-later r f (g ∷ gs) h a = let k = a.1 in All-cons (λ (g : Frame S). r < g.pair.rule) g gs (omega arith) (outer-later r g gs (omega arith) a.3)
 
   others-later : (q : RuleStates S) (gs : List (Frame S)) → All (λ g. q.0 < g.pair.rule) gs → All (λ k. k ≢ q) (keys_of gs)
   others-later q [] e = All-nil (λ (k : RuleStates S). k ≢ q)
@@ -36,7 +37,7 @@ module _ {S : Type 0} (A : Algebra S) (G : List Rule) where
 
   -- a pair that is not known is read too
   pub reads-more : (known : List (RuleStates S × S)) (f f' : Frame S) (gs : List (Frame S)) (pair : Pair S) (n m : ℕ)
-      → ReadsOnce A G (keys known ++ (key_of f.pair ∷ keys_of gs)) n → AreFrames A G [] f gs → Waits A G f pair f' → All (λ e. e.0 ≢ key_of pair) known
+      → ReadsOnce A G (keys known ++ (key_of f.pair ∷ keys_of gs)) n → AreFrames A G f gs → Waits A G f pair f' → All (λ e. e.0 ≢ key_of pair) known
       → m ≤ n + 2 * length (body_at G pair.rule)
       → ReadsOnce A G (keys known ++ (key_of pair ∷ key_of f.pair ∷ keys_of gs)) m
   reads-more known f f' gs pair n m reads frames waits new le =
@@ -47,7 +48,7 @@ module _ {S : Type 0} (A : Algebra S) (G : List Rule) where
       let calls = waits.calls in
       let v : Uses S A G pair.rule pair.states.items = rw calls.states (at_call f.pair.rule f.pair.states.items calls.place pair.rule u calls.is) in
       let e = waits.earlier in
-      let later = outer-later pair.rule [] f gs (omega arith) frames in
+      let later = outer-later pair.rule f gs (omega arith) frames in
       let apart : All (λ k. k ≢ q) (ks ++ ls) = All-append (λ (k : RuleStates S). k ≢ q) ks ls (All-map (λ (k : RuleStates S). k ≢ q) (λ (e : RuleStates S × S). e.0) known new) (others-later q (f ∷ gs) (All-cons (λ (g : Frame S). q.0 < g.pair.rule) f gs e later)) in
       let b = reads.bound in
       record {
@@ -66,28 +67,34 @@ module _ {S : Type 0} (A : Algebra S) (G : List Rule) where
         bound = omega arith;
       }
 
-  pub frames-wait : (extra : List S) (f f' : Frame S) (gs : List (Frame S)) → AreFrames A G [] f gs → f'.pair ≡ f.pair → Stands A G extra f' → AreFrames A G extra f' gs
-  frames-wait extra f f' [] a e s = (s, ap key_of e ∙ a.1)
-  frames-wait extra f f' (g ∷ gs) a e s = (s, rw e a.1, rw e a.2)
+  pub frames-wait : (f f' : Frame S) (gs : List (Frame S)) → AreFrames A G f gs → f'.pair ≡ f.pair → Stands A G f' → AreFrames A G f' gs
+  frames-wait f f' [] a e s = (s, ap key_of e ∙ a.1)
+  frames-wait f f' (g ∷ gs) a e s = (s, rw e a.1, rw e a.2, a.3)
 
-  pub frames-begin : (f f' c : Frame S) (gs : List (Frame S)) (pair : Pair S) → AreFrames A G [] f gs → Waits A G f pair f' → f'.pair ≡ f.pair → c.pair ≡ pair → Stands A G [] c → AreFrames A G [] c (f' ∷ gs)
-  frames-begin f f' c gs pair a w e h s = (s, rw (e, h) w.earlier, rw h (frames-wait (state_at A G (key_of pair) ∷ []) f f' gs a e w.stands))
+  pub frames-begin : (f f' c : Frame S) (gs : List (Frame S)) (pair : Pair S) → AreFrames A G f gs → Waits A G f pair f' → f'.pair ≡ f.pair → c.pair ≡ pair → Stands A G c → AreFrames A G c (f' ∷ gs)
+  frames-begin f f' c gs pair a w e h s = (s, rw (e, h) w.earlier, rw h w.expects, frames-wait f f' gs a e w.stands)
 
-  pub frames-return : (f : Frame S) (g : Frame S) (gs : List (Frame S)) (s : S) (stack : Vec S Global) → AreFrames A G [] f (g ∷ gs) → s ≡ state_at A G (key_of f.pair) → stack.items ≡ g.stack.items ++ s ∷ []
-      → AreFrames A G [] (record { pair = g.pair; labels = g.labels; left = g.left; waiting = g.waiting; stack = stack }) gs
-  frames-return f g gs s stack a is pushed =
-      let st = frames-stands (state_at A G (key_of f.pair) ∷ []) g gs a.2 in
-      let r : reverse stack.items ≡ state_at A G (key_of f.pair) ∷ reverse g.stack.items = ap reverse pushed ∙ reverse-push g.stack.items s ∙ ap (λ x. x ∷ reverse g.stack.items) is in
-      let n : Stands A G [] (record { pair = g.pair; labels = g.labels; left = g.left; waiting = g.waiting; stack = stack }) = record {
-        pair = st.pair;
-        labels = st.labels;
-        evaluated = rw r st.evaluated;
-      } in
-      again gs a.2 n
-    where
-      again : (gs : List (Frame S)) → AreFrames A G (state_at A G (key_of f.pair) ∷ []) g gs → Stands A G [] (record { pair = g.pair; labels = g.labels; left = g.left; waiting = g.waiting; stack = stack }) → AreFrames A G [] (record { pair = g.pair; labels = g.labels; left = g.left; waiting = g.waiting; stack = stack }) gs
-      again [] a n = (n, a.1)
-      again (h ∷ hs) a n = (n, a.1, a.2)
+  -- what is on the shared lists where the first pair is begun
+  pub stacked-start : (c : Frame S) (stack : List S) (labels more : List Label) → stack ≡ [] → labels ≡ [] → own A G c ≡ [] → more ≡ ahead G c ++ reverse labels → AreStacked A G c [] (reverse stack) more
+  stacked-start c stack labels more empty none own_none begun = record {
+    states = ap reverse empty ∙ sym (ap (λ ss. ss ++ []) own_none);
+    labels = begun ∙ ap (λ ls. ahead G c ++ reverse ls) none;
+  }
+
+  -- where another pair is begun, and where a frame has got its state
+  pub stacked-begin : (f f' c : Frame S) (gs : List (Frame S)) (stack stack' : List S) (labels labels' more : List Label) → AreStacked A G f gs stack labels
+      → GivesWay (own A G f) (drop 1 (own A G f')) stack stack' → GivesWay (ahead G f) (ahead G f') labels labels' → own A G c ≡ [] → more ≡ ahead G c ++ labels' → AreStacked A G c (f' ∷ gs) stack' more
+  stacked-begin f f' c gs stack stack' labels labels' more s states given none begun = record {
+    states = states (below A G gs) s.states ∙ ap (λ xs. xs ++ (drop 1 (own A G f') ++ below A G gs)) (sym none);
+    labels = begun ∙ ap (λ ls. ahead G c ++ ls) (given (behind G gs) s.labels);
+  }
+
+  pub stacked-return : (f g : Frame S) (gs : List (Frame S)) (s : S) (stack rest pushed : List S) (labels left : List Label) → AreFrames A G f (g ∷ gs) → AreStacked A G f (g ∷ gs) stack labels
+      → GivesWay (own A G f) [] stack (reverse rest) → GivesWay (ahead G f) [] labels left → s ≡ state_at A G (key_of f.pair) → pushed ≡ rest ++ s ∷ [] → AreStacked A G g gs (reverse pushed) left
+  stacked-return f g gs s stack rest pushed labels left frames st states given is more = record {
+    states = ap reverse more ∙ reverse-push rest s ∙ ap (λ x. x ∷ reverse rest) is ∙ ap (λ xs. state_at A G (key_of f.pair) ∷ xs) (states (below A G (g ∷ gs)) st.states) ∙ ap (λ xs. xs ++ below A G gs) (sym frames.2);
+    labels = given (behind G (g ∷ gs)) st.labels;
+  }
 
   -- a pair that has its state moves from the bodies to the table
   pub keys-return : (known : List (RuleStates S × S)) (f : Frame S) (gs : List (Frame S)) (s : S) → keys (known ++ (key_of f.pair, s) ∷ []) ++ keys_of gs ≡ keys known ++ (key_of f.pair ∷ keys_of gs)
@@ -96,13 +103,13 @@ module _ {S : Type 0} (A : Algebra S) (G : List Rule) where
   pub start-pair : IsGrammar G → IsPair {S = S} G (length G - 1, [])
   start-pair g = let some = g.some in record { there = omega arith; args = sym ((g.each (length G - 1) (omega arith)).shaped.start (omega arith)) }
 
-  pub top-state : IsGrammar G → (f : Frame S) (s : S) → AreFrames A G [] f [] → s ≡ state_at A G (key_of f.pair) → s ≡ up A (value G) []
+  pub top-state : IsGrammar G → (f : Frame S) (s : S) → AreFrames A G f [] → s ≡ state_at A G (key_of f.pair) → s ≡ up A (value G) []
   top-state g f s a e =
       let p = start-pair g in
       e ∙ ap (state_at A G) a.1 ∙ sym (up-value_at A G (length G - 1) [] p.args)
 
   -- the table with the start's state at its end is a whole run
-  pub run-whole : (known : List (RuleStates S × S)) (f : Frame S) (s : S) (n : ℕ) → All (λ e. e.1 ≡ state_at A G e.0) known → All (IsPair G) (keys known) → AreFrames A G [] f []
+  pub run-whole : (known : List (RuleStates S × S)) (f : Frame S) (s : S) (n : ℕ) → All (λ e. e.1 ≡ state_at A G e.0) known → All (IsPair G) (keys known) → AreFrames A G f []
       → ReadsOnce A G (keys known ++ (key_of f.pair ∷ [])) n → s ≡ state_at A G (key_of f.pair) → IsClosing A G known f [] → AreKnown A G known (key_of f.pair) 0 → IsRun A G (known ++ (key_of f.pair, s) ∷ [])
   run-whole known f s n right pairs frames reads e closing ended =
       let k : keys (known ++ (key_of f.pair, s) ∷ []) ≡ keys known ++ key_of f.pair ∷ [] = map-append (λ (e : RuleStates S × S). e.0) known ((key_of f.pair, s) ∷ []) in

@@ -1,6 +1,6 @@
 -- What a run downward adds up stays within the value of the rule that it reads.
 use Rattle.std.proofs.Common.{◌≡◌, ℕ, ◌+◌, ◌^◌, ◌<◌, ◌≤◌, List, [], ◌∷◌, ◌++◌, length, get_or, drop, map, sum_by, Bool, true, false, Vec, Global, refl, ap, ◌∙◌, arith, length-append}
-use Rattle.std.proofs.lemmas.List.{length-map}
+use Rattle.std.proofs.lemmas.List.{length-map, length_push}
 use Rattle.std.proofs.lemmas.List.Sums.{sum_by-append}
 use Rattle.rule_arena.specs.declared.label.Label.{Label}
 use Rattle.rule_arena.specs.declared.label.Label.TheVariants.{Bottom, Symbol, Call, Param}
@@ -19,7 +19,7 @@ use Rattle.rule_runs.specs.declared.spots.Outcome.{Outcome}
 use Rattle.rule_runs.specs.declared.told.Here.{Here}
 use Rattle.rule_runs.specs.declared.told.Told.{Told}
 use Rattle.rule_runs.specs.Cuts.{Stretch, nothing, one, beside, before, joined, cut}
-use Rattle.rule_runs.specs.Descents.{AreOpen, HasRoomAhead, Walks, HasOutcome, ahead}
+use Rattle.rule_runs.specs.Descents.{AreOpen, HasRoomAhead, Walks, HasOutcome, ahead, befores, tolds}
 use Rattle.rule_runs.specs.Hits.{raised}
 use Rattle.rule_runs.specs.Risen.{pair_at}
 use Rattle.rule_runs.specs.Tellings.{HasRoom, Tells}
@@ -161,9 +161,9 @@ module _ {S D : Type 0} (A : Algebra S) (W : Downward S D) (G : List Rule) (ks :
           cut-within f k A W (value_at G key.0) key.1 down,
         )
 
-    pub walk-room-call : 0 < length known.told.items → nodes_in (value_at G key.0) < 2 ^ 63 → (t : Told) → t ≡ get_or known.told.items 0 t → HasRoom here t
-    walk-room-call some small t e =
-        let tells = told-at lists known.told.items (cut A W (value_at G (pair_at ks i).0) (pair_at ks i).1 d) 0 t h.finished some e in
+    pub walk-room-call : nodes_in (value_at G key.0) < 2 ^ 63 → (t : Told) → t ≡ get_or (tolds known) 0 t → HasRoom here t
+    walk-room-call small t e =
+        let tells = told-at lists (tolds known) (cut A W (value_at G (pair_at ks i).0) (pair_at ks i).1 d) 0 t h.finished (omega (arith, length_push (befores known) known.last)) e in
         let so_far = w.telling in
         record {
           nodes = omega (arith, so_far.nodes, tells.nodes, call-within nodes_of nodes-counted);

@@ -19,7 +19,7 @@ use Rattle.rule_runs.specs.declared.told.Here.{Here}
 use Rattle.rule_runs.specs.declared.told.Told.{Told}
 use Rattle.rule_runs.specs.Answering.{all_of, IsThere, IsAnswered}
 use Rattle.rule_runs.specs.Cuts.{Stretch, nothing, beside, cut}
-use Rattle.rule_runs.specs.Descents.{AreOpen, HasOutcome, Standing, Waiting, Asks, AreWaiting, triple_at, fall_cost}
+use Rattle.rule_runs.specs.Descents.{AreOpen, HasOutcome, Standing, Waiting, Asks, AreWaiting, triple_at, fall_cost, befores, downs_handed, tolds}
 use Rattle.rule_runs.specs.Frames.{base}
 use Rattle.rule_runs.specs.Listing.{AreEarlier}
 use Rattle.rule_runs.specs.Risen.{IsPair, IsRun, pair_at, keys}
@@ -31,7 +31,7 @@ use Rattle.rule_runs.proofs.Sizes.{met-within}
 use Rattle.rule_runs.proofs.Lists.{empty_reverse, cost-lt, all-at, all-split, all-insert, all-one, all-unmap, distinct-one, distinct-insert, distinct-apart, one-place, sum-insert}
 use Rattle.rule_runs.proofs.Descents.{walk-call, outcome-more, waiting-more}
 use Rattle.rule_runs.proofs.Marks.{open-term}
-use Rattle.rule_runs.proofs.Tellings.{told-at, length-told}
+use Rattle.rule_runs.proofs.Tellings.{told-only}
 
 -- nothing is read
 pub falls-none : {S D : Type 0} (A : Algebra S) (W : Downward S D) (G : List Rule) (n : ℕ) → n ≤ 0 → FallsOnce A W G [] n
@@ -45,9 +45,9 @@ module _ {S D : Type 0} (A : Algebra S) (W : Downward S D) (G : List Rule) (ks :
   open_triples = map (λ f. triple_at ks f.spot)
 
   -- the rules of the outer bodies are later ones
-  pub outer-later : (r : ℕ) (lists : List (Vec Part Global)) (spot : Spot D) (gs : List (Descent D)) → r ≤ (pair_at ks spot.pair).0 → AreWaiting A W G ks lists spot gs → All (λ g. r < (pair_at ks g.spot.pair).0) gs
-  outer-later r lists spot [] h a = All-nil (λ (g : Descent D). r < (pair_at ks g.spot.pair).0)
-  outer-later r lists spot (g ∷ gs) h a = let k = a.1 in All-cons (λ (g : Descent D). r < (pair_at ks g.spot.pair).0) g gs (omega arith) (outer-later r lists g.spot gs (omega arith) a.3)
+  pub outer-later : (r : ℕ) (lists : List (Vec Part Global)) (spot : Spot D) (gs : List (Descent D)) (mss : List (List (Mark D))) → r ≤ (pair_at ks spot.pair).0 → AreWaiting A W G ks lists spot gs mss → All (λ g. r < (pair_at ks g.spot.pair).0) gs
+  outer-later r lists spot [] mss h a = All-nil (λ (g : Descent D). r < (pair_at ks g.spot.pair).0)
+  outer-later r lists spot (g ∷ gs) mss h a = let k = a.1 in All-cons (λ (g : Descent D). r < (pair_at ks g.spot.pair).0) g gs (omega arith) (outer-later r lists g.spot gs (drop 1 mss) (omega arith) a.3)
 
   others-apart : (spot : Spot D) (gs : List (Descent D)) → All (λ g. (pair_at ks spot.pair).0 < (pair_at ks g.spot.pair).0) gs → All (λ t. t ≢ triple_at ks spot) (open_triples gs)
   others-apart spot [] e = All-nil (λ (t : RuleStates S × D). t ≢ triple_at ks spot)
@@ -71,16 +71,16 @@ module _ {S D : Type 0} (A : Algebra S) (W : Downward S D) (G : List Rule) (ks :
       (known-apart dk lists spot there es (All-tail P e es h) (All-tail N e es n))
 
   -- a spot that is not known is read too
-  pub falls-more : AllPairs (λ p q. p ≢ q) ks → (lists : List (Vec Part Global)) (known : List (Spot D × Outcome D)) (f f' : Descent D) (gs : List (Descent D)) (spot : Spot D) (n m : ℕ) (lists' : List (Vec Part Global))
-      → FallsOnce A W G (known_triples known ++ (triple_at ks f.spot ∷ open_triples gs)) n → AreWaiting A W G ks lists f.spot gs → Asks A W G ks lists' f spot f'
+  pub falls-more : AllPairs (λ p q. p ≢ q) ks → (lists : List (Vec Part Global)) (known : List (Spot D × Outcome D)) (f f' : Descent D) (gs : List (Descent D)) (mss : List (List (Mark D))) (ms : List (Mark D)) (spot : Spot D) (n m : ℕ) (lists' : List (Vec Part Global))
+      → FallsOnce A W G (known_triples known ++ (triple_at ks f.spot ∷ open_triples gs)) n → AreWaiting A W G ks lists f.spot gs mss → Asks A W G ks lists' f spot f' ms
       → All (λ e. HasOutcome A W G ks lists e.0 e.1) known → All (λ e. e.0 ≢ spot) known → m ≤ n + 2 * length (body_at G (pair_at ks spot.pair).0)
       → FallsOnce A W G (known_triples known ++ (triple_at ks spot ∷ triple_at ks f.spot ∷ open_triples gs)) m
-  falls-more dk lists known f f' gs spot n m lists' reads waiting asks outcomes new le =
+  falls-more dk lists known f f' gs mss ms spot n m lists' reads waiting asks outcomes new le =
       let q : RuleStates S × D = triple_at ks spot in
       let xs : List (RuleStates S × D) = known_triples known in
       let ys : List (RuleStates S × D) = triple_at ks f.spot ∷ open_triples gs in
       let e = asks.earlier in
-      let later = outer-later (pair_at ks spot.pair).0 lists f.spot gs (omega arith) waiting in
+      let later = outer-later (pair_at ks spot.pair).0 lists f.spot gs mss (omega arith) waiting in
       let apart : All (λ t. t ≢ q) (xs ++ ys) = All-append (λ (t : RuleStates S × D). t ≢ q) xs ys (known-apart dk lists spot asks.there known outcomes new) (others-apart spot (f ∷ gs) (All-cons (λ (g : Descent D). (pair_at ks spot.pair).0 < (pair_at ks g.spot.pair).0) f gs e later)) in
       let b = reads.bound in
       record {
@@ -90,28 +90,28 @@ module _ {S D : Type 0} (A : Algebra S) (W : Downward S D) (G : List Rule) (ks :
       }
 
   -- the bodies with the one that waits for a new spot
-  pub waiting-begin : (lists more : List (Vec Part Global)) (f f' : Descent D) (gs : List (Descent D)) (spot : Spot D) → AreWaiting A W G ks lists f.spot gs → f.spot.pair < length ks → Asks A W G ks (lists ++ more) f spot f' → f'.spot ≡ f.spot → AreWaiting A W G ks (lists ++ more) spot (f' ∷ gs)
-  waiting-begin lists more f f' gs spot waiting there asks e =
-      (asks.waits, rw e asks.earlier, rw e there, rw e (waiting-more A W G ks lists more f.spot gs waiting))
+  pub waiting-begin : (lists more : List (Vec Part Global)) (f f' : Descent D) (gs : List (Descent D)) (mss : List (List (Mark D))) (ms : List (Mark D)) (spot : Spot D) → AreWaiting A W G ks lists f.spot gs mss → f.spot.pair < length ks → Asks A W G ks (lists ++ more) f spot f' ms → f'.spot ≡ f.spot → AreWaiting A W G ks (lists ++ more) spot (f' ∷ gs) (ms ∷ mss)
+  waiting-begin lists more f f' gs mss ms spot waiting there asks e =
+      (asks.waits, rw e asks.earlier, rw e there, rw e (waiting-more A W G ks lists more f.spot gs mss waiting))
 
   -- a spot that has its outcome moves from the bodies to the table
   pub triples-return : (known : List (Spot D × Outcome D)) (spot : Spot D) (outcome : Outcome D) (gs : List (Descent D)) → known_triples (known ++ (spot, outcome) ∷ []) ++ open_triples gs ≡ known_triples known ++ (triple_at ks spot ∷ open_triples gs)
   triples-return known spot outcome gs = rw (map-append (λ (e : Spot D × Outcome D). triple_at ks e.0) known ((spot, outcome) ∷ [])) (append_assoc (known_triples known) (triple_at ks spot ∷ []) (open_triples gs))
 
   -- a body goes on behind a call that has its outcome
-  pub stands-again : IsGrammar G → (lists : List (Vec Part Global)) (f : Descent D) (spot : Spot D) (outcome : Outcome D) (marks : Vec (Mark D) Global) (here : Here) → IsPair G (pair_at ks f.spot.pair) → Waiting A W G ks lists f spot → HasOutcome A W G ks lists spot outcome
-      → ((s : Stretch) (ms : List (Open D)) (ss : List Stretch) → IsTelling lists f.here s → AreOpen lists (reverse f.marks.items) ms → AreTold lists outcome.told.items ss → IsTelling lists here (beside s (get_or ss 0 nothing)) × AreOpen lists (reverse marks.items) (woven_marks outcome.handed.items (drop 1 ss) ++ ms))
-      → Standing A W G ks lists (record { spot = f.spot; left = f.left; marks = marks; here = here; outcome = f.outcome })
-  stands-again g lists f spot outcome marks here pair h ends entered =
+  pub stands-again : IsGrammar G → (lists : List (Vec Part Global)) (f : Descent D) (spot : Spot D) (outcome : Outcome D) (before marks : List (Mark D)) (here : Here) → IsPair G (pair_at ks f.spot.pair) → Waiting A W G ks lists f before spot → HasOutcome A W G ks lists spot outcome
+      → ((s : Stretch) (ms : List (Open D)) (ss : List Stretch) → IsTelling lists f.here s → AreOpen lists before ms → AreTold lists (tolds outcome) ss → IsTelling lists here (beside s (get_or ss 0 nothing)) × AreOpen lists marks (woven_marks (downs_handed outcome) (drop 1 ss) ++ ms))
+      → Standing A W G ks lists (record { spot = f.spot; left = f.left; here = here; outcome = f.outcome }) marks
+  stands-again g lists f spot outcome before marks here pair h ends entered =
       let w = h.walks in
-      let m = open-term lists spot.down (reverse f.marks.items) w.ms w.marked in
+      let m = open-term lists spot.down before w.ms w.marked in
       let k : RuleStates S = pair_at ks spot.pair in
       let e = entered w.s m.0 (cut A W (value_at G k.0) k.1 spot.down) w.telling m.2 ends.finished in
       record {
         notes = h.notes;
         noted = h.noted;
         within = h.within;
-        walks = walk-call A W G ks lists (pair_at ks f.spot.pair) f.spot.down f.outcome g pair spot.pair (reverse (take f.left h.notes)) (reverse f.marks.items) (reverse marks.items) f.here here spot.down outcome w ends e.0 e.1;
+        walks = walk-call A W G ks lists (pair_at ks f.spot.pair) f.spot.down f.outcome g pair spot.pair (reverse (take f.left h.notes)) before marks f.here here spot.down outcome w ends e.0 e.1;
       }
 
   pub fall-cost-begin : (f f' c : Descent D) (gs : List (Descent D)) (q : ℕ) → q < length G → q < (pair_at ks f.spot.pair).0 → f'.spot ≡ f.spot → f'.left < f.left → (pair_at ks c.spot.pair).0 ≡ q → c.left ≡ length (body_at G q)
@@ -150,7 +150,7 @@ module _ {S D : Type 0} (A : Algebra S) (W : Downward S D) (G : List Rule) (know
 
   -- the outcome of the start is one stretch: the whole's nodes and hits
   pub outcome-whole : IsGrammar G → (lists : List (Vec Part Global)) (spot : Spot D) (outcome : Outcome D) → HasOutcome A W G (keys known) lists spot outcome → spot ≡ record { pair = length (keys known) - 1; down = W.start }
-      → AreTold lists outcome.told.items (record { nodes = nodes_in (value G); hits = found A W (value G) } ∷ [])
+      → AreTold lists (tolds outcome) (record { nodes = nodes_in (value G); hits = found A W (value G) } ∷ [])
   outcome-whole g lists spot outcome h e =
       let some = g.some in
       let k : pair_at (keys known) spot.pair ≡ (length G - 1, []) = ap (λ (x : Spot D). pair_at (keys known) x.pair) e ∙ start-last.0 in
@@ -160,13 +160,13 @@ module _ {S D : Type 0} (A : Algebra S) (W : Downward S D) (G : List Rule) (know
       rw (c, cut-whole A W (value G) [] W.start none) at h.finished
 
   -- what is told of the outermost body, on which no other waits, is told of the whole
-  pub whole-told : IsGrammar G → (earlier lists : List (Vec Part Global)) (first spot : Spot D) (frames : List (Descent D)) (outcome : Outcome D) (t : Told) → length frames ≡ 0 → AreWaiting A W G (keys known) earlier first (reverse frames)
-      → spot ≡ first → HasOutcome A W G (keys known) lists spot outcome → t ≡ get_or outcome.told.items 0 t → Tells lists t (record { nodes = nodes_in (value G); hits = found A W (value G) })
-  whole-told g earlier lists first spot frames outcome t none waiting same h e =
-      let w : AreWaiting A W G (keys known) earlier first [] = rw (empty_reverse frames none) at waiting in
+  pub whole-told : IsGrammar G → (earlier lists : List (Vec Part Global)) (first spot : Spot D) (frames : List (Descent D)) (mss : List (List (Mark D))) (outcome : Outcome D) → length frames ≡ 0 → AreWaiting A W G (keys known) earlier first (reverse frames) mss
+      → spot ≡ first → HasOutcome A W G (keys known) lists spot outcome → Tells lists outcome.last (record { nodes = nodes_in (value G); hits = found A W (value G) })
+  whole-told g earlier lists first spot frames mss outcome none waiting same h =
+      let w : AreWaiting A W G (keys known) earlier first [] mss = rw (empty_reverse frames none) at waiting in
       let whole : Stretch = record { nodes = nodes_in (value G); hits = found A W (value G) } in
       let o = outcome-whole g lists spot outcome h (same ∙ w) in
-      told-at lists outcome.told.items (whole ∷ []) 0 t o (omega (arith, length-told lists outcome.told.items (whole ∷ []) o)) e
+      told-only lists (befores outcome) outcome.last whole o
 
 -- the answers that a stretch's words have
 pub told-answers : (lists : List (Vec Part Global)) (t : Told) (s : Stretch) → Tells lists t s → all_of lists t.list ≡ s.hits

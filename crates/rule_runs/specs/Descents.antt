@@ -1,5 +1,5 @@
 -- Bodies that a run downward is in the middle of.
-use Rattle.std.specs.Prelude.{◌≡◌, ◌<◌, ◌≤◌, ℕ, ◌+◌, ◌-◌, ◌*◌, ◌^◌, List, [], ◌∷◌, ◌++◌, length, get_or, take, drop, reverse, Option, Some, None, Vec}
+use Rattle.std.specs.Prelude.{◌≡◌, ◌<◌, ◌≤◌, ℕ, ◌+◌, ◌-◌, ◌*◌, ◌^◌, List, [], ◌∷◌, ◌++◌, length, get_or, take, drop, map, reverse, Option, Some, None, Vec}
 use Rattle.std.specs.Global.{Global}
 use Rattle.rule_arena.specs.Preorder.{AreTerms}
 use Rattle.rule_arena.specs.declared.label.Label.{Label}
@@ -16,6 +16,7 @@ use Rattle.rule_runs.specs.declared.descent.Descent.{Descent}
 use Rattle.rule_runs.specs.declared.listing.Part.{Part}
 use Rattle.rule_runs.specs.declared.notes.Note.{Note}
 use Rattle.rule_runs.specs.declared.notes.Note.TheVariants.{Call as NoteCall}
+use Rattle.rule_runs.specs.declared.spots.Handed.{Handed}
 use Rattle.rule_runs.specs.declared.spots.Outcome.{Outcome}
 use Rattle.rule_runs.specs.declared.spots.Spot.{Spot}
 use Rattle.rule_runs.specs.declared.told.Here.{Here}
@@ -26,6 +27,16 @@ use Rattle.rule_runs.specs.Notes.{AreNotes}
 use Rattle.rule_runs.specs.Risen.{pair_at}
 use Rattle.rule_runs.specs.Tellings.{Tells, IsTelling, AreTold}
 use Rattle.rule_runs.specs.Walks.{Open, Place, Piece, absorbed, after, downs_of, kids_of, told, param_downs}
+
+-- the stretches before the parameters and their down states, and all stretches
+abbrev pub befores : {D : Type 0} → Outcome D → List Told
+befores o = map (λ h. h.before) o.handed.items
+
+abbrev pub downs_handed : {D : Type 0} → Outcome D → List D
+downs_handed o = map (λ h. h.down) o.handed.items
+
+abbrev pub tolds : {D : Type 0} → Outcome D → List Told
+tolds o = befores o ++ o.last ∷ []
 
 -- the marks, the next one first, as what is open
 abbrev pub AreOpen : {D : Type 0} → List (Vec Part Global) → List (Mark D) → List (Open D) → Type 0
@@ -92,9 +103,9 @@ module _ {S D : Type 0} (A : Algebra S) (W : Downward S D) (G : List Rule) where
       pub noted : AreNotes A G ks args ls notes
       pub marked : AreOpen lists marks ms
       pub telling : IsTelling lists here s
-      pub finished : AreTold lists outcome.told.items done
+      pub finished : AreTold lists (befores outcome) done
       pub stretches : done ++ told A W G args s ms ls ≡ cut A W (value_at G key.0) key.1 down
-      pub hands : outcome.handed.items ++ param_downs A W G args (downs_of ms) ls ≡ handed A W (value_at G key.0) key.1 down
+      pub hands : downs_handed outcome ++ param_downs A W G args (downs_of ms) ls ≡ handed A W (value_at G key.0) key.1 down
       pub terms : AreTerms (arity (ranks_of G)) (length (downs_of ms)) ls
       pub meet : CallsMeet (Falls S D A W G) args (downs_of ms) ls
       pub earlier : CallsBelow key.0 ls
@@ -102,35 +113,36 @@ module _ {S D : Type 0} (A : Algebra S) (W : Downward S D) (G : List Rule) where
     -- the outcome tells the stretches of a pair's value, and what is handed to its holes
     pub record HasOutcome (spot : Spot D) (outcome : Outcome D) : Type 0 where
       pub there : spot.pair < length ks
-      pub finished : AreTold lists outcome.told.items (cut A W (value_at G (pair_at ks spot.pair).0) (pair_at ks spot.pair).1 spot.down)
-      pub hands : outcome.handed.items ≡ handed A W (value_at G (pair_at ks spot.pair).0) (pair_at ks spot.pair).1 spot.down
+      pub finished : AreTold lists (tolds outcome) (cut A W (value_at G (pair_at ks spot.pair).0) (pair_at ks spot.pair).1 spot.down)
+      pub hands : downs_handed outcome ≡ handed A W (value_at G (pair_at ks spot.pair).0) (pair_at ks spot.pair).1 spot.down
 
-    -- the body, of which these are the notes, the last node first, is read down to a place
-    pub record Standing (f : Descent D) : Type 0 where
+    -- the body, of which these are the notes, the last node first, is read down to a place with these marks
+    pub record Standing (f : Descent D) (marks : List (Mark D)) : Type 0 where
       pub notes : List (Note S)
       pub noted : AreNotes A G ks (pair_at ks f.spot.pair).1 (body_at G (pair_at ks f.spot.pair).0) (reverse notes)
       pub within : f.left ≤ length notes
-      pub walks : Walks (pair_at ks f.spot.pair) f.spot.down (reverse (take f.left notes)) (reverse f.marks.items) f.here f.outcome
+      pub walks : Walks (pair_at ks f.spot.pair) f.spot.down (reverse (take f.left notes)) marks f.here f.outcome
 
     -- the body waits for the outcome of a call
-    pub record Waiting (f : Descent D) (spot : Spot D) : Type 0 where
+    pub record Waiting (f : Descent D) (marks : List (Mark D)) (spot : Spot D) : Type 0 where
       pub notes : List (Note S)
       pub noted : AreNotes A G ks (pair_at ks f.spot.pair).1 (body_at G (pair_at ks f.spot.pair).0) (reverse notes)
       pub within : f.left ≤ length notes
-      pub walks : Walks (pair_at ks f.spot.pair) f.spot.down (NoteCall spot.pair ∷ reverse (take f.left notes)) (MarkTerm spot.down ∷ reverse f.marks.items) f.here f.outcome
+      pub walks : Walks (pair_at ks f.spot.pair) f.spot.down (NoteCall spot.pair ∷ reverse (take f.left notes)) (MarkTerm spot.down ∷ marks) f.here f.outcome
 
     -- the body waits for the outcome of a call that is met for the first time
-    pub record Asks (old : Descent D) (spot : Spot D) (new : Descent D) : Type 0 where
-      pub waits : Waiting new spot
+    pub record Asks (old : Descent D) (spot : Spot D) (new : Descent D) (marks : List (Mark D)) : Type 0 where
+      pub waits : Waiting new marks spot
       pub met : Falls S D A W G (pair_at ks spot.pair).0 (pair_at ks spot.pair).1 spot.down
       pub there : spot.pair < length ks
       pub earlier : (pair_at ks spot.pair).0 < (pair_at ks old.spot.pair).0
       pub fewer : new.left < old.left
 
-    -- the bodies, the innermost first: each waits for the outcome of the spot before it, and the outermost is the start's
-    abbrev pub AreWaiting : Spot D → List (Descent D) → Type 0
-    AreWaiting spot [] = spot ≡ record { pair = length ks - 1; down = W.start }
-    AreWaiting spot (g ∷ gs) = Waiting g spot × ((pair_at ks spot.pair).0 < (pair_at ks g.spot.pair).0) × (g.spot.pair < length ks) × AreWaiting g.spot gs
+    -- the bodies with their marks, the innermost first: each waits for the outcome of the spot before it, and the outermost is the start's
+    abbrev pub AreWaiting : Spot D → List (Descent D) → List (List (Mark D)) → Type 0
+    AreWaiting spot [] mss = spot ≡ record { pair = length ks - 1; down = W.start }
+    AreWaiting spot (g ∷ gs) mss =
+        Waiting g (get_or mss 0 []) spot × ((pair_at ks spot.pair).0 < (pair_at ks g.spot.pair).0) × (g.spot.pair < length ks) × AreWaiting g.spot gs (drop 1 mss)
 
 -- what a spot stands for
 abbrev pub triple_at : {S D : Type 0} → List (RuleStates S) → Spot D → RuleStates S × D

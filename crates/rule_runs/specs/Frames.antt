@@ -12,6 +12,23 @@ use Rattle.rule_runs.specs.declared.frame.Frame.{Frame}
 use Rattle.rule_runs.specs.Entries.{key_of}
 use Rattle.rule_runs.specs.Risen.{IsPair, state_at, keys, IsKnown, AreKnown}
 
+-- items on top of others, the topmost first
+abbrev pub IsTopmost : {X : Type 0} → List X → List X → Type 0
+IsTopmost {X} top items = (others : List X) × (items ≡ top ++ others)
+
+-- the topmost items give way to new ones, and the others stay
+abbrev pub GivesWay : {X : Type 0} → List X → List X → List X → List X → Type 0
+GivesWay {X} top new before after = (others : List X) → before ≡ top ++ others → after ≡ new ++ others
+
+-- the labels of a frame's body that are left, the next first
+abbrev pub ahead : {S : Type 0} → List Rule → Frame S → List Label
+ahead G f = reverse (take f.left (body_at G f.pair.rule))
+
+-- those of all these frames
+abbrev pub behind : {S : Type 0} → List Rule → List (Frame S) → List Label
+behind G [] = []
+behind G (g ∷ gs) = ahead G g ++ behind G gs
+
 module _ {S : Type 0} (A : Algebra S) (G : List Rule) where
   -- a body is evaluated from its end to a place: the states of the terms that begin there or behind, and how many parameters stand before
   pub record IsEvaluated (args : List S) (body : List Label) (left waiting : ℕ) (states : List S) : Type 0 where
@@ -19,16 +36,33 @@ module _ {S : Type 0} (A : Algebra S) (G : List Rule) where
     pub before : waiting ≡ params (take left body)
     pub within : left ≤ length body
 
-  -- the frame is evaluated so far, with these states still to be put on its stack
-  pub record Stands (extra : List S) (f : Frame S) : Type 0 where
+  -- the states of the terms of a frame's body that were evaluated, the first on top
+  abbrev pub own : Frame S → List S
+  own f = states_from A G f.left f.pair.states.items (body_at G f.pair.rule)
+
+  -- the frame is evaluated so far
+  pub record Stands (f : Frame S) : Type 0 where
     pub pair : IsPair G (key_of f.pair)
-    pub labels : f.labels.items ≡ body_at G f.pair.rule
-    pub evaluated : IsEvaluated f.pair.states.items f.labels.items f.left f.waiting (extra ++ reverse f.stack.items)
+    pub evaluated : IsEvaluated f.pair.states.items (body_at G f.pair.rule) f.left f.waiting (own f)
+
+  -- the topmost of a frame's states is the one of this pair
+  abbrev pub Expects : Frame S → RuleStates S → Type 0
+  Expects f k = own f ≡ state_at A G k ∷ drop 1 (own f)
 
   -- the frames, the innermost first: each waits for the state of the pair before it, and the outermost is the start's
-  abbrev pub AreFrames : List S → Frame S → List (Frame S) → Type 0
-  AreFrames extra f [] = Stands extra f × (key_of f.pair ≡ (length G - 1, []))
-  AreFrames extra f (g ∷ gs) = Stands extra f × (f.pair.rule < g.pair.rule) × AreFrames (state_at A G (key_of f.pair) ∷ []) g gs
+  abbrev pub AreFrames : Frame S → List (Frame S) → Type 0
+  AreFrames f [] = Stands f × (key_of f.pair ≡ (length G - 1, []))
+  AreFrames f (g ∷ gs) = Stands f × (f.pair.rule < g.pair.rule) × Expects g (key_of f.pair) × AreFrames g gs
+
+  -- the states on the stack of frames that wait, the topmost first: of each its own but for the one that it waits for
+  abbrev pub below : List (Frame S) → List S
+  below [] = []
+  below (g ∷ gs) = drop 1 (own g) ++ below gs
+
+  -- on the stack and in the list of labels each frame has what is its own above that of the frames that wait for it
+  pub record AreStacked (f : Frame S) (gs : List (Frame S)) (stack : List S) (list : List Label) : Type 0 where
+    pub states : stack ≡ own f ++ below gs
+    pub labels : list ≡ ahead G f ++ behind G gs
 
   -- the calls of a pair's body from a place on are known, but for one pair
   abbrev pub AreKnownBut : List (RuleStates S × S) → RuleStates S → ℕ → RuleStates S → Type 0
@@ -54,7 +88,8 @@ module _ {S : Type 0} (A : Algebra S) (G : List Rule) where
 
   -- the body waits for the state of a pair that it calls
   pub record Waits (old : Frame S) (pair : Pair S) (new : Frame S) : Type 0 where
-    pub stands : Stands (state_at A G (key_of pair) ∷ []) new
+    pub stands : Stands new
+    pub expects : Expects new (key_of pair)
     pub calls : Calls (key_of old.pair) (key_of pair)
     pub earlier : pair.rule < old.pair.rule
     pub there : IsPair G (key_of pair)

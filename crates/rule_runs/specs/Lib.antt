@@ -8,5 +8,6 @@ pub mod Cuts
 pub mod Walks
 pub mod Tellings
 pub mod Notes
+pub mod Layers
 pub mod Descents
 pub mod Answering

@@ -10,6 +10,7 @@ ghost use Rattle.rule_runs.specs.Risen.{IsRun, keys};
 
 use crate::descent::{begin, descend, enter_call};
 use crate::kept::Bodies;
+use crate::layers::Layers;
 use crate::listing::Part;
 use crate::rising::RiseTable;
 use crate::spots::{Spot, Spots};
@@ -80,29 +81,50 @@ pub fn fall<A: Falling, L: Ledger>(
         pair: pairs - 1,
         down: automaton.start()?,
     };
-    let mut frame = begin(alloc, automaton, grammar, risen, &mut bodies, start, steps)?;
+    let mut marks = Layers::new(alloc);
+    let mut frame = begin(
+        alloc,
+        automaton,
+        grammar,
+        risen,
+        &mut bodies,
+        &mut marks,
+        start,
+        steps,
+    )?;
     'bodies: loop {
         let Some(notes) = bodies.notes(frame.spot.pair) else {
             unreachable!()
         };
         match descend(
-            alloc, automaton, grammar, risen, notes, &known, &mut lists, &mut frame,
+            alloc, automaton, grammar, risen, notes, &known, &mut lists, &mut marks, &mut frame,
         )? {
             Some(spot) => {
                 frames.push(frame)?;
-                frame = begin(alloc, automaton, grammar, risen, &mut bodies, spot, steps)?;
+                marks.open()?;
+                frame = begin(
+                    alloc,
+                    automaton,
+                    grammar,
+                    risen,
+                    &mut bodies,
+                    &mut marks,
+                    spot,
+                    steps,
+                )?;
             }
             None => match frames.pop() {
                 None => {
                     return Ok(FallTable {
                         lists,
-                        whole: frame.outcome.told[0],
+                        whole: frame.outcome.last,
                     });
                 }
                 Some(below) => {
                     let done = frame;
                     frame = below;
-                    enter_call(&mut frame.marks, &mut frame.here, &done.outcome)?;
+                    marks.close();
+                    enter_call(&mut marks, &mut frame.here, &done.outcome)?;
                     known.note(done.spot, done.outcome)?;
                 }
             },

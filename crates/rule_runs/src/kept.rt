@@ -8,11 +8,11 @@ ghost use Rattle.rule_runs.specs.Notes.{AreKept, HasBody, unread};
 ghost use Rattle.rule_runs.specs.Reached.{RuleStates};
 ghost use Rattle.rule_runs.specs.Risen.{IsRun, keys, pair_at};
 
-use crate::body::read_body;
+use crate::body::append_body;
 use crate::notes::{Note, note_labels};
 use crate::rising::RiseTable;
 use read_steps::Steps;
-use slt_grammar::{Grammar, Rising};
+use slt_grammar::{Grammar, Label, Rising};
 use std::alloc::{AllocError, Global};
 use std::sync::ledger::Ledger;
 
@@ -20,6 +20,9 @@ use std::sync::ledger::Ledger;
 #[derive(Drop)]
 pub(crate) struct Bodies<S: Drop> {
     pub(crate) kept: Vec<Option<Vec<Note<S>>>>,
+    // What reading a body needs, kept for the next one.
+    labels: Vec<Label>,
+    states: Vec<S>,
 }
 
 impl<S: Drop> Bodies<S> {
@@ -31,7 +34,11 @@ impl<S: Drop> Bodies<S> {
         'pairs: for _i in 0..pairs {
             kept.push(None)?;
         }
-        Ok(Bodies { kept })
+        Ok(Bodies {
+            kept,
+            labels: Vec::new(alloc),
+            states: Vec::new(alloc),
+        })
     }
 
     // The notes of a pair's body, if it was read.
@@ -76,8 +83,17 @@ pub(crate) fn read<A: Rising, L: Ledger>(
     let Some(met) = risen.known.pair(pair) else {
         unreachable!()
     };
-    let labels = read_body(alloc, grammar, met.rule, steps)?;
-    let notes = note_labels(alloc, automaton, grammar, &risen.known, met, &labels)?;
+    bodies.labels.clear();
+    append_body(grammar, met.rule, &mut bodies.labels, steps)?;
+    let notes = note_labels(
+        alloc,
+        automaton,
+        grammar,
+        &risen.known,
+        met,
+        &bodies.labels,
+        &mut bodies.states,
+    )?;
     bodies.kept[pair] = Some(notes);
-    Ok(labels.len())
+    Ok(bodies.labels.len())
 }

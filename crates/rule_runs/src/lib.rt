@@ -20,6 +20,7 @@ mod descent;
 mod falling;
 mod frame;
 mod kept;
+mod layers;
 mod listing;
 mod memo;
 mod notes;

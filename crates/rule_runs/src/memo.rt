@@ -1,5 +1,5 @@
 // What a run upward knows of rules at states of their arguments.
-ghost use Rattle.std.specs.Prelude.{◌≡◌, ◌≢◌, ◌++◌, ◌<◌, ◌≤◌, [], ◌∷◌, length, get_or, slice_get, take, reverse, vec_len, Some, IfSome, IfNone, IsSome, OnOk, All};
+ghost use Rattle.std.specs.Prelude.{◌≡◌, ◌≢◌, ◌++◌, ◌<◌, ◌≤◌, [], ◌∷◌, length, get_or, slice_get, take, reverse, vec_len, Some, IfOk, IfSome, IfNone, IsSome, OnOk, All};
 ghost use Rattle.rule_runs.specs.Entries.{key_of};
 ghost use Rattle.rule_runs.specs.Risen.{keys, pair_at};
 
@@ -43,6 +43,16 @@ impl<S: RunState> Memo<S> {
             known: IndexMap::new(alloc),
             latest: Vec::new(alloc),
         }
+    }
+
+    // With room for so many pairs of as many rules.
+    pub(crate) fn with_room(alloc: Global, count: usize) -> Result<Memo<S>, AllocError>
+        ensures { IfOk result (λ memo. memo ≡ []) }
+    {
+        Ok(Memo {
+            known: IndexMap::with_capacity(alloc, count)?,
+            latest: Vec::with_capacity(alloc, count)?,
+        })
     }
 
     // The place and the state of the pair of a rule that was noted last, if it has the topmost states. Most pairs are found so, without a

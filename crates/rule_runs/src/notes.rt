@@ -69,6 +69,7 @@ pub(crate) fn note_labels<A: Rising>(
     known: &Memo<A::State>,
     pair: &Pair<A::State>,
     labels: &Vec<Label>,
+    stack: &mut Vec<A::State>,
 ) -> Result<Vec<Note<A::State>>, AllocError>
     requires right { All (λ e. e.1 ≡ state_at (A.algebra automaton.now) (rules_of grammar.now.rules) e.0) known.now }
     requires pair { IsPair (rules_of grammar.now.rules) (key_of pair.now) }
@@ -79,7 +80,7 @@ pub(crate) fn note_labels<A: Rising>(
     // The call tells that the rules are a grammar.
     let _rules = grammar.rules();
     let mut notes = Vec::with_capacity(alloc, labels.len())?;
-    let mut stack = Vec::new(alloc);
+    stack.clear();
     let mut waiting = pair.states.len();
     let mut left = labels.len();
     'labels: while left > 0 {
@@ -90,7 +91,7 @@ pub(crate) fn note_labels<A: Rising>(
             stack.push(copy_at(&pair.states, waiting)?)?;
             notes.push(Note::Param)?;
         } else {
-            notes.push(note_label(alloc, automaton, grammar, known, label, &mut stack)?)?;
+            notes.push(note_label(alloc, automaton, grammar, known, label, stack)?)?;
         }
     }
     Ok(notes)

@@ -25,8 +25,8 @@ pub fn rise_in_one_state<A: Rising>(
     ensures top { IfOk result (λ table. table.top ≡ up (A.algebra automaton.now) (value (rules_of grammar.now.rules)) []) }
     ensures run { IfOk result (λ table. IsRun (A.algebra automaton.now) (rules_of grammar.now.rules) table.known) }
 {
-    let mut known = Memo::new(alloc);
     let rules = grammar.rules();
+    let mut known = Memo::with_room(alloc, rules)?;
     'rules: for rule in 0..rules {
         let states = bottoms(alloc, automaton, grammar.rank(rule))?;
         known.note(Pair { rule, states }, automaton.bottom()?)?;

@@ -56,16 +56,26 @@ pub fn rise<A: Rising, L: Ledger>(
 {
     let mut known = Memo::new(alloc);
     let mut frames = Vec::new(alloc);
+    let mut labels = Vec::new(alloc);
+    let mut stack = Vec::new(alloc);
     let start = Pair {
         rule: grammar.rules() - 1,
         states: Vec::new(alloc),
     };
-    let mut frame = begin(alloc, grammar, start, steps)?;
+    let mut frame = begin(grammar, start, &mut labels, steps)?;
     'bodies: loop {
-        match advance(alloc, automaton, grammar, &known, &mut frame)? {
+        match advance(
+            alloc,
+            automaton,
+            grammar,
+            &known,
+            &mut frame,
+            &mut labels,
+            &mut stack,
+        )? {
             Next::Waits(pair) => {
                 frames.push(frame)?;
-                frame = begin(alloc, grammar, pair, steps)?;
+                frame = begin(grammar, pair, &mut labels, steps)?;
             }
             Next::Done(state) => match frames.pop() {
                 None => {
@@ -76,7 +86,7 @@ pub fn rise<A: Rising, L: Ledger>(
                 Some(below) => {
                     let done = frame;
                     frame = below;
-                    frame.stack.push(state.copy()?)?;
+                    stack.push(state.copy()?)?;
                     known.note(done.pair, state)?;
                 }
             },

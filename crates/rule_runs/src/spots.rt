@@ -15,11 +15,18 @@ pub(crate) struct Spot<D> {
     pub(crate) down: D,
 }
 
-// The stretches of a rule between its parameters, and the down states of the parameters.
+// A parameter of a rule: the stretch before it, and its down state.
+#[derive(Drop)]
+pub(crate) struct Handed<D> {
+    pub(crate) before: Told,
+    pub(crate) down: D,
+}
+
+// The parameters of a rule, and the stretch behind the last of them.
 #[derive(Drop)]
 pub(crate) struct Outcome<D: Drop> {
-    pub(crate) told: Vec<Told>,
-    pub(crate) handed: Vec<D>,
+    pub(crate) handed: Vec<Handed<D>>,
+    pub(crate) last: Told,
 }
 
 // The outcomes of spots.

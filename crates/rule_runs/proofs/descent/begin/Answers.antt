@@ -4,7 +4,6 @@ use Rattle.slt_grammar.specs.Keyed.{rules_of}
 use Rattle.slt_grammar.specs.Grammars.{body_at}
 use Rattle.rule_runs.specs.declared.descent.Mark.TheVariants.{Term as MarkTerm}
 use Rattle.rule_runs.specs.Risen.{keys, pair_at}
-use Rattle.rule_runs.proofs.Lists.{reverse-push}
 use Rattle.rule_runs.proofs.Triples.{pair-of}
 use Rattle.rule_runs.proofs.Descents.{walk-start}
 use Rattle.rule_runs.proofs.NoteLemmas.{notes-length}
@@ -23,10 +22,10 @@ returns-clause-stands g c = λ lists.
     let noted = c.read.ensures.kept.noted c.args.spot.pair body.0 body.1 in
     let n : c.in_ok-left.left ≡ length ns = c.in_ok-left.ensures.nodes ∙ sym (notes-length A G ks k.1 (body_at G k.0) (reverse ns) noted) ∙ length-reverse ns in
     let all : take c.in_ok-left.left ns ≡ ns = take_all c.in_ok-left.left ns (omega arith) in
-    let m : reverse c.push.new.self.items ≡ MarkTerm c.args.spot.down ∷ [] = ap reverse c.in_ok-push.ensures.items ∙ reverse-push c.new-marks.result.items (MarkTerm c.in_ok-copy.field-0) ∙ ap (λ xs. MarkTerm c.in_ok-copy.field-0 ∷ reverse xs) c.new-marks.ensures.items ∙ ap (λ d. MarkTerm d ∷ []) c.in_ok-copy.ensures in
+    let m : c.push.new.self.top ≡ MarkTerm c.args.spot.down ∷ [] = c.in_ok-push.ensures.top ∙ ap (λ xs. MarkTerm c.in_ok-copy.field-0 ∷ xs) c.requires.fresh ∙ ap (λ d. MarkTerm d ∷ []) c.in_ok-copy.ensures in
     record {
       notes = ns;
       noted = noted;
       within = omega arith;
-      walks = rw (all, m) (walk-start A W G c.rules-rules.ensures.grammar k p ks lists c.args.spot.down (reverse ns) c.new.result _ c.requires.met noted c.new-2.ensures.items c.new-3.ensures.items (c.new.ensures lists));
+      walks = rw (all, m) (walk-start A W G c.rules-rules.ensures.grammar k p ks lists c.args.spot.down (reverse ns) c.new.result _ c.requires.met noted c.new-2.ensures.items (c.new.ensures lists));
     }

@@ -1,19 +1,22 @@
-use Rattle.std.proofs.Common.{◌≡◌, ◌<◌, ◌^◌, ◌∙◌, ◌≤◌, ◌-◌, ◌++◌, ◌∷◌, [], refl, sym, ap, subst, arith, reverse, take, length, append_assoc, append-nil}
+use Rattle.std.proofs.Common.{◌≡◌, ◌<◌, ◌^◌, ◌∙◌, ◌≤◌, ◌-◌, ◌++◌, ◌∷◌, [], refl, sym, ap, subst, arith, reverse, take, map, length, append_assoc, append-nil}
 use Rattle.std.proofs.lemmas.List.Elements.{All-contains, All-get_or}
 use Rattle.slt_grammar.specs.Automata.{nodes_in}
 use Rattle.slt_grammar.specs.Keyed.{rules_of}
 use Rattle.slt_grammar.specs.Grammars.{body_at, value_at}
 use Rattle.rule_runs.specs.Cuts.{cut}
-use Rattle.rule_runs.specs.Descents.{Walks, HasOutcome}
+use Rattle.rule_runs.specs.Descents.{Walks, HasOutcome, befores, downs_handed}
 use Rattle.rule_runs.specs.Notes.{AreNotes}
 use Rattle.rule_runs.specs.Risen.{IsPair, keys, pair_at}
-use Rattle.rule_runs.specs.Tellings.{AreTold}
+use Rattle.rule_runs.specs.Tellings.{AreTold, Tells}
 use Rattle.rule_runs.specs.Walks.{absorbed}
 use Rattle.rule_runs.proofs.Lists.{reverse-last, no_more}
 use Rattle.rule_runs.proofs.NoteLemmas.{same-reversed}
-use Rattle.rule_runs.proofs.Descents.{outcome-more, outcome-lengths, walk-next, walk-open, walk-bottom, walk-symbol, walk-call, walk-meets, walk-param, walk-end}
+use Rattle.rule_runs.proofs.Descents.{outcome-more, walk-next, walk-open, walk-bottom, walk-symbol, walk-call, walk-meets, walk-param, walk-end}
 use Rattle.rule_runs.proofs.Marks.{open-term}
 use Rattle.rule_runs.proofs.Rooms.{walk-room, walk-room-one, walk-room-call}
+use Rattle.rule_runs.proofs.Tellings.{told-more, told-push}
+use Rattle.rule_runs.specs.declared.spots.Outcome.{Outcome}
+use Rattle.std.proofs.lemmas.List.{map-append}
 use Rattle.rule_runs.proofs.descent.descend.Goals as goal
 
 pub notes-init : goal.notes-init
@@ -31,7 +34,8 @@ notes-init g c =
       same = refl;
       more = ([], sym (append-nil c.args.lists.now.items));
       earlier = c.requires.earlier;
-      stands = subst (λ xs. Walks A W G ks c.args.lists.now.items k f.spot.down (reverse (take f.left xs)) (reverse f.marks.items) f.here f.outcome) same st.walks;
+      stands = subst (λ xs. Walks A W G ks c.args.lists.now.items k f.spot.down (reverse (take f.left xs)) c.args.marks.now.top f.here f.outcome) same st.walks;
+      below = refl;
       fewer = omega arith;
       within = subst (λ xs. f.left ≤ length xs) same st.within;
     }
@@ -46,7 +50,7 @@ next_term-requires g c =
     let k = pair_at ks f.spot.pair in
     let ls = c.notes.lists.items in
     let small : nodes_in (value_at G k.0) < 2 ^ 63 = subst (λ s. nodes_in (value_at G (pair_at ks s.pair).0) < 2 ^ 63) (sym c.notes.invariant.same) c.requires.small in
-    walk-room A W G ks ls k f.spot.down f.outcome (reverse (take f.left c.args.notes.now.items)) (reverse f.marks.items) f.here c.notes.invariant.stands small
+    walk-room A W G ks ls k f.spot.down f.outcome (reverse (take f.left c.args.notes.now.items)) c.notes.marks.top f.here c.notes.invariant.stands small
 
 pub unreachable-requires : goal.unreachable-requires
 unreachable-requires g c =
@@ -60,8 +64,8 @@ unreachable-requires g c =
     let ns = c.args.notes.now.items in
     let p = reverse-last ns f.left (f.left - 1) c.index-note.result.now (let t = c.notes-test.true in omega arith) c.notes.invariant.within c.index-note.ensures in
     let w = rw p at c.notes.invariant.stands in
-    let next = rw (no_more c.in_ok-down.field-0 c.in_default.not-Some) at (c.in_ok-down.ensures ls w.s w.ms w.telling w.marked) in
-    walk-open A W G ks ls k f.spot.down f.outcome c.index-note.result.now (reverse (take (f.left - 1) ns)) (reverse f.marks.items) f.here w next.is
+    let next = rw (no_more c.in_ok-down.field-0 c.in_default.not-Some) at (c.in_ok-down.ensures.next ls w.s w.ms w.telling w.marked) in
+    walk-open A W G ks ls k f.spot.down f.outcome c.index-note.result.now (reverse (take (f.left - 1) ns)) c.notes.marks.top f.here w next.is
 
 pub notes-preserved-in-Bottom-1 : goal.notes-preserved-in-Bottom-1
 notes-preserved-in-Bottom-1 g c =
@@ -75,12 +79,13 @@ notes-preserved-in-Bottom-1 g c =
     let ns = c.args.notes.now.items in
     let p = reverse-last ns f.left (f.left - 1) c.index-note.result.now (let t = c.notes-test.true in omega arith) c.notes.invariant.within c.index-note.ensures in
     let d = c.in-Some.down in
-    let w = walk-next A W G ks ls k f.spot.down f.outcome _ (reverse f.marks.items) (reverse c.next_term.new.marks.items) f.here c.next_term.new.here d c.in_ok-down.field-0 (rw (p, c.in-Bottom.is) at c.notes.invariant.stands) c.in-Some.is (c.in_ok-down.ensures ls) in
+    let w = walk-next A W G ks ls k f.spot.down f.outcome _ c.notes.marks.top c.next_term.new.marks.top f.here c.next_term.new.here d c.in_ok-down.field-0 (rw (p, c.in-Bottom.is) at c.notes.invariant.stands) c.in-Some.is (c.in_ok-down.ensures.next ls) in
     record {
+      below = c.next_term.ensures.below ∙ c.notes.invariant.below;
       same = c.notes.invariant.same;
       more = c.notes.invariant.more;
       earlier = c.notes.invariant.earlier;
-      stands = walk-bottom A W G ks ls k f.spot.down f.outcome (reverse (take (f.left - 1) ns)) (reverse c.next_term.new.marks.items) c.next_term.new.here d w;
+      stands = walk-bottom A W G ks ls k f.spot.down f.outcome (reverse (take (f.left - 1) ns)) c.next_term.new.marks.top c.next_term.new.here d w;
       fewer = (let h = c.notes.invariant.fewer in omega arith);
       within = (let h = c.notes.invariant.within in omega arith);
     }
@@ -97,18 +102,24 @@ notes-preserved-in-Continue-branch-4 g c =
     let ns = c.args.notes.now.items in
     let p = reverse-last ns f.left (f.left - 1) c.index-note.result.now (let t = c.notes-test.true in omega arith) c.notes.invariant.within c.index-note.ensures in
     let d = c.in-Some.down in
-    let w = walk-next A W G ks ls k f.spot.down f.outcome _ (reverse f.marks.items) (reverse c.next_term.new.marks.items) f.here c.next_term.new.here d c.in_ok-down.field-0 (rw (p, c.in-Param.is) at c.notes.invariant.stands) c.in-Some.is (c.in_ok-down.ensures ls) in
-    let ended = c.in_ok-end_stretch-in-Param.ensures in
+    let w = walk-next A W G ks ls k f.spot.down f.outcome _ c.notes.marks.top c.next_term.new.marks.top f.here c.next_term.new.here d c.in_ok-down.field-0 (rw (p, c.in-Param.is) at c.notes.invariant.stands) c.in-Some.is (c.in_ok-down.ensures.next ls) in
+    let ended = c.in_ok-before-in-Param.ensures in
     let m = ended.more in
     let n = c.notes.invariant.more in
-    let new = c.end_stretch.new.outcome in
-    let told = subst (λ x. AreTold x new.told.items (w.done ++ w.s ∷ [])) m.1 (ended.told w.s w.done w.telling c.notes.invariant.earlier w.finished) in
-    let handed = c.in_ok-push-in-Param.ensures.items ∙ ap (λ v. v.items ++ d ∷ []) c.end_stretch.ensures.handed in
+    let t = ended.tells w.s w.telling c.notes.invariant.earlier in
+    let h = c.in_ok-before-in-Param.before in
+    let new : Outcome g.row.A-Down.Denot = record { handed = c.push.new.self; last = f.outcome.last } in
+    let pushed = c.in_ok-push-in-Param.ensures.items in
+    let befores_are : befores new ≡ befores f.outcome ++ h ∷ [] = ap (map (λ x. x.before)) pushed ∙ map-append (λ x. x.before) f.outcome.handed.items (record { before = h; down = d } ∷ []) in
+    let downs_are : downs_handed new ≡ downs_handed f.outcome ++ d ∷ [] = ap (map (λ x. x.down)) pushed ∙ map-append (λ x. x.down) f.outcome.handed.items (record { before = h; down = d } ∷ []) in
+    let tells : Tells (ls ++ m.0) h w.s = subst (λ x. Tells x h w.s) m.1 t.0 in
+    let told : AreTold (ls ++ m.0) (befores new) (w.done ++ w.s ∷ []) = subst (λ x. AreTold (ls ++ m.0) x (w.done ++ w.s ∷ [])) (sym befores_are) (told-push (ls ++ m.0) (befores f.outcome) w.done h w.s (told-more ls m.0 (befores f.outcome) w.done w.finished) tells) in
     record {
       same = c.notes.invariant.same;
       more = (n.0 ++ m.0, m.1 ∙ ap (λ x. x ++ m.0) n.1 ∙ append_assoc c.args.lists.now.items n.0 m.0);
-      earlier = ended.earlier w.s w.telling c.notes.invariant.earlier;
-      stands = rw m.1 (walk-param A W G ks ls k f.spot.down f.outcome m.0 (reverse (take (f.left - 1) ns)) (reverse c.next_term.new.marks.items) c.next_term.new.here c.end_stretch.new.here d (record { told = new.told; handed = c.push.new.self }) w told (ended.empty (ls ++ m.0)) handed);
+      earlier = t.1;
+      stands = rw m.1 (walk-param A W G ks ls k f.spot.down f.outcome m.0 (reverse (take (f.left - 1) ns)) c.next_term.new.marks.top c.next_term.new.here c.finish.new.self d new w told (ended.empty (ls ++ m.0)) downs_are);
+      below = c.next_term.ensures.below ∙ c.notes.invariant.below;
       fewer = (let h = c.notes.invariant.fewer in omega arith);
       within = (let h = c.notes.invariant.within in omega arith);
     }
@@ -126,7 +137,7 @@ enter_symbol-requires g c =
     let ns = c.args.notes.now.items in
     let p = reverse-last ns f.left (f.left - 1) c.index-note.result.now (let t = c.notes-test.true in omega arith) c.notes.invariant.within c.index-note.ensures in
     let d = c.in-Some.down in
-    let w = walk-next A W G ks ls k f.spot.down f.outcome _ (reverse f.marks.items) (reverse c.next_term.new.marks.items) f.here c.next_term.new.here d c.in_ok-down.field-0 (rw (p, c.in-Symbol.is) at c.notes.invariant.stands) c.in-Some.is (c.in_ok-down.ensures ls) in
+    let w = walk-next A W G ks ls k f.spot.down f.outcome _ c.notes.marks.top c.next_term.new.marks.top f.here c.next_term.new.here d c.in_ok-down.field-0 (rw (p, c.in-Symbol.is) at c.notes.invariant.stands) c.in-Some.is (c.in_ok-down.ensures.next ls) in
     let room = walk-room-one A W G ks ls k f.spot.down f.outcome _ _ c.next_term.new.here w small in
     record { nodes = room.0; hits = room.1 }
 
@@ -142,13 +153,14 @@ notes-preserved-in-Symbol-1 g c =
     let ns = c.args.notes.now.items in
     let p = reverse-last ns f.left (f.left - 1) c.index-note.result.now (let t = c.notes-test.true in omega arith) c.notes.invariant.within c.index-note.ensures in
     let d = c.in-Some.down in
-    let w = walk-next A W G ks ls k f.spot.down f.outcome _ (reverse f.marks.items) (reverse c.next_term.new.marks.items) f.here c.next_term.new.here d c.in_ok-down.field-0 (rw (p, c.in-Symbol.is) at c.notes.invariant.stands) c.in-Some.is (c.in_ok-down.ensures ls) in
+    let w = walk-next A W G ks ls k f.spot.down f.outcome _ c.notes.marks.top c.next_term.new.marks.top f.here c.next_term.new.here d c.in_ok-down.field-0 (rw (p, c.in-Symbol.is) at c.notes.invariant.stands) c.in-Some.is (c.in_ok-down.ensures.next ls) in
     let entered = c.in_ok-enter_symbol-in-Symbol.ensures in
     record {
+      below = entered.below ∙ c.next_term.ensures.below ∙ c.notes.invariant.below;
       same = c.notes.invariant.same;
       more = c.notes.invariant.more;
       earlier = c.notes.invariant.earlier;
-      stands = rw entered.marks (walk-symbol A W G ks ls k f.spot.down f.outcome c.in-Symbol.symbol c.in-Symbol.kids c.in-Symbol.rest (reverse (take (f.left - 1) ns)) (reverse c.next_term.new.marks.items) c.next_term.new.here c.enter_symbol.new.here d c.in_ok-fell-in-Symbol.fell w c.in_ok-fell-in-Symbol.ensures (entered.telling ls w.s w.telling));
+      stands = rw entered.marks (walk-symbol A W G ks ls k f.spot.down f.outcome c.in-Symbol.symbol c.in-Symbol.kids c.in-Symbol.rest (reverse (take (f.left - 1) ns)) c.next_term.new.marks.top c.next_term.new.here c.enter_symbol.new.here d c.in_ok-fell-in-Symbol.fell w c.in_ok-fell-in-Symbol.ensures (entered.telling ls w.s w.telling));
       fewer = (let h = c.notes.invariant.fewer in omega arith);
       within = (let h = c.notes.invariant.within in omega arith);
     }
@@ -166,16 +178,14 @@ enter_call-requires g c =
     let ns = c.args.notes.now.items in
     let p = reverse-last ns f.left (f.left - 1) c.index-note.result.now (let t = c.notes-test.true in omega arith) c.notes.invariant.within c.index-note.ensures in
     let d = c.in-Some.down in
-    let w = walk-next A W G ks ls k f.spot.down f.outcome _ (reverse f.marks.items) (reverse c.next_term.new.marks.items) f.here c.next_term.new.here d c.in_ok-down.field-0 (rw (p, c.in-Call.is) at c.notes.invariant.stands) c.in-Some.is (c.in_ok-down.ensures ls) in
+    let w = walk-next A W G ks ls k f.spot.down f.outcome _ c.notes.marks.top c.next_term.new.marks.top f.here c.next_term.new.here d c.in_ok-down.field-0 (rw (p, c.in-Call.is) at c.notes.invariant.stands) c.in-Some.is (c.in_ok-down.ensures.next ls) in
     let i = c.in-Call.pair in
     let o = c.in-Some-find.outcome.now in
     let n = c.notes.invariant.more in
     let h0 = All-contains (λ e. HasOutcome A W G ks c.args.lists.now.items e.0 e.1) c.args.known.now _ c.requires.known c.in-Some-find.ensures.found in
     let h : HasOutcome A W G ks ls (record { pair = i; down = d }) o = rw n.1 (outcome-more A W G ks c.args.lists.now.items n.0 (record { pair = i; down = d }) o h0) in
-    let lengths = outcome-lengths A W G ks ls (record { pair = i; down = d }) o h in
     record {
-      lengths = lengths;
-      room = walk-room-call A W G ks ls k f.spot.down f.outcome i (reverse (take (f.left - 1) ns)) (reverse c.next_term.new.marks.items) c.next_term.new.here d w o h (omega arith) small;
+      room = walk-room-call A W G ks ls k f.spot.down f.outcome i (reverse (take (f.left - 1) ns)) c.next_term.new.marks.top c.next_term.new.here d w o h small;
     }
 
 pub notes-preserved : goal.notes-preserved
@@ -190,20 +200,21 @@ notes-preserved g c =
     let ns = c.args.notes.now.items in
     let p = reverse-last ns f.left (f.left - 1) c.index-note.result.now (let t = c.notes-test.true in omega arith) c.notes.invariant.within c.index-note.ensures in
     let d = c.in-Some.down in
-    let w = walk-next A W G ks ls k f.spot.down f.outcome _ (reverse f.marks.items) (reverse c.next_term.new.marks.items) f.here c.next_term.new.here d c.in_ok-down.field-0 (rw (p, c.in-Call.is) at c.notes.invariant.stands) c.in-Some.is (c.in_ok-down.ensures ls) in
+    let w = walk-next A W G ks ls k f.spot.down f.outcome _ c.notes.marks.top c.next_term.new.marks.top f.here c.next_term.new.here d c.in_ok-down.field-0 (rw (p, c.in-Call.is) at c.notes.invariant.stands) c.in-Some.is (c.in_ok-down.ensures.next ls) in
     let i = c.in-Call.pair in
     let o = c.in-Some-find.outcome.now in
     let n = c.notes.invariant.more in
     let h0 = All-contains (λ e. HasOutcome A W G ks c.args.lists.now.items e.0 e.1) c.args.known.now _ c.requires.known c.in-Some-find.ensures.found in
     let h : HasOutcome A W G ks ls (record { pair = i; down = d }) o = rw n.1 (outcome-more A W G ks c.args.lists.now.items n.0 (record { pair = i; down = d }) o h0) in
-    let m = open-term ls d (reverse c.next_term.new.marks.items) w.ms w.marked in
-    let e = c.in_ok-enter_call-in-Some-find.ensures ls w.s m.0 (cut A W (value_at G (pair_at ks i).0) (pair_at ks i).1 d) w.telling m.2 h.finished in
+    let m = open-term ls d c.next_term.new.marks.top w.ms w.marked in
+    let e = c.in_ok-enter_call-in-Some-find.ensures.entered ls w.s m.0 (cut A W (value_at G (pair_at ks i).0) (pair_at ks i).1 d) w.telling m.2 h.finished in
     let pair : IsPair G k = rw c.notes.invariant.same (All-get_or (IsPair G) ks c.args.descent.now.spot.pair (0, []) c.requires.there c.requires.run.pairs) in
     record {
+      below = c.in_ok-enter_call-in-Some-find.ensures.below ∙ c.next_term.ensures.below ∙ c.notes.invariant.below;
       same = c.notes.invariant.same;
       more = n;
       earlier = c.notes.invariant.earlier;
-      stands = walk-call A W G ks ls k f.spot.down f.outcome c.rules-rules.ensures.grammar pair i (reverse (take (f.left - 1) ns)) (reverse c.next_term.new.marks.items) (reverse c.enter_call.new.marks.items) c.next_term.new.here c.enter_call.new.here d o w h e.0 e.1;
+      stands = walk-call A W G ks ls k f.spot.down f.outcome c.rules-rules.ensures.grammar pair i (reverse (take (f.left - 1) ns)) c.next_term.new.marks.top c.enter_call.new.marks.top c.next_term.new.here c.enter_call.new.here d o w h e.0 e.1;
       fewer = (let h = c.notes.invariant.fewer in omega arith);
       within = (let h = c.notes.invariant.within in omega arith);
     }
@@ -220,8 +231,8 @@ returns-in-None-clause-waits g c =
     let ns = c.args.notes.now.items in
     let p = reverse-last ns f.left (f.left - 1) c.index-note.result.now (let t = c.notes-test.true in omega arith) c.notes.invariant.within c.index-note.ensures in
     let d = c.in-Some.down in
-    let w = walk-next A W G ks ls k f.spot.down f.outcome _ (reverse f.marks.items) (reverse c.next_term.new.marks.items) f.here c.next_term.new.here d c.in_ok-down.field-0 (rw (p, c.in-Call.is) at c.notes.invariant.stands) c.in-Some.is (c.in_ok-down.ensures ls) in
-    let m = walk-meets A W G ks ls k f.spot.down f.outcome c.in-Call.pair (reverse (take (f.left - 1) ns)) (reverse c.next_term.new.marks.items) c.next_term.new.here d w in
+    let w = walk-next A W G ks ls k f.spot.down f.outcome _ c.notes.marks.top c.next_term.new.marks.top f.here c.next_term.new.here d c.in_ok-down.field-0 (rw (p, c.in-Call.is) at c.notes.invariant.stands) c.in-Some.is (c.in_ok-down.ensures.next ls) in
+    let m = walk-meets A W G ks ls k f.spot.down f.outcome c.in-Call.pair (reverse (take (f.left - 1) ns)) c.next_term.new.marks.top c.next_term.new.here d w in
     record {
       waits = record {
         notes = ns;
@@ -245,11 +256,11 @@ next_term-requires-2 g c =
     let k = pair_at ks f.spot.pair in
     let ls = c.notes.lists.items in
     let small : nodes_in (value_at G k.0) < 2 ^ 63 = subst (λ s. nodes_in (value_at G (pair_at ks s.pair).0) < 2 ^ 63) (sym c.notes.invariant.same) c.requires.small in
-    walk-room A W G ks ls k f.spot.down f.outcome (reverse (take f.left c.args.notes.now.items)) (reverse f.marks.items) f.here c.notes.invariant.stands small
+    walk-room A W G ks ls k f.spot.down f.outcome (reverse (take f.left c.args.notes.now.items)) c.notes.marks.top f.here c.notes.invariant.stands small
 
 pub returns-clause-more : goal.returns-clause-more
 returns-clause-more g c =
-    let m = c.in_ok-end_stretch.ensures.more in
+    let m = c.in_ok-last.ensures.more in
     let n = c.notes.invariant.more in
     (n.0 ++ m.0, m.1 ∙ ap (λ x. x ++ m.0) n.1 ∙ append_assoc c.args.lists.now.items n.0 m.0)
 
@@ -263,9 +274,9 @@ returns-clause-earlier g c =
     let k = pair_at ks f.spot.pair in
     let ls = c.notes.lists.items in
     let z : f.left ≡ 0 = (let t = c.notes-test.false in omega arith) in
-    let w : Walks A W G ks ls k f.spot.down [] (reverse f.marks.items) f.here f.outcome = rw z at c.notes.invariant.stands in
-    let i = (c.in_ok-next_term.ensures ls w.s w.ms w.telling w.marked).telling in
-    c.in_ok-end_stretch.ensures.earlier (absorbed w.s w.ms) i c.notes.invariant.earlier
+    let w : Walks A W G ks ls k f.spot.down [] c.notes.marks.top f.here f.outcome = rw z at c.notes.invariant.stands in
+    let i = (c.in_ok-next_term.ensures.next ls w.s w.ms w.telling w.marked).telling in
+    (c.in_ok-last.ensures.tells (absorbed w.s w.ms) i c.notes.invariant.earlier).1
 
 pub returns-clause-done : goal.returns-clause-done
 returns-clause-done g c =
@@ -277,10 +288,15 @@ returns-clause-done g c =
     let k = pair_at ks f.spot.pair in
     let ls = c.notes.lists.items in
     let z : f.left ≡ 0 = (let t = c.notes-test.false in omega arith) in
-    let w : Walks A W G ks ls k f.spot.down [] (reverse f.marks.items) f.here f.outcome = rw z at c.notes.invariant.stands in
-    let i = (c.in_ok-next_term.ensures ls w.s w.ms w.telling w.marked).telling in
-    let told = c.in_ok-end_stretch.ensures.told (absorbed w.s w.ms) w.done i c.notes.invariant.earlier w.finished in
-    let e = walk-end A W G ks ls k f.spot.down f.outcome c.end_stretch-2.new.lists.items (reverse f.marks.items) f.here c.end_stretch-2.new.outcome w told (ap (λ v. v.items) c.end_stretch-2.ensures.handed) in
+    let w : Walks A W G ks ls k f.spot.down [] c.notes.marks.top f.here f.outcome = rw z at c.notes.invariant.stands in
+    let i = (c.in_ok-next_term.ensures.next ls w.s w.ms w.telling w.marked).telling in
+    let m = c.in_ok-last.ensures.more in
+    let t = c.in_ok-last.ensures.tells (absorbed w.s w.ms) i c.notes.invariant.earlier in
+    let ls' = c.finish-2.new.lists.items in
+    let last = c.in_ok-last.last in
+    let before : AreTold ls' (befores f.outcome) w.done = subst (λ x. AreTold x (befores f.outcome) w.done) (sym m.1) (told-more ls m.0 (befores f.outcome) w.done w.finished) in
+    let told = told-push ls' (befores f.outcome) w.done last (absorbed w.s w.ms) before t.0 in
+    let e = walk-end A W G ks ls k f.spot.down f.outcome ls' c.notes.marks.top f.here (record { handed = f.outcome.handed; last = last }) w told refl in
     record {
       there = rw c.notes.invariant.same c.requires.there;
       finished = e.0;

@@ -1,30 +1,48 @@
-use Rattle.std.proofs.Common.{◌≡◌, ◌+◌, ◌-◌, ◌∙◌, ap, arith, reverse, get_or}
-use Rattle.rule_runs.proofs.Lists.{reverse-push}
-use Rattle.rule_runs.proofs.Marks.{woven-more}
+use Rattle.std.proofs.Common.{◌≡◌, ◌+◌, ◌-◌, ◌∙◌, ◌∷◌, [], ap, sym, refl, arith, length, get_or}
+use Rattle.std.proofs.lemmas.List.{length-map}
+use Rattle.rule_runs.proofs.Marks.{woven-more, woven-none, told-last, told-before, down-handed, length-tolds}
 use Rattle.rule_runs.proofs.Tellings.{told-at}
 use Rattle.rule_runs.specs.Cuts.{nothing}
+use Rattle.rule_runs.specs.Descents.{tolds, downs_handed}
 use Rattle.std.proofs.lemmas.Result.{on_ok_weaker}
 use Rattle.rule_runs.proofs.descent.enter_call.Goals as goal
 
+pub arguments-init : goal.arguments-init
+arguments-init g c =
+    let o = c.args.outcome.now in
+    let n : c.len-left.result ≡ length o.handed.items = omega (arith, c.len-left.ensures, o.handed.ok.0) in
+    record {
+      open_so_far = λ lists ms ss opened told. woven-none o lists c.len-left.result c.args.marks.now.top ms ss n opened;
+      behind = told-last o c.len-left.result n;
+      within = omega (arith, n);
+      below = refl;
+    }
+
 pub arguments-preserved : goal.arguments-preserved
 arguments-preserved g c =
+    let o = c.args.outcome.now in
     let left = c.arguments.left - 1 in
     let e : left + 1 ≡ c.arguments.left = omega arith in
     let h = c.arguments.invariant.within in
-    let p = ap reverse c.in_ok-push.ensures.items ∙ reverse-push c.arguments.marks.items _ in
-    let q = ap reverse c.in_ok-push-2.ensures.items ∙ reverse-push c.push.new.self.items _ in
+    let d : c.in_ok-copy.field-0 ≡ get_or (downs_handed o) left c.in_ok-copy.field-0 = down-handed o left c.index-handed.result.now c.in_ok-copy.field-0 (omega arith) c.index-handed.ensures c.in_ok-copy.ensures in
+    let b : c.arguments.behind ≡ get_or (tolds o) (left + 1) c.arguments.behind = rw e c.arguments.invariant.behind in
     record {
-      open_so_far = λ lists ms ss o t. rw (q, p) (woven-more lists c.args.outcome.now.told.items c.args.outcome.now.handed.items left (reverse c.arguments.marks.items) ms ss c.in_ok-copy_at.field-0 c.index.result.now t c.requires.lengths (omega arith) c.in_ok-copy_at.ensures c.index.ensures (rw e (c.arguments.invariant.open_so_far lists ms ss o t)));
+      open_so_far = λ lists ms ss opened told. rw (c.in_ok-push-2.ensures.top, c.in_ok-push.ensures.top) (woven-more lists (tolds o) (downs_handed o) left c.arguments.marks.top ms ss c.in_ok-copy.field-0 c.arguments.behind told (length-tolds o) (omega (arith, length-map o.handed.items (λ h. h.down))) d b (rw e (c.arguments.invariant.open_so_far lists ms ss opened told)));
+      behind = told-before o left c.index-handed.result.now (omega arith) c.index-handed.ensures;
       within = omega arith;
+      below = c.in_ok-push-2.ensures.below ∙ c.in_ok-push.ensures.below ∙ c.arguments.invariant.below;
     }
 
-pub returns : goal.returns
-returns g c = λ lists s ms ss i o t.
+pub returns-clause-entered : goal.returns-clause-entered
+returns-clause-entered g c = λ lists s ms ss i opened told.
+    let o = c.args.outcome.now in
     let z : c.arguments.left ≡ 0 = omega arith in
-    let n = c.requires.lengths in
-    let w = rw z at (c.arguments.invariant.open_so_far lists ms ss o t) in
-    let k = told-at lists c.args.outcome.now.told.items ss 0 c.index-2.result.now t (omega arith) c.index-2.ensures in
+    let w = rw z at (c.arguments.invariant.open_so_far lists ms ss opened told) in
+    let b : c.arguments.behind ≡ get_or (tolds o) 0 c.arguments.behind = rw z at c.arguments.invariant.behind in
+    let k = told-at lists (tolds o) ss 0 c.arguments.behind told (omega (arith, length-tolds o)) b in
     on_ok_weaker c.absorb.result (λ p. (p, w)) (c.absorb.ensures.telling lists s (get_or ss 0 nothing) i k)
 
 pub absorb-requires : goal.absorb-requires
-absorb-requires g c = c.requires.room c.index-2.result.now c.index-2.ensures
+absorb-requires g c =
+    let z : c.arguments.left ≡ 0 = omega arith in
+    c.requires.room c.arguments.behind (rw z at c.arguments.invariant.behind)

@@ -1,4 +1,4 @@
-use Rattle.std.proofs.Common.{List, Vec, Global, length, reverse}
+use Rattle.std.proofs.Common.{◌≡◌, List, Vec, Global, length}
 use Rattle.rule_runs.specs.declared.listing.Part.{Part}
 use Rattle.rule_runs.specs.Cuts.{Stretch}
 use Rattle.rule_runs.specs.Descents.{AreOpen, HasRoomAhead, IsAbsorbing}
@@ -7,10 +7,11 @@ use Rattle.rule_runs.specs.Walks.{Open}
 use Rattle.rule_runs.proofs.descent.next_term.Given as goal
 
 abbrev pub decreases-marks : goal.decreases-marks
-decreases-marks g l = length l.marks.items
+decreases-marks g l = length l.marks.top
 
 abbrev pub invariant-marks : goal.invariant-marks
 invariant-marks g l = record {
-  absorbing : (lists : List (Vec Part Global)) (s : Stretch) (ms : List (Open g.row.D.Denot)) → IsTelling lists l.initial.here s → AreOpen lists (reverse l.initial.marks.items) ms → IsAbsorbing lists s ms (reverse l.marks.items) l.here;
-  room : HasRoomAhead l.here (reverse l.marks.items);
+  absorbing : (lists : List (Vec Part Global)) (s : Stretch) (ms : List (Open g.row.D.Denot)) → IsTelling lists l.initial.here s → AreOpen lists l.initial.marks.top ms → IsAbsorbing lists s ms l.marks.top l.here;
+  room : HasRoomAhead l.here l.marks.top;
+  below : l.marks.below ≡ l.initial.marks.below;
 }

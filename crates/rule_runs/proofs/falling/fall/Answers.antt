@@ -1,4 +1,4 @@
-use Rattle.std.proofs.Common.{◌≡◌, ◌-◌, ◌∙◌, ◌++◌, ◌∷◌, [], sym, ap, subst, arith, reverse, take, length, All, Some, slice_get}
+use Rattle.std.proofs.Common.{◌≡◌, ◌-◌, ◌∙◌, ◌++◌, ◌∷◌, [], sym, ap, subst, arith, reverse, take, length, get_or, All, Some, slice_get}
 use Rattle.std.proofs.lemmas.List.Elements.{All-append, All-cons, All-head, All-nil, All-tail, All-weaker}
 use Rattle.slt_grammar.specs.Grammars.{value}
 use Rattle.slt_grammar.specs.Keyed.{rules_of}
@@ -8,7 +8,7 @@ use Rattle.rule_runs.specs.Descents.{HasOutcome, Asks, AreWaiting, triple_at}
 use Rattle.rule_runs.specs.Notes.{HasBody}
 use Rattle.rule_runs.specs.Risen.{keys, pair_at}
 use Rattle.rule_runs.proofs.Lists.{reverse-push, all-one, no_more}
-use Rattle.rule_runs.proofs.Descents.{outcome-lengths, waiting-more}
+use Rattle.rule_runs.proofs.Descents.{waiting-more}
 use Rattle.rule_runs.proofs.Triples.{known_triples, open_triples, start-last, start-falls, falls-none, falls-start, falls-more, pair-of, waiting-begin, triples-return, stands-again, frame-small, outer-small, fall-cost-begin, whole-told, told-answers, told-answered, outcomes-more, spot-apart}
 use Rattle.rule_runs.proofs.KeptNotes.{unread-most}
 use Rattle.rule_runs.proofs.Found.{found-hits, found-right, found-small}
@@ -99,7 +99,7 @@ returns-in_err-frame-in-Some-2-clause-steps g c =
     let n = rw c.in-Some-2.is at c.in_ok-spot.ensures.new in
     let k = c.begin-in-Some-2.ensures.steps in
     let o = c.bodies.invariant.counted in
-    (_, falls-more A W G ks c.requires.run.distinct c.bodies.lists.items c.bodies.known c.bodies.frame c.descend.new.descent (reverse c.bodies.frames.items) c.in-Some-2.spot (c.bodies.steps - c.args.steps.now) (c.begin-in-Some-2.new.steps - c.args.steps.now) c.descend.new.lists.items c.bodies.invariant.reads c.bodies.invariant.waiting a c.bodies.invariant.outcomes n (omega arith))
+    (_, falls-more A W G ks c.requires.run.distinct c.bodies.lists.items c.bodies.known c.bodies.frame c.descend.new.descent (reverse c.bodies.frames.items) c.bodies.marks.below c.descend.new.marks.top c.in-Some-2.spot (c.bodies.steps - c.args.steps.now) (c.begin-in-Some-2.new.steps - c.args.steps.now) c.descend.new.lists.items c.bodies.invariant.reads c.bodies.invariant.waiting a c.bodies.invariant.outcomes n (omega arith))
 
 pub bodies-smaller-in-Some-2 : goal.bodies-smaller-in-Some-2
 bodies-smaller-in-Some-2 g c =
@@ -131,10 +131,11 @@ bodies-preserved-in-Some-2 g c =
     let o = c.bodies.invariant.counted in
     let m = c.in_ok-spot.ensures.more in
     let same = c.in_ok-spot.ensures.same in
-    let r = falls-more A W G ks c.requires.run.distinct ls c.bodies.known f f' gs s (c.bodies.steps - c.args.steps.now) (c.begin-in-Some-2.new.steps - c.args.steps.now) c.descend.new.lists.items c.bodies.invariant.reads c.bodies.invariant.waiting a c.bodies.invariant.outcomes n (omega arith) in
+    let r = falls-more A W G ks c.requires.run.distinct ls c.bodies.known f f' gs c.bodies.marks.below c.descend.new.marks.top s (c.bodies.steps - c.args.steps.now) (c.begin-in-Some-2.new.steps - c.args.steps.now) c.descend.new.lists.items c.bodies.invariant.reads c.bodies.invariant.waiting a c.bodies.invariant.outcomes n (omega arith) in
     let e = ap reverse c.in_ok-push-in-Some-2.ensures.items ∙ reverse-push c.bodies.frames.items f' in
-    let a' : Asks A W G ks (ls ++ m.0) f s f' = subst (λ x. Asks A W G ks x f s f') m.1 a in
-    let w = waiting-begin A W G ks ls m.0 f f' gs s c.bodies.invariant.waiting c.bodies.invariant.there a' same in
+    let mt = c.descend.new.marks.top in
+    let a' : Asks A W G ks (ls ++ m.0) f s f' mt = subst (λ x. Asks A W G ks x f s f' mt) m.1 a in
+    let w = waiting-begin A W G ks ls m.0 f f' gs c.bodies.marks.below mt s c.bodies.invariant.waiting c.bodies.invariant.there a' same in
     let spot = c.in_ok-frame-in-Some-2.ensures.spot in
     record {
       outcomes = subst (λ x. All (λ e. HasOutcome A W G ks x e.0 e.1) c.bodies.known) (sym m.1) (outcomes-more A W G ks ls m.0 c.bodies.known c.bodies.invariant.outcomes);
@@ -144,21 +145,11 @@ bodies-preserved-in-Some-2 g c =
       earlier = c.in_ok-spot.ensures.earlier;
       there = rw spot a.there;
       stands = c.in_ok-frame-in-Some-2.ensures.stands c.descend.new.lists.items;
-      waiting = rw (e, spot) (subst (λ x. AreWaiting A W G ks x s (f' ∷ gs)) (sym m.1) w);
+      waiting = rw (e, spot, c.in_ok-frame-in-Some-2.ensures.below, c.in_ok-open-in-Some-2.ensures.below, c.in_ok-spot.ensures.below) (subst (λ x. AreWaiting A W G ks x s (f' ∷ gs) (mt ∷ c.bodies.marks.below)) (sym m.1) w);
       reads = rw (e, spot, same) r;
       counted = (let h = c.begin-in-Some-2.ensures.counted in omega arith);
       few = (let h = c.in_ok-frame-in-Some-2.ensures.once in let few = c.bodies.invariant.few in omega arith);
     }
-
-pub index-requires : goal.index-requires
-index-requires g c =
-    let A = g.A.Rising.algebra c.args.automaton.now in
-    let W = g.A.Falling.downward c.args.automaton.now in
-    let G = rules_of c.args.grammar.now.rules in
-    let ks = keys c.args.risen.now.known in
-    let h = rw c.in-None.is at c.in_ok-spot.ensures.done in
-    let l = outcome-lengths A W G ks c.descend.new.lists.items c.descend.new.descent.spot c.descend.new.descent.outcome h in
-    omega (arith, l, c.descend.new.descent.outcome.told.ok.0)
 
 pub invariant_of-result : goal.invariant_of-result
 invariant_of-result g c =
@@ -166,9 +157,9 @@ invariant_of-result g c =
     let W = g.A.Falling.downward c.args.automaton.now in
     let G = rules_of c.args.grammar.now.rules in
     let h = rw c.in-None.is at c.in_ok-spot.ensures.done in
-    let t = whole-told A W G c.args.risen.now.known c.requires.run c.rules-rules.ensures.grammar c.bodies.lists.items c.descend.new.lists.items c.bodies.frame.spot c.descend.new.descent.spot c.bodies.frames.items c.descend.new.descent.outcome c.index.result.now
-    (omega (arith, c.in-None-pop.ensures.cases.0, c.bodies.frames.ok.0)) c.bodies.invariant.waiting c.in_ok-spot.ensures.same h c.index.ensures in
-    told-answered c.descend.new.lists.items c.index.result.now _ t c.in_ok-spot.ensures.earlier (found-small A W (value G) c.requires.small)
+    let t = whole-told A W G c.args.risen.now.known c.requires.run c.rules-rules.ensures.grammar c.bodies.lists.items c.descend.new.lists.items c.bodies.frame.spot c.descend.new.descent.spot c.bodies.frames.items c.bodies.marks.below c.descend.new.descent.outcome
+    (omega (arith, c.in-None-pop.ensures.cases.0, c.bodies.frames.ok.0)) c.bodies.invariant.waiting c.in_ok-spot.ensures.same h in
+    told-answered c.descend.new.lists.items c.descend.new.descent.outcome.last _ t c.in_ok-spot.ensures.earlier (found-small A W (value G) c.requires.small)
 
 pub returns-in-None-pop-clause-hits : goal.returns-in-None-pop-clause-hits
 returns-in-None-pop-clause-hits g c =
@@ -176,9 +167,9 @@ returns-in-None-pop-clause-hits g c =
     let W = g.A.Falling.downward c.args.automaton.now in
     let G = rules_of c.args.grammar.now.rules in
     let h = rw c.in-None.is at c.in_ok-spot.ensures.done in
-    let t = whole-told A W G c.args.risen.now.known c.requires.run c.rules-rules.ensures.grammar c.bodies.lists.items c.descend.new.lists.items c.bodies.frame.spot c.descend.new.descent.spot c.bodies.frames.items c.descend.new.descent.outcome c.index.result.now
-    (omega (arith, c.in-None-pop.ensures.cases.0, c.bodies.frames.ok.0)) c.bodies.invariant.waiting c.in_ok-spot.ensures.same h c.index.ensures in
-    ap numbers (told-answers c.descend.new.lists.items c.index.result.now _ t) ∙ found-hits A W (value G)
+    let t = whole-told A W G c.args.risen.now.known c.requires.run c.rules-rules.ensures.grammar c.bodies.lists.items c.descend.new.lists.items c.bodies.frame.spot c.descend.new.descent.spot c.bodies.frames.items c.bodies.marks.below c.descend.new.descent.outcome
+    (omega (arith, c.in-None-pop.ensures.cases.0, c.bodies.frames.ok.0)) c.bodies.invariant.waiting c.in_ok-spot.ensures.same h in
+    ap numbers (told-answers c.descend.new.lists.items c.descend.new.descent.outcome.last _ t) ∙ found-hits A W (value G)
 
 pub returns-in-None-pop-clause-symbols : goal.returns-in-None-pop-clause-symbols
 returns-in-None-pop-clause-symbols g c =
@@ -186,9 +177,9 @@ returns-in-None-pop-clause-symbols g c =
     let W = g.A.Falling.downward c.args.automaton.now in
     let G = rules_of c.args.grammar.now.rules in
     let h = rw c.in-None.is at c.in_ok-spot.ensures.done in
-    let t = whole-told A W G c.args.risen.now.known c.requires.run c.rules-rules.ensures.grammar c.bodies.lists.items c.descend.new.lists.items c.bodies.frame.spot c.descend.new.descent.spot c.bodies.frames.items c.descend.new.descent.outcome c.index.result.now
-    (omega (arith, c.in-None-pop.ensures.cases.0, c.bodies.frames.ok.0)) c.bodies.invariant.waiting c.in_ok-spot.ensures.same h c.index.ensures in
-    subst (λ hs. All (λ h. slice_get (symbols_in (value G)) h.number ≡ Some h.symbol) hs) (sym (told-answers c.descend.new.lists.items c.index.result.now _ t)) (found-right A W (value G))
+    let t = whole-told A W G c.args.risen.now.known c.requires.run c.rules-rules.ensures.grammar c.bodies.lists.items c.descend.new.lists.items c.bodies.frame.spot c.descend.new.descent.spot c.bodies.frames.items c.bodies.marks.below c.descend.new.descent.outcome
+    (omega (arith, c.in-None-pop.ensures.cases.0, c.bodies.frames.ok.0)) c.bodies.invariant.waiting c.in_ok-spot.ensures.same h in
+    subst (λ hs. All (λ h. slice_get (symbols_in (value G)) h.number ≡ Some h.symbol) hs) (sym (told-answers c.descend.new.lists.items c.descend.new.descent.outcome.last _ t)) (found-right A W (value G))
 
 pub descend-requires-clause-small : goal.descend-requires-clause-small
 descend-requires-clause-small g c =
@@ -211,16 +202,15 @@ enter_call-requires g c =
     let h = rw c.in-None.is at c.in_ok-spot.ensures.done in
     let m = c.in_ok-spot.ensures.more in
     let e = ap reverse c.in-Some-pop.ensures.items ∙ reverse-push c.pop.new.self.items below in
-    let w0 : AreWaiting A W G ks c.bodies.lists.items f.spot (below ∷ gs) = rw e at c.bodies.invariant.waiting in
-    let w1 = waiting-more A W G ks c.bodies.lists.items m.0 f.spot (below ∷ gs) w0 in
-    let w2 : AreWaiting A W G ks ls f.spot (below ∷ gs) = subst (λ x. AreWaiting A W G ks x f.spot (below ∷ gs)) (sym m.1) w1 in
-    let w3 : AreWaiting A W G ks ls f'.spot (below ∷ gs) = subst (λ x. AreWaiting A W G ks ls x (below ∷ gs)) (sym c.in_ok-spot.ensures.same) w2 in
+    let mss = c.bodies.marks.below in
+    let w0 : AreWaiting A W G ks c.bodies.lists.items f.spot (below ∷ gs) mss = rw e at c.bodies.invariant.waiting in
+    let w1 = waiting-more A W G ks c.bodies.lists.items m.0 f.spot (below ∷ gs) mss w0 in
+    let w2 : AreWaiting A W G ks ls f.spot (below ∷ gs) mss = subst (λ x. AreWaiting A W G ks x f.spot (below ∷ gs) mss) (sym m.1) w1 in
+    let w3 : AreWaiting A W G ks ls f'.spot (below ∷ gs) mss = subst (λ x. AreWaiting A W G ks ls x (below ∷ gs) mss) (sym c.in_ok-spot.ensures.same) w2 in
     let r : FallsOnce A W G (known_triples A W G ks c.bodies.known ++ (triple_at ks f.spot ∷ open_triples A W G ks (below ∷ gs))) (c.bodies.steps - c.args.steps.now) = rw e at c.bodies.invariant.reads in
     let small = outer-small A W G ks c.rules-rules.ensures.grammar c.requires.small (known_triples A W G ks c.bodies.known) (triple_at ks f.spot) below.spot (open_triples A W G ks gs) _ r in
-    let lengths = outcome-lengths A W G ks ls f'.spot f'.outcome h in
     record {
-      lengths = lengths;
-      room = walk-room-call A W G ks ls (pair_at ks below.spot.pair) below.spot.down below.outcome f'.spot.pair (reverse (take below.left w3.0.notes)) (reverse below.marks.items) below.here f'.spot.down w3.0.walks f'.outcome h (omega arith) small;
+      room = walk-room-call A W G ks ls (pair_at ks below.spot.pair) below.spot.down below.outcome f'.spot.pair (reverse (take below.left w3.0.notes)) (get_or mss 0 []) below.here f'.spot.down w3.0.walks f'.outcome h small;
     }
 
 pub note-requires : goal.note-requires
@@ -248,11 +238,13 @@ bodies-preserved g c =
     let m = c.in_ok-spot.ensures.more in
     let same = c.in_ok-spot.ensures.same in
     let e = ap reverse c.in-Some-pop.ensures.items ∙ reverse-push c.pop.new.self.items below in
-    let w0 : AreWaiting A W G ks ls f.spot (below ∷ gs) = rw e at c.bodies.invariant.waiting in
-    let w1 = waiting-more A W G ks ls m.0 f.spot (below ∷ gs) w0 in
-    let w2 : AreWaiting A W G ks ls' f.spot (below ∷ gs) = subst (λ x. AreWaiting A W G ks x f.spot (below ∷ gs)) (sym m.1) w1 in
-    let w3 : AreWaiting A W G ks ls' f'.spot (below ∷ gs) = subst (λ x. AreWaiting A W G ks ls' x (below ∷ gs)) (sym same) w2 in
+    let mss = c.bodies.marks.below in
+    let w0 : AreWaiting A W G ks ls f.spot (below ∷ gs) mss = rw e at c.bodies.invariant.waiting in
+    let w1 = waiting-more A W G ks ls m.0 f.spot (below ∷ gs) mss w0 in
+    let w2 : AreWaiting A W G ks ls' f.spot (below ∷ gs) mss = subst (λ x. AreWaiting A W G ks x f.spot (below ∷ gs) mss) (sym m.1) w1 in
+    let w3 : AreWaiting A W G ks ls' f'.spot (below ∷ gs) mss = subst (λ x. AreWaiting A W G ks ls' x (below ∷ gs) mss) (sym same) w2 in
     let k = c.in_ok-note-in-Some-pop.ensures.ok in
+    let top : c.close.new.self.top ≡ get_or mss 0 [] = c.close.ensures.top ∙ ap (λ x. get_or x 0 []) c.in_ok-spot.ensures.below in
     let outer : All (λ f. HasBody c.bodies.bodies.kept.items f.spot.pair) (below ∷ gs) = rw e at c.bodies.invariant.outer in
     let pair = pair-of A W G es c.requires.run below.spot.pair w3.2 in
     let r : FallsOnce A W G (known_triples A W G ks c.bodies.known ++ (triple_at ks f.spot ∷ open_triples A W G ks (below ∷ gs))) (c.bodies.steps - c.args.steps.now) = rw e at c.bodies.invariant.reads in
@@ -263,8 +255,8 @@ bodies-preserved g c =
       outer = All-tail (λ f. HasBody c.bodies.bodies.kept.items f.spot.pair) below gs outer;
       earlier = c.in_ok-spot.ensures.earlier;
       there = w3.2;
-      stands = stands-again A W G ks c.rules-rules.ensures.grammar ls' below f'.spot f'.outcome c.enter_call.new.marks c.enter_call.new.here pair w3.0 h (λ s ms ss. c.in_ok-enter_call-in-Some-pop.ensures ls' s ms ss);
-      waiting = w3.3;
+      stands = stands-again A W G ks c.rules-rules.ensures.grammar ls' below f'.spot f'.outcome (get_or mss 0 []) c.enter_call.new.marks.top c.enter_call.new.here pair w3.0 h (λ s ms ss. rw top at (c.in_ok-enter_call-in-Some-pop.ensures.entered ls' s ms ss));
+      waiting = rw (c.in_ok-enter_call-in-Some-pop.ensures.below, c.close.ensures.below, c.in_ok-spot.ensures.below) w3.3;
       reads = rw (k, triples-return A W G ks c.bodies.known f'.spot f'.outcome (below ∷ gs), same) r;
       counted = c.bodies.invariant.counted;
       few = c.bodies.invariant.few;

@@ -25,8 +25,8 @@ invariant-bodies g l =
       outer : All (λ f. HasBody l.bodies.kept.items f.spot.pair) (reverse l.frames.items);
       earlier : AreEarlier l.lists.items;
       there : l.frame.spot.pair < length ks;
-      stands : Standing A W G ks l.lists.items l.frame;
-      waiting : AreWaiting A W G ks l.lists.items l.frame.spot (reverse l.frames.items);
+      stands : Standing A W G ks l.lists.items l.frame l.marks.top;
+      waiting : AreWaiting A W G ks l.lists.items l.frame.spot (reverse l.frames.items) l.marks.below;
       reads : FallsOnce A W G (known_triples A W G ks l.known ++ (triple_at ks l.frame.spot ∷ open_triples A W G ks (reverse l.frames.items))) (l.steps - l.fn.steps);
       counted : l.fn.steps ≤ l.steps;
       few : l.steps + 2 * unread G ks l.bodies.kept.items ≤ l.fn.steps + 2 * sum_by (λ k. length (body_at G k.0)) ks;

@@ -1,75 +1,148 @@
-use Rattle.std.proofs.Common.{◌∙◌, ◌≡◌, sym, ap, arith, subst}
+use Rattle.std.proofs.Common.{◌∙◌, ◌≡◌, ◌≤◌, ◌++◌, sym, ap, arith, subst, drop, reverse}
 use Rattle.slt_grammar.specs.Keyed.{rules_of}
 use Rattle.slt_grammar.proofs.KeyedLemmas.{length-rules_of}
 use Rattle.rule_runs.specs.Entries.{key_of}
 use Rattle.rule_runs.specs.Risen.{state_at, AreKnown}
-use Rattle.rule_runs.proofs.Frames.{param-left, param-stands, other-enough, other-stands, call-there, call-waits, stands-state, stands-there, waits-since, frame-front, frame-stops}
+use Rattle.rule_runs.proofs.Frames.{label-next, label-taken, label-there, param-left, param-stands, param-own, other-enough, other-own, other-stands, asks-own, known-own, call-there, call-own, call-waits, root-taken, root-there, waits-since, frame-front, frame-stops}
+use Rattle.rule_runs.proofs.Lists.{no_more}
 use Rattle.rule_runs.proofs.frame.advance.Goals as goal
-
-pub overflow_sub-frame-in-Param : goal.overflow_sub-frame-in-Param
-overflow_sub-frame-in-Param g c =
-    (param-left (g.A.Rising.algebra c.args.automaton.now) (rules_of c.args.grammar.now.rules) c.rules-rules.ensures.grammar c.labels.frame c.labels.invariant.stands c.labels-test.true c.index-label.result.now c.index-label.ensures c.in-Param.is).0
-
-pub copy_at-requires : goal.copy_at-requires
-copy_at-requires g c =
-    (param-left (g.A.Rising.algebra c.args.automaton.now) (rules_of c.args.grammar.now.rules) c.rules-rules.ensures.grammar c.labels.frame c.labels.invariant.stands c.labels-test.true c.index-label.result.now c.index-label.ensures c.in-Param.is).1
-
-pub labels-preserved-in_ok-push : goal.labels-preserved-in_ok-push
-labels-preserved-in_ok-push g c = record {
-  stands = param-stands (g.A.Rising.algebra c.args.automaton.now) (rules_of c.args.grammar.now.rules) c.rules-rules.ensures.grammar c.labels.frame c.labels.invariant.stands c.labels-test.true c.index-label.result.now c.in_ok-copy_at.field-0 c.push.new.self c.index-label.ensures c.in-Param.is c.in_ok-copy_at.ensures c.in_ok-push.ensures.items;
-  closed = frame-front (g.A.Rising.algebra c.args.automaton.now) (rules_of c.args.grammar.now.rules) c.rules-rules.ensures.grammar c.labels.frame c.labels.invariant.stands c.labels-test.true c.args.known.now c.index-label.result.now c.index-label.ensures c.labels.invariant.closed (λ q e. let p = c.in-Param.is in absurd (cc));
-  same = c.labels.invariant.same;
-  fewer = let h = c.labels.invariant.fewer in omega arith;
-}
-
-pub label_state-requires : goal.label_state-requires
-label_state-requires g c =
-    let G = rules_of c.args.grammar.now.rules in
-    record {
-      right = c.requires.right;
-      there = λ q e. let t = call-there (g.A.Rising.algebra c.args.automaton.now) G c.rules-rules.ensures.grammar c.labels.frame c.labels.invariant.stands c.labels-test.true c.index-label.result.now q c.index-label.ensures e in omega (arith, t, length-rules_of c.args.grammar.now.rules);
-      enough = other-enough (g.A.Rising.algebra c.args.automaton.now) G c.rules-rules.ensures.grammar c.labels.frame c.labels.invariant.stands c.labels-test.true c.index-label.result.now c.index-label.ensures;
-      real = c.in_default.not-Param;
-    }
-
-pub labels-preserved : goal.labels-preserved
-labels-preserved g c = record {
-  stands = other-stands (g.A.Rising.algebra c.args.automaton.now) (rules_of c.args.grammar.now.rules) c.rules-rules.ensures.grammar c.labels.frame c.labels.invariant.stands c.labels-test.true c.index-label.result.now c.label_state.new.stack c.index-label.ensures c.in_default.not-Param (rw c.in_default-2.is at c.in_ok-pair.ensures.done);
-  closed = frame-front (g.A.Rising.algebra c.args.automaton.now) (rules_of c.args.grammar.now.rules) c.rules-rules.ensures.grammar c.labels.frame c.labels.invariant.stands c.labels-test.true c.args.known.now c.index-label.result.now c.index-label.ensures c.labels.invariant.closed (rw c.in_default-2.is at c.in_ok-pair.ensures.found);
-  same = c.labels.invariant.same;
-  fewer = let h = c.labels.invariant.fewer in omega arith;
-}
-
-pub returns-in-Some : goal.returns-in-Some
-returns-in-Some g c =
-    let A = g.A.Rising.algebra c.args.automaton.now in
-    let G = rules_of c.args.grammar.now.rules in
-    let w = call-waits A G c.rules-rules.ensures.grammar c.labels.frame c.labels.invariant.stands c.labels-test.true c.index-label.result.now c.in-Some.pair c.label_state.new.stack c.index-label.ensures c.in_default.not-Param (rw c.in-Some.is at c.in_ok-pair.ensures.asked) in
-    record {
-      closed = λ state e. absurd (cc);
-      awaiting = λ pair e. let k : c.in-Some.pair ≡ pair = cc in rw (← k) (frame-stops (g.A.Rising.algebra c.args.automaton.now) (rules_of c.args.grammar.now.rules) c.rules-rules.ensures.grammar c.labels.frame c.labels.invariant.stands c.labels-test.true c.args.known.now c.index-label.result.now c.in-Some.pair _ c.index-label.ensures (rw c.in-Some.is at c.in_ok-pair.ensures.asked) c.labels.invariant.closed);
-      same = c.labels.invariant.same;
-      done = λ state e. absurd (cc);
-      waits = λ pair e. let k : c.in-Some.pair ≡ pair = cc in rw (← k) (waits-since A G c.labels.frame c.args.frame.now c.in-Some.pair _ w c.labels.invariant.same c.labels.invariant.fewer);
-      new = λ pair e. let k : c.in-Some.pair ≡ pair = cc in rw (← k) (rw c.in-Some.is at c.in_ok-pair.ensures.new);
-    }
-
-pub returns-clause-done : goal.returns-clause-done
-returns-clause-done g c =
-    let A = g.A.Rising.algebra c.args.automaton.now in
-    let G = rules_of c.args.grammar.now.rules in
-    let s = stands-state A G c.labels.frame c.in-Some-pop.state c.pop.new.self.items c.rules-rules.ensures.grammar c.labels.invariant.stands (omega arith) c.in-Some-pop.ensures.items in
-    λ state e. let k : c.in-Some-pop.state ≡ state = cc in sym k ∙ s ∙ ap (λ p. state_at A G (key_of p)) c.labels.invariant.same
-
-pub returns-clause-closed : goal.returns-clause-closed
-returns-clause-closed g c =
-    let A = g.A.Rising.algebra c.args.automaton.now in
-    let G = rules_of c.args.grammar.now.rules in
-    let z : c.labels.frame.left ≡ 0 = omega arith in
-    λ state e. subst (λ p. AreKnown A G c.args.known.now (key_of p) 0) c.labels.invariant.same (subst (λ n. AreKnown A G c.args.known.now (key_of c.labels.frame.pair) n) z c.labels.invariant.closed)
 
 pub unreachable-requires : goal.unreachable-requires
 unreachable-requires g c =
+    let G = rules_of c.args.grammar.now.rules in
+    let f = c.nodes.frame in
+    let others = c.requires.labels.0 in
+    let none = rw (no_more c.pop.result c.in_default.not-Some) at c.pop.ensures in
+    label-there G f c.nodes-test.true c.nodes.invariant.stands.evaluated.within c.nodes.labels.items others (omega (arith, none.cases.0, c.nodes.labels.ok.0)) (c.nodes.invariant.labels others c.requires.labels.1)
+
+pub overflow_sub-frame-in-Param : goal.overflow_sub-frame-in-Param
+overflow_sub-frame-in-Param g c =
     let A = g.A.Rising.algebra c.args.automaton.now in
     let G = rules_of c.args.grammar.now.rules in
-    stands-there A G c.labels.frame c.rules-rules.ensures.grammar c.labels.invariant.stands (omega arith) (omega (arith, c.in-None.ensures.cases.0, c.labels.frame.stack.ok.0))
+    let f = c.nodes.frame in
+    let stands = c.nodes.invariant.stands in
+    let next = label-next G f c.nodes-test.true stands.evaluated.within c.nodes.labels.items c.pop.new.self.items c.requires.labels.0 c.in-Some.label c.in-Some.ensures.items (c.nodes.invariant.labels c.requires.labels.0 c.requires.labels.1) in
+    (param-left A G c.rules-rules.ensures.grammar f stands c.nodes-test.true c.in-Some.label next.0 c.in-Param.is).0
+
+pub copy_at-requires : goal.copy_at-requires
+copy_at-requires g c =
+    let A = g.A.Rising.algebra c.args.automaton.now in
+    let G = rules_of c.args.grammar.now.rules in
+    let f = c.nodes.frame in
+    let stands = c.nodes.invariant.stands in
+    let next = label-next G f c.nodes-test.true stands.evaluated.within c.nodes.labels.items c.pop.new.self.items c.requires.labels.0 c.in-Some.label c.in-Some.ensures.items (c.nodes.invariant.labels c.requires.labels.0 c.requires.labels.1) in
+    (param-left A G c.rules-rules.ensures.grammar f stands c.nodes-test.true c.in-Some.label next.0 c.in-Param.is).1
+
+pub nodes-preserved-in_ok-push : goal.nodes-preserved-in_ok-push
+nodes-preserved-in_ok-push g c =
+    let A = g.A.Rising.algebra c.args.automaton.now in
+    let G = rules_of c.args.grammar.now.rules in
+    let grammar = c.rules-rules.ensures.grammar in
+    let f = c.nodes.frame in
+    let stands = c.nodes.invariant.stands in
+    let more = c.nodes-test.true in
+    let l = c.in-Some.label in
+    let is = (label-next G f more stands.evaluated.within c.nodes.labels.items c.pop.new.self.items c.requires.labels.0 l c.in-Some.ensures.items (c.nodes.invariant.labels c.requires.labels.0 c.requires.labels.1)).0 in
+    let s = c.in_ok-copy_at.field-0 in
+    record {
+      stands = param-stands A G grammar f stands more l s is c.in-Param.is c.in_ok-copy_at.ensures;
+      states = λ others on_top. param-own A G grammar f stands more l s c.nodes.stack.items c.push.new.self.items others is c.in-Param.is c.in_ok-copy_at.ensures c.in_ok-push.ensures.items (c.nodes.invariant.states others on_top);
+      labels = label-taken G f more stands.evaluated.within _ _ c.nodes.labels.items c.pop.new.self.items l c.in-Some.ensures.items c.nodes.invariant.labels;
+      closed = frame-front A G grammar f stands more c.args.known.now l is c.nodes.invariant.closed (λ q e. let p = c.in-Param.is in absurd (cc));
+      same = c.nodes.invariant.same;
+      fewer = let h = c.nodes.invariant.fewer in omega arith;
+    }
+
+pub label_state-requires : goal.label_state-requires
+label_state-requires g c =
+    let A = g.A.Rising.algebra c.args.automaton.now in
+    let G = rules_of c.args.grammar.now.rules in
+    let grammar = c.rules-rules.ensures.grammar in
+    let f = c.nodes.frame in
+    let stands = c.nodes.invariant.stands in
+    let more = c.nodes-test.true in
+    let l = c.in-Some.label in
+    let is = (label-next G f more stands.evaluated.within c.nodes.labels.items c.pop.new.self.items c.requires.labels.0 l c.in-Some.ensures.items (c.nodes.invariant.labels c.requires.labels.0 c.requires.labels.1)).0 in
+    record {
+      right = c.requires.right;
+      there = λ q e. let t = call-there A G grammar f stands more l q is e in omega (arith, t, length-rules_of c.args.grammar.now.rules);
+      enough = other-enough A G grammar f stands more l c.nodes.stack c.requires.states.0 is (c.nodes.invariant.states c.requires.states.0 c.requires.states.1);
+      real = c.in_default-label.not-Param;
+    }
+
+pub nodes-preserved : goal.nodes-preserved
+nodes-preserved g c =
+    let A = g.A.Rising.algebra c.args.automaton.now in
+    let G = rules_of c.args.grammar.now.rules in
+    let grammar = c.rules-rules.ensures.grammar in
+    let f = c.nodes.frame in
+    let stands = c.nodes.invariant.stands in
+    let more = c.nodes-test.true in
+    let l = c.in-Some.label in
+    let real = c.in_default-label.not-Param in
+    let is = (label-next G f more stands.evaluated.within c.nodes.labels.items c.pop.new.self.items c.requires.labels.0 l c.in-Some.ensures.items (c.nodes.invariant.labels c.requires.labels.0 c.requires.labels.1)).0 in
+    let top = c.nodes.invariant.states c.requires.states.0 c.requires.states.1 in
+    record {
+      stands = other-stands A G grammar f stands more l is real;
+      states = λ others on_top. other-own A G grammar f stands more l (reverse c.nodes.stack.items) others is (c.nodes.invariant.states others on_top) (reverse c.label_state.new.stack.items) real (rw c.in_default-2.is at c.in_ok-pair.ensures.done);
+      labels = label-taken G f more stands.evaluated.within _ _ c.nodes.labels.items c.pop.new.self.items l c.in-Some.ensures.items c.nodes.invariant.labels;
+      closed = frame-front A G grammar f stands more c.args.known.now l is c.nodes.invariant.closed (λ q e. known-own A G grammar f stands more l (reverse c.nodes.stack.items) c.requires.states.0 is top c.args.known.now q e ((rw c.in_default-2.is at c.in_ok-pair.ensures.found) q e));
+      same = c.nodes.invariant.same;
+      fewer = let h = c.nodes.invariant.fewer in omega arith;
+    }
+
+pub returns-in-Some-2 : goal.returns-in-Some-2
+returns-in-Some-2 g c =
+    let A = g.A.Rising.algebra c.args.automaton.now in
+    let G = rules_of c.args.grammar.now.rules in
+    let grammar = c.rules-rules.ensures.grammar in
+    let f = c.nodes.frame in
+    let stands = c.nodes.invariant.stands in
+    let more = c.nodes-test.true in
+    let l = c.in-Some.label in
+    let real = c.in_default-label.not-Param in
+    let is = (label-next G f more stands.evaluated.within c.nodes.labels.items c.pop.new.self.items c.requires.labels.0 l c.in-Some.ensures.items (c.nodes.invariant.labels c.requires.labels.0 c.requires.labels.1)).0 in
+    let asks = rw c.in-Some-2.is at c.in_ok-pair.ensures.asked in
+    let own_asks = (asks-own A G grammar f stands more l (reverse c.nodes.stack.items) c.requires.states.0 is (c.nodes.invariant.states c.requires.states.0 c.requires.states.1) c.in-Some-2.pair (reverse c.label_state.new.stack.items) asks).0 in
+    let w = call-waits A G grammar f stands more l c.in-Some-2.pair _ is real own_asks in
+    let o = call-own A G grammar f stands more l c.in-Some-2.pair _ is real own_asks in
+    record {
+      closed = λ state e. absurd (cc);
+      awaiting = λ pair e. let k : c.in-Some-2.pair ≡ pair = cc in rw (← k) (frame-stops A G grammar f stands more c.args.known.now l c.in-Some-2.pair _ is own_asks c.nodes.invariant.closed);
+      same = c.nodes.invariant.same;
+      done = λ state e. absurd (cc);
+      waits = λ pair e. let k : c.in-Some-2.pair ≡ pair = cc in rw (← k) (waits-since A G f c.args.frame.now c.in-Some-2.pair _ w c.nodes.invariant.same c.nodes.invariant.fewer);
+      new = λ pair e. let k : c.in-Some-2.pair ≡ pair = cc in rw (← k) (rw c.in-Some-2.is at c.in_ok-pair.ensures.new);
+      cleared = λ state e. absurd (cc);
+      emptied = λ state e. absurd (cc);
+      states = λ pair e others on_top. (asks-own A G grammar f stands more l (reverse c.nodes.stack.items) others is (c.nodes.invariant.states others on_top) c.in-Some-2.pair (reverse c.label_state.new.stack.items) asks).1 ∙ ap (λ ss. ss ++ others) (sym (ap (drop 1) o));
+      labels = λ pair e. label-taken G f more stands.evaluated.within _ _ c.nodes.labels.items c.pop.new.self.items l c.in-Some.ensures.items c.nodes.invariant.labels;
+    }
+
+pub unreachable-requires-in-None : goal.unreachable-requires-in-None
+unreachable-requires-in-None g c =
+    let A = g.A.Rising.algebra c.args.automaton.now in
+    let G = rules_of c.args.grammar.now.rules in
+    root-there A G c.rules-rules.ensures.grammar c.nodes.frame c.nodes.invariant.stands (omega arith) c.nodes.stack.items c.requires.states.0 (omega (arith, c.in-None.ensures.cases.0, c.nodes.stack.ok.0)) (c.nodes.invariant.states c.requires.states.0 c.requires.states.1)
+
+pub returns : goal.returns
+returns g c =
+    let A = g.A.Rising.algebra c.args.automaton.now in
+    let G = rules_of c.args.grammar.now.rules in
+    let f = c.nodes.frame in
+    let s = c.in-Some-pop.state in
+    let z : f.left ≡ 0 = omega arith in
+    let ended : f.left ≤ 0 = omega arith in
+    let is = (root-taken A G c.rules-rules.ensures.grammar f c.nodes.invariant.stands ended s c.nodes.stack.items c.pop-2.new.self.items c.requires.states.0 c.in-Some-pop.ensures.items (c.nodes.invariant.states c.requires.states.0 c.requires.states.1)).0 in
+    record {
+      same = c.nodes.invariant.same;
+      closed = λ state e. subst (λ p. AreKnown A G c.args.known.now (key_of p) 0) c.nodes.invariant.same (subst (λ n. AreKnown A G c.args.known.now (key_of f.pair) n) z c.nodes.invariant.closed);
+      awaiting = λ pair e. absurd (cc);
+      done = λ state e. let k : s ≡ state = cc in sym k ∙ is ∙ ap (λ p. state_at A G (key_of p)) c.nodes.invariant.same;
+      waits = λ pair e. absurd (cc);
+      new = λ pair e. absurd (cc);
+      cleared = λ state e others on_top. (root-taken A G c.rules-rules.ensures.grammar f c.nodes.invariant.stands ended s c.nodes.stack.items c.pop-2.new.self.items others c.in-Some-pop.ensures.items (c.nodes.invariant.states others on_top)).1;
+      emptied = λ state e others on_top. rw z at (c.nodes.invariant.labels others on_top);
+      states = λ pair e. absurd (cc);
+      labels = λ pair e. absurd (cc);
+    }

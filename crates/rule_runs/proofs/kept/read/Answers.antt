@@ -1,4 +1,4 @@
-use Rattle.std.proofs.Common.{◌≡◌, ◌<◌, ◌∙◌, [], sym, ap, subst, arith, reverse, length, All}
+use Rattle.std.proofs.Common.{◌≡◌, ◌<◌, ◌∙◌, ◌++◌, [], sym, ap, subst, arith, reverse, length, All}
 use Rattle.std.proofs.lemmas.List.Elements.{All-get_or}
 use Rattle.std.proofs.lemmas.List.{length-reverse}
 use Rattle.slt_grammar.specs.Keyed.{rules_of}
@@ -45,8 +45,8 @@ returns-clause-kept g c =
     let es = c.args.risen.now.known in
     let kn = ap (λ r. r.known) c.risen.view_is in
     let k : key_of c.in-Some-pair.met.now ≡ pair_at (keys es) c.args.pair = c.in-Some-pair.ensures.pair ∙ ap (λ x. pair_at (keys x) c.args.pair) kn in
-    let b : c.in_ok-labels.labels.items ≡ body_at G c.in-Some-pair.met.now.rule = c.in_ok-labels.ensures.labels in
-    let n0 : AreNotes A G (keys es) c.in-Some-pair.met.now.states.items c.in_ok-labels.labels.items (reverse c.in_ok-notes.notes.items) = rw kn at c.in_ok-notes.ensures in
+    let b : c.append_body.new.labels.items ≡ body_at G c.in-Some-pair.met.now.rule = c.in_ok-append_body.ensures.labels ∙ ap (λ xs. xs ++ body_at G c.in-Some-pair.met.now.rule) c.clear.ensures.items in
+    let n0 : AreNotes A G (keys es) c.in-Some-pair.met.now.states.items c.append_body.new.labels.items (reverse c.in_ok-notes.notes.items) = rw kn at c.in_ok-notes.ensures in
     let n1 : AreNotes A G (keys es) (key_of c.in-Some-pair.met.now).1 (body_at G (key_of c.in-Some-pair.met.now).0) (reverse c.in_ok-notes.notes.items) = rw b at n0 in
     let n2 : AreNotes A G (keys es) (pair_at (keys es) c.args.pair).1 (body_at G (pair_at (keys es) c.args.pair).0) (reverse c.in_ok-notes.notes.items) = subst (λ (x : RuleStates g.row.A-State.Denot). AreNotes A G (keys es) x.1 (body_at G x.0) (reverse c.in_ok-notes.notes.items)) k n1 in
     kept-set A G (keys es) c.args.bodies.now.kept.items c.args.pair c.in_ok-notes.notes c.requires.kept n2
@@ -57,8 +57,8 @@ returns-clause-stays g c = λ i h. has-set c.args.bodies.now.kept.items c.args.p
 pub returns-clause-read : goal.returns-clause-read
 returns-clause-read g c = (c.in_ok-notes.notes, set-there c.args.bodies.now.kept.items c.args.pair _ (let r = c.requires.kept.rows in let t = c.requires.there in omega arith))
 
-pub returns-in_err-labels-clause-reads : goal.returns-in_err-labels-clause-reads
-returns-in_err-labels-clause-reads g c =
+pub returns-in_err-append_body-clause-reads : goal.returns-in_err-append_body-clause-reads
+returns-in_err-append_body-clause-reads g c =
     let G = rules_of c.args.grammar.now.rules in
     let ks = keys c.args.risen.now.known in
     let ms = c.args.bodies.now.kept.items in
@@ -67,7 +67,7 @@ returns-in_err-labels-clause-reads g c =
     let k : key_of c.in-Some-pair.met.now ≡ pair_at ks c.args.pair = c.in-Some-pair.ensures.pair ∙ ap (λ x. pair_at (keys x) c.args.pair) kn in
     let n : length (body_at G c.in-Some-pair.met.now.rule) ≡ length (body_at G (pair_at ks c.args.pair).0) = ap (λ (x : RuleStates g.row.A-State.Denot). length (body_at G x.0)) k in
     let within : c.args.pair < length ms = (let r = c.requires.kept.rows in let t = c.requires.there in omega arith) in
-    let h = c.read_body.ensures.steps in
+    let h = c.append_body.ensures.steps in
     omega (arith, unread-some G ks ms c.args.pair c.requires.there within none)
 
 pub returns-in_err-notes-clause-reads : goal.returns-in_err-notes-clause-reads
@@ -80,7 +80,7 @@ returns-in_err-notes-clause-reads g c =
     let k : key_of c.in-Some-pair.met.now ≡ pair_at ks c.args.pair = c.in-Some-pair.ensures.pair ∙ ap (λ x. pair_at (keys x) c.args.pair) kn in
     let n : length (body_at G c.in-Some-pair.met.now.rule) ≡ length (body_at G (pair_at ks c.args.pair).0) = ap (λ (x : RuleStates g.row.A-State.Denot). length (body_at G x.0)) k in
     let within : c.args.pair < length ms = (let r = c.requires.kept.rows in let t = c.requires.there in omega arith) in
-    let h = c.read_body.ensures.steps in
+    let h = c.append_body.ensures.steps in
     omega (arith, unread-some G ks ms c.args.pair c.requires.there within none)
 
 pub returns-clause-reads : goal.returns-clause-reads
@@ -93,7 +93,7 @@ returns-clause-reads g c =
     let k : key_of c.in-Some-pair.met.now ≡ pair_at ks c.args.pair = c.in-Some-pair.ensures.pair ∙ ap (λ x. pair_at (keys x) c.args.pair) kn in
     let n : length (body_at G c.in-Some-pair.met.now.rule) ≡ length (body_at G (pair_at ks c.args.pair).0) = ap (λ (x : RuleStates g.row.A-State.Denot). length (body_at G x.0)) k in
     let within : c.args.pair < length ms = (let r = c.requires.kept.rows in let t = c.requires.there in omega arith) in
-    let h = c.read_body.ensures.steps in
+    let h = c.append_body.ensures.steps in
     omega (arith, unread-some G ks ms c.args.pair c.requires.there within none)
 
 pub returns-clause-once : goal.returns-clause-once
@@ -106,5 +106,15 @@ returns-clause-once g c =
     let k : key_of c.in-Some-pair.met.now ≡ pair_at ks c.args.pair = c.in-Some-pair.ensures.pair ∙ ap (λ x. pair_at (keys x) c.args.pair) kn in
     let n : length (body_at G c.in-Some-pair.met.now.rule) ≡ length (body_at G (pair_at ks c.args.pair).0) = ap (λ (x : RuleStates g.row.A-State.Denot). length (body_at G x.0)) k in
     let within : c.args.pair < length ms = (let r = c.requires.kept.rows in let t = c.requires.there in omega arith) in
-    let h = c.read_body.ensures.steps in
+    let h = c.append_body.ensures.steps in
     omega (arith, unread-set G ks ms c.args.pair c.in_ok-notes.notes c.requires.there within none)
+
+pub returns-clause-nodes : goal.returns-clause-nodes
+returns-clause-nodes g c =
+    let G = rules_of c.args.grammar.now.rules in
+    let ks = keys c.args.risen.now.known in
+    let kn = ap (λ r. r.known) c.risen.view_is in
+    let k : key_of c.in-Some-pair.met.now ≡ pair_at ks c.args.pair = c.in-Some-pair.ensures.pair ∙ ap (λ x. pair_at (keys x) c.args.pair) kn in
+    let n : length (body_at G c.in-Some-pair.met.now.rule) ≡ length (body_at G (pair_at ks c.args.pair).0) = ap (λ (x : RuleStates g.row.A-State.Denot). length (body_at G x.0)) k in
+    let b : c.append_body.new.labels.items ≡ body_at G c.in-Some-pair.met.now.rule = c.in_ok-append_body.ensures.labels ∙ ap (λ xs. xs ++ body_at G c.in-Some-pair.met.now.rule) c.clear.ensures.items in
+    omega (arith, c.len-2.ensures, ap length b, n, c.append_body.new.labels.ok.0)

@@ -1,6 +1,6 @@
 use Rattle.rule_runs.proofs.Closing.{known-end, closing-begin, closing-return}
 use Rattle.std.proofs.lemmas.List.Elements.{All-append, All-nil}
-use Rattle.std.proofs.Common.{◌∙◌, ◌≡◌, ◌≢◌, ◌-◌, ◌++◌, ◌∷◌, ap, arith, [], reverse, length, refl}
+use Rattle.std.proofs.Common.{◌∙◌, ◌≡◌, ◌≢◌, ◌-◌, ◌++◌, ◌∷◌, ap, arith, [], reverse, length}
 use Rattle.slt_grammar.specs.Keyed.{rules_of}
 use Rattle.rule_runs.specs.Reached.{RuleStates, ReadsOnce}
 use Rattle.slt_grammar.proofs.KeyedLemmas.{length-rules_of}
@@ -8,7 +8,7 @@ use Rattle.rule_runs.specs.Entries.{key_of}
 use Rattle.rule_runs.specs.Risen.{IsPair, state_at, keys, AreKnown}
 use Rattle.rule_runs.specs.Frames.{AreFrames, keys_of}
 use Rattle.rule_runs.proofs.Lists.{reverse-push, empty_reverse, all-one, all-unmap, distinct-apart}
-use Rattle.rule_runs.proofs.Once.{frames-stands, reads-more, reads-start, frames-begin, frames-return, keys-return, start-pair, top-state, run-whole, cost-begin}
+use Rattle.rule_runs.proofs.Once.{frames-stands, reads-more, reads-start, frames-begin, stacked-start, stacked-begin, stacked-return, keys-return, start-pair, top-state, run-whole, cost-begin}
 use Rattle.std.proofs.lemmas.List.{map-append}
 use Rattle.rule_runs.proofs.rising.rise.Goals as goal
 
@@ -38,6 +38,7 @@ bodies-init g c =
       right = rw c.new-known.ensures (All-nil (λ e. e.1 ≡ state_at A G e.0));
       pairs = rw c.new-known.ensures (All-nil (IsPair G));
       frames = rw c.new-frames.ensures.items (c.in_ok-frame.ensures.stands A, key);
+      stacked = rw c.new-frames.ensures.items (stacked-start A G c.in_ok-frame.frame c.new-stack.result.items c.new-labels.result.items (reverse c.begin.new.labels.items) c.new-stack.ensures.items c.new-labels.ensures.items (c.in_ok-frame.ensures.none A) c.in_ok-frame.ensures.labels);
       reads = rw (c.new-known.ensures, c.new-frames.ensures.items, key) (reads-start A G (c.begin.new.steps - c.args.steps.now) c.rules.ensures.grammar (rw (← n) (omega arith)));
       closing = rw (c.new-known.ensures, c.new-frames.ensures.items) (record { now = known-end A G [] (key_of c.in_ok-frame.frame.pair) c.in_ok-frame.frame.left (rw (c.in_ok-frame.ensures.pair, c.in_ok-frame.ensures.cost) (omega arith)); outer = tt; all = All-nil (λ k. AreKnown A G [] k 0) });
       counted = c.begin.ensures.counted;
@@ -45,7 +46,13 @@ bodies-init g c =
 
 pub advance-requires-clause-stands : goal.advance-requires-clause-stands
 advance-requires-clause-stands g c =
-    frames-stands (g.A.Rising.algebra c.args.automaton.now) (rules_of c.args.grammar.now.rules) [] c.bodies.frame (reverse c.bodies.frames.items) c.bodies.invariant.frames
+    frames-stands (g.A.Rising.algebra c.args.automaton.now) (rules_of c.args.grammar.now.rules) c.bodies.frame (reverse c.bodies.frames.items) c.bodies.invariant.frames
+
+pub advance-requires-clause-states : goal.advance-requires-clause-states
+advance-requires-clause-states g c = (_, c.bodies.invariant.stacked.states)
+
+pub advance-requires-clause-labels : goal.advance-requires-clause-labels
+advance-requires-clause-labels g c = (_, c.bodies.invariant.stacked.labels)
 
 pub begin-requires-in-Waits : goal.begin-requires-in-Waits
 begin-requires-in-Waits g c = (c.in_ok-pair.ensures.waits c.in-Waits.pair c.in-Waits.is).there
@@ -79,10 +86,13 @@ bodies-preserved-in-Waits g c =
     let r = reads-more A G c.bodies.known c.bodies.frame c.advance.new.frame (reverse c.bodies.frames.items) c.in-Waits.pair (c.bodies.steps - c.args.steps.now) (c.begin-in-Waits.new.steps - c.args.steps.now) c.bodies.invariant.reads c.bodies.invariant.frames w n (omega arith) in
     let f = frames-begin A G c.bodies.frame c.advance.new.frame c.in_ok-frame-in-Waits.frame (reverse c.bodies.frames.items) c.in-Waits.pair c.bodies.invariant.frames w c.in_ok-pair.ensures.same c.in_ok-frame-in-Waits.ensures.pair (c.in_ok-frame-in-Waits.ensures.stands A) in
     let e = ap reverse c.in_ok-push-in-Waits.ensures.items ∙ reverse-push c.bodies.frames.items c.advance.new.frame in
+    let stacked = stacked-begin A G c.bodies.frame c.advance.new.frame c.in_ok-frame-in-Waits.frame (reverse c.bodies.frames.items) _ _ _ _ _ c.bodies.invariant.stacked
+    (c.in_ok-pair.ensures.states c.in-Waits.pair c.in-Waits.is) (c.in_ok-pair.ensures.labels c.in-Waits.pair c.in-Waits.is) (c.in_ok-frame-in-Waits.ensures.none A) c.in_ok-frame-in-Waits.ensures.labels in
     record {
       right = c.bodies.invariant.right;
       pairs = c.bodies.invariant.pairs;
       frames = rw e f;
+      stacked = rw e stacked;
       reads = rw (e, c.in_ok-frame-in-Waits.ensures.pair, c.in_ok-pair.ensures.same) r;
       closing = rw e (closing-begin A G c.bodies.known c.bodies.frame c.advance.new.frame c.in_ok-frame-in-Waits.frame (reverse c.bodies.frames.items) c.in-Waits.pair c.bodies.invariant.closing c.in_ok-pair.ensures.same (c.in_ok-pair.ensures.awaiting c.in-Waits.pair c.in-Waits.is) c.in_ok-frame-in-Waits.ensures.pair c.in_ok-frame-in-Waits.ensures.cost);
       counted = (let h = c.begin-in-Waits.ensures.counted in omega arith);
@@ -107,7 +117,7 @@ returns-in-None-clause-top g c =
     let G = rules_of c.args.grammar.now.rules in
     let d = c.in_ok-pair.ensures.done c.in-Done.state c.in-Done.is in
     let n : length c.bodies.frames.items ≡ 0 = omega (arith, c.in-None.ensures.cases.0, c.bodies.frames.ok.0) in
-    let f : AreFrames A G [] c.bodies.frame [] = rw (empty_reverse c.bodies.frames.items n) at c.bodies.invariant.frames in
+    let f : AreFrames A G c.bodies.frame [] = rw (empty_reverse c.bodies.frames.items n) at c.bodies.invariant.frames in
     c.in_ok-top-in-None.ensures ∙ top-state A G c.rules.ensures.grammar c.bodies.frame c.in-Done.state f d
 
 pub returns-in-None-clause-run : goal.returns-in-None-clause-run
@@ -116,7 +126,7 @@ returns-in-None-clause-run g c =
     let G = rules_of c.args.grammar.now.rules in
     let d = c.in_ok-pair.ensures.done c.in-Done.state c.in-Done.is in
     let z : length c.bodies.frames.items ≡ 0 = omega (arith, c.in-None.ensures.cases.0, c.bodies.frames.ok.0) in
-    let f : AreFrames A G [] c.bodies.frame [] = rw (empty_reverse c.bodies.frames.items z) at c.bodies.invariant.frames in
+    let f : AreFrames A G c.bodies.frame [] = rw (empty_reverse c.bodies.frames.items z) at c.bodies.invariant.frames in
     let r : ReadsOnce A G (keys c.bodies.known ++ (key_of c.bodies.frame.pair ∷ [])) (c.bodies.steps - c.args.steps.now) = rw (empty_reverse c.bodies.frames.items z) at c.bodies.invariant.reads in
     let h = c.in_ok-note-in-None.ensures.ok in
     let n : c.note.new.self ≡ c.bodies.known ++ (key_of c.bodies.frame.pair, c.in-Done.state) ∷ [] = h ∙ ap (λ p. c.bodies.known ++ (key_of p, c.in-Done.state) ∷ []) c.in_ok-pair.ensures.same in
@@ -131,14 +141,17 @@ bodies-preserved g c =
     let n : c.note-in-Some.new.self ≡ c.bodies.known ++ entry ∷ [] = h ∙ ap (λ p. c.bodies.known ++ (key_of p, c.in-Done.state) ∷ []) c.in_ok-pair.ensures.same in
     let d = c.in_ok-pair.ensures.done c.in-Done.state c.in-Done.is in
     let e = ap reverse c.in-Some.ensures.items ∙ reverse-push c.pop.new.self.items c.in-Some.below in
-    let f : AreFrames A G [] c.bodies.frame (c.in-Some.below ∷ reverse c.pop.new.self.items) = rw e at c.bodies.invariant.frames in
+    let f : AreFrames A G c.bodies.frame (c.in-Some.below ∷ reverse c.pop.new.self.items) = rw e at c.bodies.invariant.frames in
     let r : ReadsOnce A G (keys c.bodies.known ++ (key_of c.bodies.frame.pair ∷ keys_of (c.in-Some.below ∷ reverse c.pop.new.self.items))) (c.bodies.steps - c.args.steps.now) = rw e at c.bodies.invariant.reads in
-    let s = frames-stands A G [] c.bodies.frame (reverse c.bodies.frames.items) c.bodies.invariant.frames in
+    let s = frames-stands A G c.bodies.frame (reverse c.bodies.frames.items) c.bodies.invariant.frames in
+    let stacked = stacked-return A G c.bodies.frame c.in-Some.below (reverse c.pop.new.self.items) c.in_ok-copy-in-Some.field-0 _ c.advance.new.stack.items c.push-in-Some.new.self.items _ _ f (rw e at c.bodies.invariant.stacked)
+    (c.in_ok-pair.ensures.cleared c.in-Done.state c.in-Done.is) (c.in_ok-pair.ensures.emptied c.in-Done.state c.in-Done.is) (c.in_ok-copy-in-Some.ensures ∙ d) c.in_ok-push-in-Some.ensures.items in
     record {
       right = rw n (All-append (λ e. e.1 ≡ state_at A G e.0) c.bodies.known (entry ∷ []) c.bodies.invariant.right (all-one (λ e. e.1 ≡ state_at A G e.0) entry d));
       pairs = rw (n, map-append (λ e. e.0) c.bodies.known (entry ∷ [])) (All-append (IsPair G) (keys c.bodies.known) (key_of c.bodies.frame.pair ∷ []) c.bodies.invariant.pairs (all-one (IsPair G) (key_of c.bodies.frame.pair) s.pair));
-      frames = frames-return A G c.bodies.frame c.in-Some.below (reverse c.pop.new.self.items) c.in_ok-copy-in-Some.field-0 c.push-in-Some.new.self f (c.in_ok-copy-in-Some.ensures ∙ d) c.in_ok-push-in-Some.ensures.items;
+      frames = f.3;
+      stacked = stacked;
       reads = rw (n, keys-return A G c.bodies.known c.bodies.frame (c.in-Some.below ∷ reverse c.pop.new.self.items) c.in-Done.state) r;
-      closing = rw n (closing-return A G c.bodies.known c.bodies.frame c.in-Some.below _ (reverse c.pop.new.self.items) c.in-Done.state (rw e at c.bodies.invariant.closing) (c.in_ok-pair.ensures.closed c.in-Done.state c.in-Done.is) refl refl);
+      closing = rw n (closing-return A G c.bodies.known c.bodies.frame c.in-Some.below (reverse c.pop.new.self.items) c.in-Done.state (rw e at c.bodies.invariant.closing) (c.in_ok-pair.ensures.closed c.in-Done.state c.in-Done.is));
       counted = c.bodies.invariant.counted;
     }

@@ -1,9 +1,9 @@
-use Rattle.std.proofs.Common.{◌≡◌, ◌≤◌, ◌+◌, ◌-◌, ◌++◌, ◌∷◌, [], reverse, sum_by, All}
+use Rattle.std.proofs.Common.{◌≡◌, ◌≤◌, ◌+◌, ◌-◌, ◌++◌, ◌∷◌, reverse, sum_by, All}
 use Rattle.slt_grammar.specs.Keyed.{rules_of}
 use Rattle.rule_runs.specs.Reached.{ReadsOnce}
 use Rattle.rule_runs.specs.Entries.{key_of}
 use Rattle.rule_runs.specs.Risen.{IsPair, state_at, keys}
-use Rattle.rule_runs.specs.Frames.{AreFrames, keys_of, cost, IsClosing}
+use Rattle.rule_runs.specs.Frames.{AreFrames, AreStacked, keys_of, cost, IsClosing}
 use Rattle.rule_runs.proofs.rising.rise.Given as goal
 
 abbrev pub decreases-bodies : goal.decreases-bodies
@@ -16,7 +16,8 @@ invariant-bodies g l =
     record {
       right : All (λ e. e.1 ≡ state_at A G e.0) l.known;
       pairs : All (IsPair G) (keys l.known);
-      frames : AreFrames A G [] l.frame (reverse l.frames.items);
+      frames : AreFrames A G l.frame (reverse l.frames.items);
+      stacked : AreStacked A G l.frame (reverse l.frames.items) (reverse l.stack.items) (reverse l.labels.items);
       reads : ReadsOnce A G (keys l.known ++ (key_of l.frame.pair ∷ keys_of (reverse l.frames.items))) (l.steps - l.fn.steps);
       closing : IsClosing A G l.known l.frame (reverse l.frames.items);
       counted : l.fn.steps ≤ l.steps;

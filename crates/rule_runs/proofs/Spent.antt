@@ -1,19 +1,15 @@
 -- Falling from a state from which nothing is hit: only the numbers of nodes are told, and each hole gets the same state.
-use Rattle.std.proofs.Common.{◌≡◌, ℕ, zero, suc, ◌+◌, ◌<◌, List, [], ◌∷◌, ◌++◌, length, get_or, map, false, sum_by, refl, sym, ap, ◌∙◌, arith}
+use Rattle.std.proofs.Common.{◌≡◌, ℕ, zero, suc, ◌+◌, ◌<◌, List, [], ◌∷◌, ◌++◌, length, get_or, map, sum_by, refl, sym, ap, ◌∙◌, arith}
 use Rattle.std.proofs.lemmas.List.{map-append}
 use Rattle.std.proofs.lemmas.List.Sums.{sum_by-append}
 use Rattle.rule_arena.specs.declared.label.Label.{Label}
 use Rattle.rule_arena.specs.declared.label.Label.TheVariants.{Bottom, Symbol, Call, Param}
 use Rattle.slt_grammar.specs.Algebras.{Algebra}
-use Rattle.slt_grammar.specs.Automata.{Downward, handed}
+use Rattle.slt_grammar.specs.Automata.{Downward, IsSpent, handed}
 use Rattle.slt_grammar.specs.Segments.{listed, segment}
 use Rattle.slt_grammar.specs.Terms.{Term, Leaf, Node, Hole, holes_of, up}
 use Rattle.rule_runs.specs.Cuts.{Stretch, nothing, beside, before, joined, cut}
 use Rattle.rule_runs.proofs.Cutting.{before-nothing, before-joined, beside-nothing, joined-assoc, length-before, length-joined, cut-some}
-
--- nothing is hit below such a down state: each step from it hits nothing and hands it on
-abbrev pub IsSpent : {S D : Type 0} → Downward S D → D → Type 0
-IsSpent {S} W d = (f : ℕ) (k r : S) → W.step f d k r ≡ record { hit = false; left = d; right = d }
 
 -- nodes in a row of which none is hit
 abbrev pub unhit : ℕ → Stretch

@@ -1,5 +1,5 @@
 -- Automata that run downward, and their run over a term without calls.
-use Rattle.std.specs.Prelude.{ℕ, suc, ◌+◌, List, [], ◌∷◌, ◌++◌, if◌then◌else◌}
+use Rattle.std.specs.Prelude.{◌≡◌, ℕ, suc, ◌+◌, List, [], ◌∷◌, ◌++◌, false, if◌then◌else◌}
 use Rattle.slt_grammar.specs.Algebras.{Algebra}
 use Rattle.slt_grammar.specs.Terms.{Term, Leaf, Node, Hole, up}
 use Rattle.slt_grammar.specs.declared.automata.Fell.{Fell}
@@ -8,6 +8,10 @@ use Rattle.slt_grammar.specs.declared.automata.Fell.{Fell}
 pub record Downward (S D : Type 0) : Type 0 where
   pub start : D
   pub step : ℕ → D → S → S → Fell D
+
+-- nothing is hit from such a down state on: each step hits nothing and hands it on
+abbrev pub IsSpent : {S D : Type 0} → Downward S D → D → Type 0
+IsSpent {S} W d = (f : ℕ) (k r : S) → W.step f d k r ≡ record { hit = false; left = d; right = d }
 
 module _ {S D : Type 0} (A : Algebra S) (W : Downward S D) where
   -- the down states that a run hands to the holes of a term, from left to right

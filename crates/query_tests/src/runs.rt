@@ -41,7 +41,7 @@ fn find<L: Ledger>(alloc: Global, grammar: &Grammar, blank: Blank) -> Result<Fou
     let _counts = Counts::new(alloc, grammar, &Names::new(alloc))?;
     let mut steps: Steps<L> = Steps::new(blank);
     let risen = rise(alloc, grammar, &Marks, &mut steps)?;
-    let fallen = fall(alloc, grammar, &Marks, &risen, &mut steps)?;
+    let fallen = fall(alloc, grammar, &Marks, &risen, None, &mut steps)?;
     Ok(Found {
         has_b: risen.top().has_b,
         count: fallen.count(),

@@ -11,7 +11,7 @@ use crate::runs::list_numbers;
 use documents::{Node, labels_of, names_of};
 use plain_tree::Names;
 use read_steps::Steps;
-use rule_runs::{fall, rise};
+use rule_runs::{Spent, fall, rise};
 use segment_counts::Counts;
 use selecting_automaton::{Selector, compile};
 use slt_grammar::Label::{self, Bottom, Call, Param, Symbol};
@@ -34,11 +34,14 @@ fn hits<L: Ledger>(
     requires parts { blank.parts ≡ L.parts }
     requires some { 0 < blank.parts }
 {
-    // The counts tell that the value has few nodes.
-    let _counts = Counts::new(alloc, grammar, &Names::new(alloc))?;
+    let counts = Counts::new(alloc, grammar, &Names::new(alloc))?;
+    let spent = Spent {
+        down: selector.spent(),
+        counts: &counts,
+    };
     let mut steps: Steps<L> = Steps::new(blank);
     let risen = rise(alloc, grammar, selector, &mut steps)?;
-    let fallen = fall(alloc, grammar, selector, &risen, &mut steps)?;
+    let fallen = fall(alloc, grammar, selector, &risen, Some(&spent), &mut steps)?;
     Ok(list_numbers(alloc, &fallen)?)
 }
 
@@ -143,6 +146,42 @@ fn shared_siblings_are_selected_each(rt: HostRuntime) -> Result<(), Fail> {
     let names = names_of(alloc, &tables::TWINS)?;
     let bodies = four_siblings(alloc)?;
     let miss = first_miss(alloc, &names, bodies.as_slice(), &tables::OF_FOUR)?;
+    assert_eq!(rt; miss, None);
+    Ok(())
+}
+
+// <a><b><a/><a/><a/></b><b><a/><a/><a/></b></a>, where rule 0 is a(bottom, a(bottom, y1)).
+fn two_parents(alloc: Global) -> Result<Vec<(usize, Vec<Label>)>, AllocError> {
+    let mut bodies = Vec::new(alloc);
+    let kids = [Symbol(1), Bottom, Symbol(1), Bottom, Param];
+    bodies.push((1, kids.to_vec(alloc)?))?;
+    let start = [
+        Symbol(0),
+        Symbol(1),
+        Symbol(2),
+        Call(0),
+        Symbol(1),
+        Bottom,
+        Bottom,
+        Symbol(2),
+        Call(0),
+        Symbol(1),
+        Bottom,
+        Bottom,
+        Bottom,
+        Bottom,
+        Bottom,
+    ];
+    bodies.push((0, start.to_vec(alloc)?))?;
+    Ok(bodies)
+}
+
+#[test]
+fn nodes_behind_the_ends_of_paths_have_their_numbers(rt: HostRuntime) -> Result<(), Fail> {
+    let alloc = rt.alloc();
+    let names = names_of(alloc, &tables::TWINS)?;
+    let bodies = two_parents(alloc)?;
+    let miss = first_miss(alloc, &names, bodies.as_slice(), &tables::OF_PARENTS)?;
     assert_eq!(rt; miss, None);
     Ok(())
 }

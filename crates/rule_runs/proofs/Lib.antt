@@ -12,7 +12,6 @@ pub mod Symbols
 pub mod Found
 pub mod Handing
 pub mod Cutting
-pub mod Spent
 pub mod Weaving
 pub mod Telling
 pub mod Tellings
@@ -22,6 +21,7 @@ pub mod Marks
 pub mod NoteLemmas
 pub mod KeptNotes
 pub mod Descents
+pub mod Resting
 pub mod Rooms
 pub mod Triples
 pub mod Answering

@@ -124,6 +124,13 @@ module _ {S D : Type 0} (A : Algebra S) (W : Downward S D) (G : List Rule) (ks :
       let b : fall_cost G ks f' ≡ f'.left * base G ^ (pair_at ks f.spot.pair).0 + 1 = rw e refl in
       omega (arith, k, s, a, b)
 
+  -- a body that goes on, behind a call of an earlier rule, costs less
+  pub fall-cost-less : (f f' : Descent D) (q : ℕ) → q < (pair_at ks f.spot.pair).0 → f'.spot ≡ f.spot → f'.left < f.left → fall_cost G ks f' < fall_cost G ks f
+  fall-cost-less f f' q qr e less =
+      let k = cost-lt (base G) (pair_at ks f.spot.pair).0 q f.left f'.left 0 qr less (omega arith) in
+      let b : fall_cost G ks f' ≡ f'.left * base G ^ (pair_at ks f.spot.pair).0 + 1 = rw e refl in
+      omega (arith, k, b)
+
 module _ {S D : Type 0} (A : Algebra S) (W : Downward S D) (G : List Rule) (known : List (RuleStates S × S)) (run : IsRun A G known) where
   -- the last pair of the table is the start's
   pub start-last : (pair_at (keys known) (length (keys known) - 1) ≡ (length G - 1, [])) × (0 < length (keys known))

@@ -1,7 +1,9 @@
 // Runs downward: each rule is read once for each list of argument states, and gone through once for each down state that it is met
 // with.
-ghost use Rattle.std.specs.Prelude.{◌≡◌, ◌-◌, ◌+◌, ◌*◌, ◌^◌, ◌<◌, ◌≤◌, List, length, sum_by, slice_get, Some, All, IfOk};
-ghost use Rattle.slt_grammar.specs.Automata.{hits, nodes_in};
+ghost use Rattle.std.specs.Prelude.{◌≡◌, ◌-◌, ◌+◌, ◌*◌, ◌^◌, ◌<◌, ◌≤◌, ℕ, List, length, sum_by, slice_get, Some, All, IfOk, IfSome};
+ghost use Rattle.plain_tree.specs.declared.kind.Kind.{Kind};
+ghost use Rattle.segment_counts.specs.Counting.{AreCounts};
+ghost use Rattle.slt_grammar.specs.Automata.{IsSpent, hits, nodes_in};
 ghost use Rattle.slt_grammar.specs.Grammars.{body_at, value};
 ghost use Rattle.slt_grammar.specs.Keyed.{rules_of};
 ghost use Rattle.rule_runs.specs.Hits.{numbers, symbols_in};
@@ -13,6 +15,7 @@ use crate::kept::Bodies;
 use crate::layers::Layers;
 use crate::listing::Part;
 use crate::rising::RiseTable;
+use crate::spent::{Spent, spent_outcome};
 use crate::spots::{Spot, Spots};
 use crate::told::Told;
 use read_steps::Steps;
@@ -53,17 +56,20 @@ impl FallTable {
 /// and which symbols they have.
 ///
 /// What the grammar stands for has at most 2^63 - 1 nodes that aren't bottom. Each pair of a rule and states of its arguments that the
-/// run meets is read once for all its down states, with at most two steps a node, whatever is answered. It fails where memory is
-/// refused.
+/// run meets is read once for all its down states, with at most two steps a node, whatever is answered; where `spent` tells a down state
+/// from which nothing is hit, no call at that state is entered. It fails where memory is refused.
 pub fn fall<A: Falling, L: Ledger>(
     alloc: Global,
     grammar: &Grammar,
     automaton: &A,
     risen: &RiseTable<A>,
+    spent: Option<&Spent<'_, A::Down>>,
     steps: &mut Steps<L>,
 ) -> Result<FallTable, AllocError>
     requires run { IsRun (A.algebra automaton.now) (rules_of grammar.now.rules) risen.now.known }
     requires small { nodes_in (value (rules_of grammar.now.rules)) < 2 ^ 63 }
+    requires spent { IfSome spent (λ s. IsSpent (A.downward automaton.now) s.now.down) }
+    requires counts { IfSome spent (λ s. (names : List (Kind × List ℕ)) × AreCounts names (rules_of grammar.now.rules) s.now.counts.now) }
     ensures hits { IfOk result (λ table. numbers table ≡ hits (A.algebra automaton.now) (A.downward automaton.now) (value (rules_of grammar.now.rules))) }
     ensures symbols { IfOk result (λ table. All (λ hit. slice_get (symbols_in (value (rules_of grammar.now.rules))) hit.number ≡ Some hit.symbol) table) }
     ensures steps { (triples : List (RuleStates A.State × A.Down)) × FallsOnce (A.algebra automaton.now) (A.downward automaton.now) (rules_of grammar.now.rules) triples (steps.new - steps.old) }
@@ -99,20 +105,26 @@ pub fn fall<A: Falling, L: Ledger>(
         match descend(
             alloc, automaton, grammar, risen, notes, &known, &mut lists, &mut marks, &mut frame,
         )? {
-            Some(spot) => {
-                frames.push(frame)?;
-                marks.open()?;
-                frame = begin(
-                    alloc,
-                    automaton,
-                    grammar,
-                    risen,
-                    &mut bodies,
-                    &mut marks,
-                    spot,
-                    steps,
-                )?;
-            }
+            Some(spot) => match spent_outcome(alloc, automaton, grammar, risen, spent, &spot)? {
+                Some(outcome) => {
+                    enter_call(&mut marks, &mut frame.here, &outcome)?;
+                    known.note(spot, outcome)?;
+                }
+                None => {
+                    frames.push(frame)?;
+                    marks.open()?;
+                    frame = begin(
+                        alloc,
+                        automaton,
+                        grammar,
+                        risen,
+                        &mut bodies,
+                        &mut marks,
+                        spot,
+                        steps,
+                    )?;
+                }
+            },
             None => match frames.pop() {
                 None => {
                     return Ok(FallTable {

@@ -6,8 +6,9 @@
 //!
 //! `body` reads a rule's body. Upward: `rising` runs over the bodies of `frame`, with states on a `stack`, and notes them in `memo`.
 //! Where an automaton has one state, `one_state` notes all pairs without reading.
-//! Downward: `falling` runs over the bodies of `descent`, which `kept` has as their `notes`, and keeps in `spots` what each was
-//! found to be, as stretches of nodes (`told`). `listing` tells a list that is made of earlier lists, for `answers`.
+//! Downward: `falling` runs over the bodies of `descent`, which `kept` has as their `notes`, with what is open in `layers`, and keeps in
+//! `spots` what each was found to be, as stretches of nodes (`told`). At a down state from which nothing is hit, `spent` tells that by
+//! counts. `listing` tells a list that is made of earlier lists, for `answers`.
 //!
 //! `specs/Reached.antt` says which pairs and triples a run meets. Counts tell that a value is small enough for `fall`, by the lemma
 //! `nodes-weigh` of `proofs/Sizes.antt`; a hit's symbol tells its node's kind and name, by `document-symbol` of `proofs/Symbols.antt`.
@@ -27,6 +28,7 @@ mod notes;
 mod numbers;
 mod one_state;
 mod rising;
+mod spent;
 mod spots;
 mod stack;
 mod told;
@@ -36,3 +38,4 @@ pub use falling::{FallTable, fall};
 pub use listing::Hit;
 pub use one_state::rise_in_one_state;
 pub use rising::{RiseTable, rise};
+pub use spent::Spent;

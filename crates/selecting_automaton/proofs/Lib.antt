@@ -2,6 +2,7 @@ pub mod Stacks
 pub mod Climbing
 pub mod Descending
 pub mod Packing
+pub mod Spent
 pub mod Sizing
 pub mod Writing
 pub mod PlacesFound

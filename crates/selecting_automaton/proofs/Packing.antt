@@ -39,7 +39,7 @@ same_marks a b c d e f p q r = cc
 same_down : (s : Bool) (a b c d e f : ℕ) → a ≡ b → c ≡ d → e ≡ f → ◌≡◌ {A = Down} (record { start = s; parent = a; above = c; before = e }) (record { start = s; parent = b; above = d; before = f })
 same_down s a b c d e f p q r = cc
 
-marks_again : (s : Bool) (ms : List Marks) → marks_of (length ms) (down_of (record { start = s; marks = ms })) ≡ ms
+pub marks_again : (s : Bool) (ms : List Marks) → marks_of (length ms) (down_of (record { start = s; marks = ms })) ≡ ms
 marks_again s [] = refl
 marks_again s (m ∷ ms) =
     let p = word (map (λ (y : Marks). y.parent) ms) in
@@ -62,20 +62,20 @@ none_known (turns.Begin ∷ ts) = none_known ts
 none_known (turns.Walk a w ∷ ts) = none_known ts
 none_known (turns.End ∷ ts) = none_known ts
 
-abbrev zeros : Down
-zeros = record { start = true; parent = 0; above = 0; before = 0 }
+abbrev pub zeros : Bool → Down
+zeros s = record { start = s; parent = 0; above = 0; before = 0 }
 
-none_marked : (ts : List Turn) → zeros ≡ down_of (record { start = true; marks = nothing_marked ts })
-none_marked [] = refl
-none_marked (turns.Truth b ∷ ts) = none_marked ts
-none_marked (turns.Not ∷ ts) = none_marked ts
-none_marked (turns.Or ∷ ts) = none_marked ts
-none_marked (turns.And ∷ ts) = none_marked ts
-none_marked (turns.Seek a w ∷ ts) = none_marked ts
-none_marked (turns.Begin ∷ ts) = none_marked ts
-none_marked (turns.Walk a w ∷ ts) =
-    same_down true 0 _ 0 _ 0 _ (ap (λ (u : Down). 0 + 2 * u.parent) (none_marked ts)) (ap (λ (u : Down). 0 + 2 * u.above) (none_marked ts)) (ap (λ (u : Down). 0 + 2 * u.before) (none_marked ts))
-none_marked (turns.End ∷ ts) = none_marked ts
+pub none_marked : (s : Bool) (ts : List Turn) → zeros s ≡ down_of (record { start = s; marks = nothing_marked ts })
+none_marked s [] = refl
+none_marked s (turns.Truth b ∷ ts) = none_marked s ts
+none_marked s (turns.Not ∷ ts) = none_marked s ts
+none_marked s (turns.Or ∷ ts) = none_marked s ts
+none_marked s (turns.And ∷ ts) = none_marked s ts
+none_marked s (turns.Seek a w ∷ ts) = none_marked s ts
+none_marked s (turns.Begin ∷ ts) = none_marked s ts
+none_marked s (turns.Walk a w ∷ ts) =
+    same_down s 0 _ 0 _ 0 _ (ap (λ (u : Down). 0 + 2 * u.parent) (none_marked s ts)) (ap (λ (u : Down). 0 + 2 * u.above) (none_marked s ts)) (ap (λ (u : Down). 0 + 2 * u.before) (none_marked s ts))
+none_marked s (turns.End ∷ ts) = none_marked s ts
 
 -- the run upward
 module _ (s : Selection) where
@@ -141,7 +141,7 @@ module _ (s : Selection) where
 
   -- hits are the same
   pub word-hits : (t : Term) → hits (word_algebra s) (word_downward s) t ≡ hits A V t
-  word-hits t = hits-same t 0 V.start zeros (none_marked s.turns) refl
+  word-hits t = hits-same t 0 V.start (zeros true) (none_marked true s.turns) refl
 
 -- words are below the power of their length
 word-below : (bs : List Bool) → word bs < 2 ^ length bs
@@ -165,7 +165,7 @@ pub few-states : (s : Selection) → HasFewStates (word_algebra s) (word_downwar
 few-states s = record {
   bottom = subst (IsUpOf (seeks s.turns)) (sym (none_known s.turns)) (known-below (nothing_known s.turns) (seeks s.turns) refl);
   node = λ f x y. known-below _ _ (length-risen (eyes s.kinds) f s.turns [] _ _);
-  start = subst (AreMarksBelow (walks s.turns)) (sym (none_marked s.turns)) (marks-below true (nothing_marked s.turns) (walks s.turns) refl);
+  start = subst (AreMarksBelow (walks s.turns)) (sym (none_marked true s.turns)) (marks-below true (nothing_marked s.turns) (walks s.turns) refl);
   left = λ f d x y. marks-below false _ _ (length-kids (eyes s.kinds) f s.turns [] _ _ d.start false _).0;
   right = λ f d x y. marks-below false _ _ (length-kids (eyes s.kinds) f s.turns [] _ _ d.start false _).1;
 }

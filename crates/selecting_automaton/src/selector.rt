@@ -1,5 +1,6 @@
 // The selector of a query.
 ghost use Rattle.std.specs.Prelude.{◌≡◌, ◌≤◌, ◌<◌, ◌↔◌, IsTrue, false};
+ghost use Rattle.slt_grammar.specs.Automata.{IsSpent};
 ghost use Rattle.slt_grammar.specs.OneState.{HasOneState};
 ghost use Rattle.selecting_automaton.specs.Words.{seeks, word_algebra, word_downward};
 
@@ -42,6 +43,18 @@ impl Selector {
         ensures one { result ≡ false → HasOneState (word_algebra self.now) }
     {
         self.parts > 0
+    }
+
+    /// The down state in which no path is on its way: nothing is hit from it on.
+    pub fn spent(&self) -> Down
+        ensures { IsSpent (word_downward self.now) result }
+    {
+        Down {
+            start: false,
+            parent: 0,
+            above: 0,
+            before: 0,
+        }
     }
 
     fn risen(&self, symbol: usize, kids: Up, rest: Up) -> Up
@@ -101,6 +114,14 @@ impl Falling for Selector {
         kids: &Up,
         rest: &Up,
     ) -> Result<Fell<Down>, AllocError> {
+        let spent = self.spent();
+        if *down == spent {
+            return Ok(Fell {
+                hit: false,
+                left: spent,
+                right: spent,
+            });
+        }
         Ok(self.fallen(symbol, *down, *kids, *rest))
     }
 }

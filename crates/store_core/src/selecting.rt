@@ -1,6 +1,8 @@
 // Finding what a query selects.
 ghost use Rattle.std.specs.Prelude.{◌≡◌, ◌<◌, ◌≤◌, ◌+◌, ◌-◌, ◌^◌, ℕ, List, All, Some, IfOk, IfErr, slice_get};
 ghost use Rattle.plain_tree.specs.Tree.{Tree};
+ghost use Rattle.plain_tree.specs.declared.kind.Kind.{Kind};
+ghost use Rattle.segment_counts.specs.Counting.{AreCounts};
 ghost use Rattle.slt_grammar.specs.Automata.{hits, nodes_in};
 ghost use Rattle.slt_grammar.specs.Grammars.{IsSwept, value};
 ghost use Rattle.slt_grammar.specs.Keyed.{rules_of};
@@ -15,13 +17,14 @@ ghost use Rattle.store_core.specs.Reads.{ReadsFew, most_reads};
 ghost use Rattle.store_core.specs.Refusals.{Cause};
 ghost use Rattle.store_core.specs.Selecting.{Selects};
 ghost use Rattle.store_core.specs.Texts.{selected_line};
-ghost use Rattle.store_core.specs.StoreOf.{parts_of};
+ghost use Rattle.store_core.specs.StoreOf.{IsCounted, parts_of};
 ghost use Rattle.store_core.specs.Worlds.{AreLawfulParts, PartsStandFor, World};
 
 use crate::answer::Refusal;
 use crate::store::Store;
 use read_steps::Steps;
-use rule_runs::{FallTable, RiseTable, fall, rise, rise_in_one_state};
+use rule_runs::{FallTable, RiseTable, Spent, fall, rise, rise_in_one_state};
+use segment_counts::Counts;
 use selecting_automaton::{Selector, compile};
 use slt_grammar::{Falling, Grammar, Rising};
 use std::alloc::{AllocError, Global};
@@ -40,6 +43,7 @@ pub(crate) fn select<L: Ledger>(
     steps: &mut Steps<L>,
 ) -> Result<FallTable, Refusal>
     requires held { AreLawfulParts (parts_of store.now) }
+    requires counted { IsCounted store.now }
     ensures selects { IfOk result (λ found. (tree : Tree) (w : World) → w.state ≡ Some (parts_of store.now) → PartsStandFor (parts_of store.now) tree → Selects text.now w tree (numbers found)) }
     ensures lines { IfOk result (λ found. (tree : Tree) → PartsStandFor (parts_of store.now) tree → All (λ hit. hit_line store.now.names hit ≡ selected_line tree hit.number) found) }
     ensures refused { IfErr result (λ refusal. (act : Act) (old new : World) → query_asked act ≡ Some text.now → old.state ≡ Some (parts_of store.now) → Cause refusal act old new) }
@@ -49,7 +53,7 @@ pub(crate) fn select<L: Ledger>(
     spells_one();
     let query = parse(alloc, text)?;
     let selector = compile(alloc, &query, &store.names)?;
-    let found = run(alloc, &selector, &store.grammar, steps)?;
+    let found = run(alloc, &selector, &store.grammar, &store.counts, steps)?;
     Ok(found)
 }
 
@@ -58,10 +62,12 @@ fn run<L: Ledger>(
     alloc: Global,
     selector: &Selector,
     grammar: &Grammar,
+    counts: &Counts,
     steps: &mut Steps<L>,
 ) -> Result<FallTable, AllocError>
     requires small { nodes_in (value (rules_of grammar.now.rules)) < 2 ^ 63 }
     requires swept { IsSwept (rules_of grammar.now.rules) }
+    requires counted { (names : List (Kind × List ℕ)) × AreCounts names (rules_of grammar.now.rules) counts.now }
     ensures hits { IfOk result (λ found. numbers found ≡ hits (⟦<Selector as Rising>⟧.algebra selector.now) (⟦<Selector as Falling>⟧.downward selector.now) (value (rules_of grammar.now.rules))) }
     ensures symbols { IfOk result (λ found. All (λ hit. slice_get (symbols_in (value (rules_of grammar.now.rules))) hit.number ≡ Some hit.symbol) found) }
     ensures reads { (parts steps_outside : ℕ) → HasFewStates (⟦<Selector as Rising>⟧.algebra selector.now) (⟦<Selector as Falling>⟧.downward selector.now) parts steps_outside
@@ -70,7 +76,11 @@ fn run<L: Ledger>(
     // The call tells that the rules are a grammar.
     let _rules = grammar.rules();
     let risen = run_upward(alloc, selector, grammar, steps)?;
-    fall(alloc, grammar, selector, &risen, steps)
+    let spent = Spent {
+        down: selector.spent(),
+        counts,
+    };
+    fall(alloc, grammar, selector, &risen, Some(&spent), steps)
 }
 
 // The run upward. Where the query has no filters, it reads nothing.

@@ -1,4 +1,5 @@
-// Selectors without filters, after a run upward that reads nothing: the same top and the same hits as after one that reads.
+// Selectors without filters, after a run upward that reads nothing: the same top, and the same hits as after one that reads and with
+// bodies entered that hit nothing.
 ghost use Rattle.std.specs.Prelude.{◌≡◌, ◌<◌};
 ghost use Rattle.slt_grammar.specs.Grammars.{IsSwept};
 ghost use Rattle.slt_grammar.specs.Keyed.{rules_of};
@@ -8,7 +9,7 @@ use super::{four_siblings, grammar_of, selector_of, tables};
 use crate::runs::list_numbers;
 use plain_tree::Names;
 use read_steps::Steps;
-use rule_runs::{fall, rise, rise_in_one_state};
+use rule_runs::{Spent, fall, rise, rise_in_one_state};
 use segment_counts::Counts;
 use selecting_automaton::Selector;
 use slt_grammar::Grammar;
@@ -40,13 +41,16 @@ fn find_both<L: Ledger>(
     if selector.has_filters() {
         return Ok(None);
     }
-    // The counts tell that the value has few nodes.
-    let _counts = Counts::new(alloc, grammar, &Names::new(alloc))?;
+    let counts = Counts::new(alloc, grammar, &Names::new(alloc))?;
+    let spent = Spent {
+        down: selector.spent(),
+        counts: &counts,
+    };
     let mut steps: Steps<L> = Steps::new(blank);
     let unread = rise_in_one_state(alloc, grammar, selector)?;
-    let first = fall(alloc, grammar, selector, &unread, &mut steps)?;
+    let first = fall(alloc, grammar, selector, &unread, Some(&spent), &mut steps)?;
     let read = rise(alloc, grammar, selector, &mut steps)?;
-    let second = fall(alloc, grammar, selector, &read, &mut steps)?;
+    let second = fall(alloc, grammar, selector, &read, None, &mut steps)?;
     Ok(Some(Both {
         same_top: *unread.top() == *read.top(),
         unread: list_numbers(alloc, &first)?,

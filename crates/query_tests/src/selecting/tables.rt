@@ -25,6 +25,15 @@ pub(super) static OF_FOUR: [(&str, &[u64]); 4] = [
     ("/a[b] | //b[not(following-sibling::node())]", &[1, 5]),
 ];
 
+// <a><b><a/><a/><a/></b><b><a/><a/><a/></b></a>
+pub(super) static OF_PARENTS: [(&str, &[u64]); 5] = [
+    ("/a", &[1]),
+    ("/a/b", &[2, 6]),
+    ("/a/b[a]", &[2, 6]),
+    ("/a/b/a", &[3, 4, 5, 7, 8, 9]),
+    ("/a/b/following-sibling::b/a", &[7, 8, 9]),
+];
+
 // <!--x--><a/><!--y-->
 pub(super) static PROLOG: [Node; 4] = [
     (0, Document, ""),

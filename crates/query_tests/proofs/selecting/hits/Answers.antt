@@ -6,4 +6,4 @@ use Rattle.rule_runs.proofs.Sizes.{nodes-weigh}
 use Rattle.query_tests.proofs.selecting.hits.Goals as goal
 
 pub fall-requires-clause-small : goal.fall-requires-clause-small
-fall-requires-clause-small g c = rw (nodes-weigh node_weight (λ f. refl) refl refl (value (rules_of c.args.grammar.now.rules))) c.in_ok-_counts.ensures.few
+fall-requires-clause-small g c = rw (nodes-weigh node_weight (λ f. refl) refl refl (value (rules_of c.args.grammar.now.rules))) c.in_ok-counts.ensures.few

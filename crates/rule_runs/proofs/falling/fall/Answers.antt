@@ -1,4 +1,4 @@
-use Rattle.std.proofs.Common.{◌≡◌, ◌-◌, ◌∙◌, ◌++◌, ◌∷◌, [], sym, ap, subst, arith, reverse, take, length, get_or, All, Some, slice_get}
+use Rattle.std.proofs.Common.{◌≡◌, ◌-◌, ◌<◌, ◌∙◌, ◌++◌, ◌∷◌, [], sym, ap, subst, arith, reverse, take, length, get_or, All, Some, slice_get}
 use Rattle.std.proofs.lemmas.List.Elements.{All-append, All-cons, All-head, All-nil, All-tail, All-weaker}
 use Rattle.slt_grammar.specs.Grammars.{value}
 use Rattle.slt_grammar.specs.Keyed.{rules_of}
@@ -9,7 +9,7 @@ use Rattle.rule_runs.specs.Notes.{HasBody}
 use Rattle.rule_runs.specs.Risen.{keys, pair_at}
 use Rattle.rule_runs.proofs.Lists.{reverse-push, all-one, no_more}
 use Rattle.rule_runs.proofs.Descents.{waiting-more}
-use Rattle.rule_runs.proofs.Triples.{known_triples, open_triples, start-last, start-falls, falls-none, falls-start, falls-more, pair-of, waiting-begin, triples-return, stands-again, frame-small, outer-small, fall-cost-begin, whole-told, told-answers, told-answered, outcomes-more, spot-apart}
+use Rattle.rule_runs.proofs.Triples.{known_triples, open_triples, start-last, start-falls, falls-none, falls-start, falls-more, pair-of, waiting-begin, triples-return, stands-again, frame-small, outer-small, fall-cost-begin, fall-cost-less, whole-told, told-answers, told-answered, outcomes-more, spot-apart}
 use Rattle.rule_runs.proofs.KeptNotes.{unread-most}
 use Rattle.rule_runs.proofs.Found.{found-hits, found-right, found-small}
 use Rattle.rule_runs.proofs.Rooms.{walk-room-call}
@@ -56,12 +56,6 @@ returns-in_err-frame-clause-reads g c =
     let h = c.begin.ensures.reads in
     omega (arith, unread-most (rules_of c.args.grammar.now.rules) (keys c.args.risen.now.known) c.in_ok-bodies.bodies.kept.items)
 
-pub returns-in_err-frame-in-Some-2-clause-reads : goal.returns-in_err-frame-in-Some-2-clause-reads
-returns-in_err-frame-in-Some-2-clause-reads g c =
-    let h = c.begin-in-Some-2.ensures.reads in
-    let few = c.bodies.invariant.few in
-    omega arith
-
 pub bodies-init : goal.bodies-init
 bodies-init g c =
     let A = g.A.Rising.algebra c.args.automaton.now in
@@ -89,33 +83,33 @@ bodies-init g c =
       few = (let h = c.in_ok-frame.ensures.once in omega (arith, unread-most G (keys es) c.in_ok-bodies.bodies.kept.items));
     }
 
-pub returns-in_err-frame-in-Some-2-clause-steps : goal.returns-in_err-frame-in-Some-2-clause-steps
-returns-in_err-frame-in-Some-2-clause-steps g c =
+pub returns-in_err-frame-in-None-2-clause-steps : goal.returns-in_err-frame-in-None-2-clause-steps
+returns-in_err-frame-in-None-2-clause-steps g c =
     let A = g.A.Rising.algebra c.args.automaton.now in
     let W = g.A.Falling.downward c.args.automaton.now in
     let G = rules_of c.args.grammar.now.rules in
     let ks = keys c.args.risen.now.known in
     let a = rw c.in-Some-2.is at c.in_ok-spot.ensures.waits in
     let n = rw c.in-Some-2.is at c.in_ok-spot.ensures.new in
-    let k = c.begin-in-Some-2.ensures.steps in
+    let k = c.begin-in-None-2.ensures.steps in
     let o = c.bodies.invariant.counted in
-    (_, falls-more A W G ks c.requires.run.distinct c.bodies.lists.items c.bodies.known c.bodies.frame c.descend.new.descent (reverse c.bodies.frames.items) c.bodies.marks.below c.descend.new.marks.top c.in-Some-2.spot (c.bodies.steps - c.args.steps.now) (c.begin-in-Some-2.new.steps - c.args.steps.now) c.descend.new.lists.items c.bodies.invariant.reads c.bodies.invariant.waiting a c.bodies.invariant.outcomes n (omega arith))
+    (_, falls-more A W G ks c.requires.run.distinct c.bodies.lists.items c.bodies.known c.bodies.frame c.descend.new.descent (reverse c.bodies.frames.items) c.bodies.marks.below c.descend.new.marks.top c.in-Some-2.spot (c.bodies.steps - c.args.steps.now) (c.begin-in-None-2.new.steps - c.args.steps.now) c.descend.new.lists.items c.bodies.invariant.reads c.bodies.invariant.waiting a c.bodies.invariant.outcomes n (omega arith))
 
-pub bodies-smaller-in-Some-2 : goal.bodies-smaller-in-Some-2
-bodies-smaller-in-Some-2 g c =
+pub bodies-smaller-in-None-2 : goal.bodies-smaller-in-None-2
+bodies-smaller-in-None-2 g c =
     let A = g.A.Rising.algebra c.args.automaton.now in
     let W = g.A.Falling.downward c.args.automaton.now in
     let G = rules_of c.args.grammar.now.rules in
     let es = c.args.risen.now.known in
     let ks = keys es in
     let a = rw c.in-Some-2.is at c.in_ok-spot.ensures.waits in
-    let e = ap reverse c.in_ok-push-in-Some-2.ensures.items ∙ reverse-push c.bodies.frames.items c.descend.new.descent in
+    let e = ap reverse c.in_ok-push-in-None-2.ensures.items ∙ reverse-push c.bodies.frames.items c.descend.new.descent in
     let p = pair-of A W G es c.requires.run c.in-Some-2.spot.pair a.there in
-    let k = fall-cost-begin A W G ks c.bodies.frame c.descend.new.descent c.in_ok-frame-in-Some-2.frame (reverse c.bodies.frames.items) (pair_at ks c.in-Some-2.spot.pair).0 p.there a.earlier c.in_ok-spot.ensures.same a.fewer (ap (λ s. (pair_at ks s.pair).0) c.in_ok-frame-in-Some-2.ensures.spot) c.in_ok-frame-in-Some-2.ensures.cost in
+    let k = fall-cost-begin A W G ks c.bodies.frame c.descend.new.descent c.in_ok-frame-in-None-2.frame (reverse c.bodies.frames.items) (pair_at ks c.in-Some-2.spot.pair).0 p.there a.earlier c.in_ok-spot.ensures.same a.fewer (ap (λ s. (pair_at ks s.pair).0) c.in_ok-frame-in-None-2.ensures.spot) c.in_ok-frame-in-None-2.ensures.cost in
     rw e k
 
-pub bodies-preserved-in-Some-2 : goal.bodies-preserved-in-Some-2
-bodies-preserved-in-Some-2 g c =
+pub bodies-preserved-in-None-2 : goal.bodies-preserved-in-None-2
+bodies-preserved-in-None-2 g c =
     let A = g.A.Rising.algebra c.args.automaton.now in
     let W = g.A.Falling.downward c.args.automaton.now in
     let G = rules_of c.args.grammar.now.rules in
@@ -127,28 +121,28 @@ bodies-preserved-in-Some-2 g c =
     let s = c.in-Some-2.spot in
     let a = rw c.in-Some-2.is at c.in_ok-spot.ensures.waits in
     let n = rw c.in-Some-2.is at c.in_ok-spot.ensures.new in
-    let k = c.begin-in-Some-2.ensures.steps in
+    let k = c.begin-in-None-2.ensures.steps in
     let o = c.bodies.invariant.counted in
     let m = c.in_ok-spot.ensures.more in
     let same = c.in_ok-spot.ensures.same in
-    let r = falls-more A W G ks c.requires.run.distinct ls c.bodies.known f f' gs c.bodies.marks.below c.descend.new.marks.top s (c.bodies.steps - c.args.steps.now) (c.begin-in-Some-2.new.steps - c.args.steps.now) c.descend.new.lists.items c.bodies.invariant.reads c.bodies.invariant.waiting a c.bodies.invariant.outcomes n (omega arith) in
-    let e = ap reverse c.in_ok-push-in-Some-2.ensures.items ∙ reverse-push c.bodies.frames.items f' in
+    let r = falls-more A W G ks c.requires.run.distinct ls c.bodies.known f f' gs c.bodies.marks.below c.descend.new.marks.top s (c.bodies.steps - c.args.steps.now) (c.begin-in-None-2.new.steps - c.args.steps.now) c.descend.new.lists.items c.bodies.invariant.reads c.bodies.invariant.waiting a c.bodies.invariant.outcomes n (omega arith) in
+    let e = ap reverse c.in_ok-push-in-None-2.ensures.items ∙ reverse-push c.bodies.frames.items f' in
     let mt = c.descend.new.marks.top in
     let a' : Asks A W G ks (ls ++ m.0) f s f' mt = subst (λ x. Asks A W G ks x f s f' mt) m.1 a in
     let w = waiting-begin A W G ks ls m.0 f f' gs c.bodies.marks.below mt s c.bodies.invariant.waiting c.bodies.invariant.there a' same in
-    let spot = c.in_ok-frame-in-Some-2.ensures.spot in
+    let spot = c.in_ok-frame-in-None-2.ensures.spot in
     record {
       outcomes = subst (λ x. All (λ e. HasOutcome A W G ks x e.0 e.1) c.bodies.known) (sym m.1) (outcomes-more A W G ks ls m.0 c.bodies.known c.bodies.invariant.outcomes);
-      kept = c.begin-in-Some-2.ensures.kept;
-      read = rw spot c.in_ok-frame-in-Some-2.ensures.read;
-      outer = rw e (All-weaker (λ f. HasBody c.bodies.bodies.kept.items f.spot.pair) (λ f. HasBody c.begin-in-Some-2.new.bodies.kept.items f.spot.pair) (λ f h. c.begin-in-Some-2.ensures.stays f.spot.pair h) (f' ∷ gs) (All-cons (λ f. HasBody c.bodies.bodies.kept.items f.spot.pair) f' gs (rw same c.bodies.invariant.read) c.bodies.invariant.outer));
+      kept = c.begin-in-None-2.ensures.kept;
+      read = rw spot c.in_ok-frame-in-None-2.ensures.read;
+      outer = rw e (All-weaker (λ f. HasBody c.bodies.bodies.kept.items f.spot.pair) (λ f. HasBody c.begin-in-None-2.new.bodies.kept.items f.spot.pair) (λ f h. c.begin-in-None-2.ensures.stays f.spot.pair h) (f' ∷ gs) (All-cons (λ f. HasBody c.bodies.bodies.kept.items f.spot.pair) f' gs (rw same c.bodies.invariant.read) c.bodies.invariant.outer));
       earlier = c.in_ok-spot.ensures.earlier;
       there = rw spot a.there;
-      stands = c.in_ok-frame-in-Some-2.ensures.stands c.descend.new.lists.items;
-      waiting = rw (e, spot, c.in_ok-frame-in-Some-2.ensures.below, c.in_ok-open-in-Some-2.ensures.below, c.in_ok-spot.ensures.below) (subst (λ x. AreWaiting A W G ks x s (f' ∷ gs) (mt ∷ c.bodies.marks.below)) (sym m.1) w);
+      stands = c.in_ok-frame-in-None-2.ensures.stands c.descend.new.lists.items;
+      waiting = rw (e, spot, c.in_ok-frame-in-None-2.ensures.below, c.in_ok-open-in-None-2.ensures.below, c.in_ok-spot.ensures.below) (subst (λ x. AreWaiting A W G ks x s (f' ∷ gs) (mt ∷ c.bodies.marks.below)) (sym m.1) w);
       reads = rw (e, spot, same) r;
-      counted = (let h = c.begin-in-Some-2.ensures.counted in omega arith);
-      few = (let h = c.in_ok-frame-in-Some-2.ensures.once in let few = c.bodies.invariant.few in omega arith);
+      counted = (let h = c.begin-in-None-2.ensures.counted in omega arith);
+      few = (let h = c.in_ok-frame-in-None-2.ensures.once in let few = c.bodies.invariant.few in omega arith);
     }
 
 pub invariant_of-result : goal.invariant_of-result
@@ -188,8 +182,8 @@ descend-requires-clause-small g c =
     let G = rules_of c.args.grammar.now.rules in
     frame-small A W G (keys c.args.risen.now.known) c.rules-rules.ensures.grammar c.requires.small _ c.bodies.frame.spot _ _ c.bodies.invariant.reads
 
-pub enter_call-requires : goal.enter_call-requires
-enter_call-requires g c =
+pub enter_call-requires-in-Some-pop : goal.enter_call-requires-in-Some-pop
+enter_call-requires-in-Some-pop g c =
     let A = g.A.Rising.algebra c.args.automaton.now in
     let W = g.A.Falling.downward c.args.automaton.now in
     let G = rules_of c.args.grammar.now.rules in
@@ -213,8 +207,8 @@ enter_call-requires g c =
       room = walk-room-call A W G ks ls (pair_at ks below.spot.pair) below.spot.down below.outcome f'.spot.pair (reverse (take below.left w3.0.notes)) (get_or mss 0 []) below.here f'.spot.down w3.0.walks f'.outcome h small;
     }
 
-pub note-requires : goal.note-requires
-note-requires g c =
+pub note-requires-in-Some-pop : goal.note-requires-in-Some-pop
+note-requires-in-Some-pop g c =
     let A = g.A.Rising.algebra c.args.automaton.now in
     let W = g.A.Falling.downward c.args.automaton.now in
     let G = rules_of c.args.grammar.now.rules in
@@ -255,9 +249,76 @@ bodies-preserved g c =
       outer = All-tail (λ f. HasBody c.bodies.bodies.kept.items f.spot.pair) below gs outer;
       earlier = c.in_ok-spot.ensures.earlier;
       there = w3.2;
-      stands = stands-again A W G ks c.rules-rules.ensures.grammar ls' below f'.spot f'.outcome (get_or mss 0 []) c.enter_call.new.marks.top c.enter_call.new.here pair w3.0 h (λ s ms ss. rw top at (c.in_ok-enter_call-in-Some-pop.ensures.entered ls' s ms ss));
+      stands = stands-again A W G ks c.rules-rules.ensures.grammar ls' below f'.spot f'.outcome (get_or mss 0 []) c.enter_call-in-Some-pop.new.marks.top c.enter_call-in-Some-pop.new.here pair w3.0 h (λ s ms ss. rw top at (c.in_ok-enter_call-in-Some-pop.ensures.entered ls' s ms ss));
       waiting = rw (c.in_ok-enter_call-in-Some-pop.ensures.below, c.close.ensures.below, c.in_ok-spot.ensures.below) w3.3;
       reads = rw (k, triples-return A W G ks c.bodies.known f'.spot f'.outcome (below ∷ gs), same) r;
+      counted = c.bodies.invariant.counted;
+      few = c.bodies.invariant.few;
+    }
+
+pub enter_call-requires : goal.enter_call-requires
+enter_call-requires g c =
+    let A = g.A.Rising.algebra c.args.automaton.now in
+    let W = g.A.Falling.downward c.args.automaton.now in
+    let G = rules_of c.args.grammar.now.rules in
+    let ks = keys c.args.risen.now.known in
+    let ls = c.descend.new.lists.items in
+    let f = c.bodies.frame in
+    let f' = c.descend.new.descent in
+    let s = c.in-Some-2.spot in
+    let a = rw c.in-Some-2.is at c.in_ok-spot.ensures.waits in
+    let h = rw c.in-Some-3.is at c.in_ok-outcome-in-Some-2.ensures in
+    let small = frame-small A W G ks c.rules-rules.ensures.grammar c.requires.small _ f.spot _ _ c.bodies.invariant.reads in
+    record {
+      room = walk-room-call A W G ks ls (pair_at ks f'.spot.pair) f'.spot.down f'.outcome s.pair (reverse (take f'.left a.waits.notes)) c.descend.new.marks.top f'.here s.down a.waits.walks c.in-Some-3.outcome (h ls) (rw c.in_ok-spot.ensures.same small);
+    }
+
+pub bodies-smaller-in_ok-note-in-Some-3 : goal.bodies-smaller-in_ok-note-in-Some-3
+bodies-smaller-in_ok-note-in-Some-3 g c =
+    let A = g.A.Rising.algebra c.args.automaton.now in
+    let W = g.A.Falling.downward c.args.automaton.now in
+    let G = rules_of c.args.grammar.now.rules in
+    let ks = keys c.args.risen.now.known in
+    let a = rw c.in-Some-2.is at c.in_ok-spot.ensures.waits in
+    let k = fall-cost-less A W G ks c.bodies.frame c.descend.new.descent (pair_at ks c.in-Some-2.spot.pair).0 a.earlier c.in_ok-spot.ensures.same a.fewer in
+    omega (arith, k)
+
+pub bodies-preserved-in_ok-note-in-Some-3 : goal.bodies-preserved-in_ok-note-in-Some-3
+bodies-preserved-in_ok-note-in-Some-3 g c =
+    let A = g.A.Rising.algebra c.args.automaton.now in
+    let W = g.A.Falling.downward c.args.automaton.now in
+    let G = rules_of c.args.grammar.now.rules in
+    let es = c.args.risen.now.known in
+    let ks = keys es in
+    let ls = c.bodies.lists.items in
+    let ls' = c.descend.new.lists.items in
+    let gs = reverse c.bodies.frames.items in
+    let mss = c.bodies.marks.below in
+    let mt = c.descend.new.marks.top in
+    let f = c.bodies.frame in
+    let f' = c.descend.new.descent in
+    let s = c.in-Some-2.spot in
+    let out = c.in-Some-3.outcome in
+    let a = rw c.in-Some-2.is at c.in_ok-spot.ensures.waits in
+    let n = rw c.in-Some-2.is at c.in_ok-spot.ensures.new in
+    let h = (rw c.in-Some-3.is at c.in_ok-outcome-in-Some-2.ensures) ls' in
+    let m = c.in_ok-spot.ensures.more in
+    let same = c.in_ok-spot.ensures.same in
+    let k = c.in_ok-note-in-Some-3.ensures.ok in
+    let there : f'.spot.pair < length ks = rw same c.bodies.invariant.there in
+    let w1 = waiting-more A W G ks ls m.0 f.spot gs mss c.bodies.invariant.waiting in
+    let w2 : AreWaiting A W G ks ls' f.spot gs mss = subst (λ x. AreWaiting A W G ks x f.spot gs mss) (sym m.1) w1 in
+    let r = falls-more A W G ks c.requires.run.distinct ls c.bodies.known f f' gs mss mt s (c.bodies.steps - c.args.steps.now) (c.bodies.steps - c.args.steps.now) ls' c.bodies.invariant.reads c.bodies.invariant.waiting a c.bodies.invariant.outcomes n (omega arith) in
+    record {
+      outcomes = rw k (All-append (λ e. HasOutcome A W G ks ls' e.0 e.1) c.bodies.known _ (subst (λ x. All (λ e. HasOutcome A W G ks x e.0 e.1) c.bodies.known) (sym m.1) (outcomes-more A W G ks ls m.0 c.bodies.known c.bodies.invariant.outcomes)) (all-one (λ e. HasOutcome A W G ks ls' e.0 e.1) (s, out) h));
+      kept = c.bodies.invariant.kept;
+      read = rw same c.bodies.invariant.read;
+      outer = c.bodies.invariant.outer;
+      earlier = c.in_ok-spot.ensures.earlier;
+      there = there;
+      stands = stands-again A W G ks c.rules-rules.ensures.grammar ls' f' s out mt c.enter_call.new.marks.top c.enter_call.new.here (pair-of A W G es c.requires.run f'.spot.pair there) a.waits h (λ s ms ss. c.in_ok-enter_call-in-Some-3.ensures.entered ls' s ms ss);
+      waiting = rw (c.in_ok-enter_call-in-Some-3.ensures.below, c.in_ok-spot.ensures.below, same) w2;
+      reads = rw (k, triples-return A W G ks c.bodies.known s out (f' ∷ gs), same) r;
       counted = c.bodies.invariant.counted;
       few = c.bodies.invariant.few;
     }

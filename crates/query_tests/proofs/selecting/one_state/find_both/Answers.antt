@@ -6,10 +6,10 @@ use Rattle.rule_runs.proofs.Sizes.{nodes-weigh}
 use Rattle.query_tests.proofs.selecting.one_state.find_both.Goals as goal
 
 pub fall-requires-clause-small : goal.fall-requires-clause-small
-fall-requires-clause-small g c = rw (nodes-weigh node_weight (λ f. refl) refl refl (value (rules_of c.args.grammar.now.rules))) c.in_ok-_counts.ensures.few
+fall-requires-clause-small g c = rw (nodes-weigh node_weight (λ f. refl) refl refl (value (rules_of c.args.grammar.now.rules))) c.in_ok-counts.ensures.few
 
 pub fall-requires-2-clause-small : goal.fall-requires-2-clause-small
-fall-requires-2-clause-small g c = rw (nodes-weigh node_weight (λ f. refl) refl refl (value (rules_of c.args.grammar.now.rules))) c.in_ok-_counts.ensures.few
+fall-requires-2-clause-small g c = rw (nodes-weigh node_weight (λ f. refl) refl refl (value (rules_of c.args.grammar.now.rules))) c.in_ok-counts.ensures.few
 
 pub rise_in_one_state-requires-clause-one : goal.rise_in_one_state-requires-clause-one
 rise_in_one_state-requires-clause-one g c = c.has_filters.ensures.one c.if-has_filters.false

@@ -1,5 +1,5 @@
 -- Falling from a state from which nothing is hit: only the numbers of nodes are told, and each hole gets the same state.
-use Rattle.std.proofs.Common.{◌≡◌, ℕ, zero, suc, ◌+◌, ◌<◌, List, [], ◌∷◌, ◌++◌, length, get_or, map, sum_by, refl, sym, ap, ◌∙◌, arith}
+use Rattle.std.proofs.Common.{◌≡◌, ℕ, zero, suc, ◌+◌, ◌<◌, List, [], ◌∷◌, ◌++◌, length, get_or, map, sum_by, Vec, Global, refl, sym, ap, ◌∙◌, arith}
 use Rattle.std.proofs.lemmas.List.{map-append}
 use Rattle.std.proofs.lemmas.List.Sums.{sum_by-append}
 use Rattle.rule_arena.specs.declared.label.Label.{Label}
@@ -7,9 +7,21 @@ use Rattle.rule_arena.specs.declared.label.Label.TheVariants.{Bottom, Symbol, Ca
 use Rattle.slt_grammar.specs.Algebras.{Algebra}
 use Rattle.slt_grammar.specs.Automata.{Downward, IsSpent, handed}
 use Rattle.slt_grammar.specs.Segments.{listed, segment}
-use Rattle.slt_grammar.specs.Terms.{Term, Leaf, Node, Hole, holes_of, up}
+use Rattle.slt_grammar.specs.Terms.{Term, Leaf, Node, Hole, holes, holes_of, up}
+use Rattle.slt_grammar.specs.Grammars.{IsGrammar, rank_at, value_at}
+use Rattle.slt_grammar.specs.declared.rules.Rule.{Rule}
+use Rattle.slt_grammar.proofs.Linear.{value_at-linear, length-holes}
+use Rattle.segment_counts.specs.Weights.{count, node_weight}
+use Rattle.rule_runs.specs.declared.listing.Part.{Part}
+use Rattle.rule_runs.specs.declared.spots.Handed.{Handed}
+use Rattle.rule_runs.specs.declared.spots.Outcome.{Outcome}
+use Rattle.rule_runs.specs.declared.spots.Spot.{Spot}
+use Rattle.rule_runs.specs.Descents.{HasOutcome, tolds}
+use Rattle.rule_runs.specs.Reached.{RuleStates}
+use Rattle.rule_runs.specs.Risen.{IsPair, pair_at}
+use Rattle.rule_runs.specs.Tellings.{AreTold, unhit_told}
 use Rattle.rule_runs.specs.Cuts.{Stretch, nothing, beside, before, joined, cut}
-use Rattle.rule_runs.proofs.Cutting.{before-nothing, before-joined, beside-nothing, joined-assoc, length-before, length-joined, cut-some}
+use Rattle.rule_runs.proofs.Cutting.{before-nothing, before-joined, beside-nothing, joined-assoc, length-before, length-cut, length-joined, cut-some}
 
 -- nodes in a row of which none is hit
 abbrev pub unhit : ℕ → Stretch
@@ -94,3 +106,50 @@ module _ {S D : Type 0} (A : Algebra S) (W : Downward S D) (d : D) (spent : IsSp
     -- each stretch has the nodes of its segment
     pub spent-at : (t : Term) (i : ℕ) → get_or (cut A W t states d) i nothing ≡ unhit (sum_by weigh (segment i (listed t [])))
     spent-at t i = ap (λ c. get_or c i nothing) (spent-cut t) ∙ unhit-at weigh (listed t []) i
+
+-- what is handed to so many parameters from one on, where segments have so many nodes
+abbrev pub handed_from : {D : Type 0} → (ℕ → ℕ) → D → ℕ → ℕ → List (Handed D)
+handed_from c d i zero = []
+handed_from c d i (suc n) = record { before = unhit_told (c i); down = d } ∷ handed_from c d (suc i) n
+
+module _ {D : Type 0} (c : ℕ → ℕ) (d : D) where
+  -- one parameter more
+  pub handed-push : (i n k : ℕ) → k ≡ i + n → handed_from c d i (suc n) ≡ handed_from c d i n ++ record { before = unhit_told (c k); down = d } ∷ []
+  handed-push i zero k e = let z : k ≡ i = omega arith in rw z refl
+  handed-push i (suc n) k e = ap (λ hs. record { before = unhit_told (c i); down = d } ∷ hs) (handed-push (suc i) n k (omega arith))
+
+  pub downs-from : (hs : List Term) (i : ℕ) → map (λ h. h.down) (handed_from c d i (length hs)) ≡ map (λ (h : Term). d) hs
+  downs-from [] i = refl
+  downs-from (h ∷ hs) i = ap (λ ds. d ∷ ds) (downs-from hs (suc i))
+
+  -- the words tell as many stretches as they are
+  pub befores-from : (lists : List (Vec Part Global)) (i n : ℕ) (ss : List Stretch) → length ss ≡ n → ((j : ℕ) → get_or ss j nothing ≡ unhit (c (i + j))) → AreTold lists (map (λ h. h.before) (handed_from c d i n)) ss
+  befores-from lists i zero [] e h = tt
+  befores-from lists i zero (s ∷ ss) e h = absurd (omega arith)
+  befores-from lists i (suc n) [] e h = absurd (omega arith)
+  befores-from lists i (suc n) (s ∷ ss) e h =
+      let first : s ≡ unhit (c i) = h 0 ∙ ap (λ k. unhit (c k)) (omega arith) in
+      (rw first (record { nodes = refl; hits = refl; list = refl }), befores-from lists (suc i) n ss (omega arith) (λ j. h (suc j) ∙ ap (λ k. unhit (c k)) (omega arith)))
+
+-- what a pair has at a spent state
+module _ {S D : Type 0} (A : Algebra S) (W : Downward S D) (G : List Rule) (g : IsGrammar G) (ks : List (RuleStates S)) (lists : List (Vec Part Global)) where
+  pub spent-outcome : (spot : Spot D) (outcome : Outcome D) (rule : ℕ) → spot.pair < length ks → IsPair G (pair_at ks spot.pair) → IsSpent W spot.down → rule ≡ (pair_at ks spot.pair).0
+      → outcome.handed.items ≡ handed_from (count node_weight G rule) spot.down 0 (rank_at G rule) → outcome.last ≡ unhit_told (count node_weight G rule (rank_at G rule)) → HasOutcome A W G ks lists spot outcome
+  spent-outcome spot outcome rule there pair spent same handed_are last_is =
+      let k : RuleStates S = pair_at ks spot.pair in
+      let t : Term = value_at G k.0 in
+      let n : ℕ = rank_at G k.0 in
+      let d : D = spot.down in
+      let c : ℕ → ℕ = count node_weight G k.0 in
+      let hs : outcome.handed.items ≡ handed_from c d 0 n = rw same at handed_are in
+      let last : outcome.last ≡ unhit_told (c n) = rw same at last_is in
+      let holes_are : holes_of t ≡ holes 0 n = value_at-linear G k.0 g pair.there in
+      let count_holes : length (holes_of t) ≡ n = ap length holes_are ∙ length-holes 0 n in
+      let ts : tolds outcome ≡ map (λ h. h.before) (handed_from c d 0 (suc n)) = ap (λ xs. map (λ h. h.before) xs ++ outcome.last ∷ []) hs ∙ ap (λ x. map (λ h. h.before) (handed_from c d 0 n) ++ x ∷ []) last
+      ∙ sym (ap (map (λ h. h.before)) (handed-push c d 0 n n (omega arith)) ∙ map-append (λ (h : Handed D). h.before) (handed_from c d 0 n) (record { before = unhit_told (c n); down = d } ∷ [])) in
+      let len : length (cut A W t k.1 d) ≡ suc n = omega (arith, length-cut A W t k.1 d, count_holes) in
+      record {
+        there = there;
+        finished = rw ts (befores-from c d lists 0 (suc n) (cut A W t k.1 d) len (λ j. spent-at A W d spent k.1 node_weight (λ f. refl) refl t j ∙ ap (λ i. unhit (c i)) (omega arith)));
+        hands = ap (map (λ h. h.down)) hs ∙ ap (λ m. map (λ h. h.down) (handed_from c d 0 m)) (sym count_holes) ∙ downs-from c d (holes_of t) 0 ∙ sym (spent-handed A W d spent k.1 t);
+      }

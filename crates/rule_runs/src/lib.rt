@@ -24,11 +24,11 @@ mod layers;
 mod listing;
 mod memo;
 mod notes;
-mod numbers;
 mod one_state;
 mod rising;
 mod spots;
 mod stack;
+mod table;
 mod told;
 
 pub use answers::Answers;

@@ -3,7 +3,7 @@ use Rattle.std.specs.Map.{lookup}
 use Rattle.std.proofs.lemmas.List.Elements.{All-cons, All-head, All-nil, All-tail}
 use Rattle.std.proofs.lemmas.Bool.{eqb-true, eq-eqb}
 use Rattle.std.proofs.lemmas.Option.{slice_get_within, get_or_from_slice_get}
-use Rattle.std.proofs.Common.{◌≡◌, ◌≢◌, ◌&&◌, Bool, true, false, nat_eq, ℕ, suc, List, [], ◌∷◌, Some, None, Contains, slice_get, refl, sym, ap, ◌∙◌, arith, cond, All}
+use Rattle.std.proofs.Common.{◌≡◌, ◌≢◌, ◌&&◌, Bool, true, false, nat_eq, ℕ, List, [], ◌∷◌, Some, None, Contains, slice_get, refl, sym, ap, ◌∙◌, cond, All}
 use Rattle.rule_runs.specs.declared.spots.Spot.{Spot}
 use Rattle.rule_runs.proofs.Entries.{both}
 

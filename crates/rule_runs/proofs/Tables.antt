@@ -4,10 +4,10 @@ use Rattle.std.specs.Map.{lookup}
 use Rattle.std.specs.Cmp.{IsEquivalence}
 use Rattle.std.proofs.lemmas.List.{length-append, append-nil, get_or_default}
 use Rattle.std.proofs.lemmas.List.Elements.{Contains-append_left, Contains-push}
-use Rattle.std.proofs.lemmas.Map.Entries.{place_from_lookup}
 use Rattle.arrayvec.specs.ArrayVec.{ArrayVec}
 use Rattle.rule_runs.specs.Tables.{places_at, Grows, IsFound, IsTable}
 
+-- the places that are kept for a number
 pub places-past : (first : List (ArrayVec ℕ)) (number : ℕ) → length first ≤ number → places_at first number ≡ []
 places-past [] number l = refl
 places-past (p ∷ ps) zero l = absurd (omega arith)
@@ -18,17 +18,14 @@ places-there [] number places l e = absurd (omega arith)
 places-there (p ∷ ps) zero places l e = ap (λ (x : ArrayVec ℕ). x.items) (sym e)
 places-there (p ∷ ps) (suc number) places l e = places-there ps number places (omega arith) e
 
-pub places-set : (first : List (ArrayVec ℕ)) (number : ℕ) (places : ArrayVec ℕ) → number < length first → places_at (slice_set first number places) number ≡ places.items
+places-set : (first : List (ArrayVec ℕ)) (number : ℕ) (places : ArrayVec ℕ) → number < length first → places_at (slice_set first number places) number ≡ places.items
 places-set [] number places l = absurd (omega arith)
 places-set (p ∷ ps) zero places l = refl
 places-set (p ∷ ps) (suc number) places l = places-set ps number places (omega arith)
 
-pub places-push : (first : List (ArrayVec ℕ)) (places : ArrayVec ℕ) → places_at (first ++ places ∷ []) (length first) ≡ places.items
+places-push : (first : List (ArrayVec ℕ)) (places : ArrayVec ℕ) → places_at (first ++ places ∷ []) (length first) ≡ places.items
 places-push [] places = refl
 places-push (p ∷ ps) places = places-push ps places
-
-pub grows-refl : (first : List (ArrayVec ℕ)) → Grows first first
-grows-refl first number = ([], sym (append-nil (places_at first number)))
 
 pub grows-trans : (a b c : List (ArrayVec ℕ)) → Grows a b → Grows b c → Grows a c
 grows-trans a b c g h number =
@@ -44,13 +41,14 @@ grows-push (p ∷ ps) places zero = ([], sym (append-nil p.items))
 grows-push (p ∷ ps) places (suc number) = grows-push ps places number
 
 -- more places for one number
-pub grows-set : (first : List (ArrayVec ℕ)) (at : ℕ) (places : ArrayVec ℕ) (more : List ℕ) → places.items ≡ places_at first at ++ more → Grows first (slice_set first at places)
+grows-set : (first : List (ArrayVec ℕ)) (at : ℕ) (places : ArrayVec ℕ) (more : List ℕ) → places.items ≡ places_at first at ++ more → Grows first (slice_set first at places)
 grows-set [] at places more e number = ([], refl)
 grows-set (p ∷ ps) zero places more e zero = (more, e)
 grows-set (p ∷ ps) zero places more e (suc number) = ([], sym (append-nil (places_at ps number)))
 grows-set (p ∷ ps) (suc at) places more e zero = ([], sym (append-nil p.items))
 grows-set (p ∷ ps) (suc at) places more e (suc number) = grows-set ps at places more e number
 
+-- a place that is the last of a new number's
 pub push-there : (first : List (ArrayVec ℕ)) (number : ℕ) (places : ArrayVec ℕ) (before : List ℕ) (place : ℕ) → number ≡ length first → places.items ≡ before ++ place ∷ [] → Contains (places_at (first ++ places ∷ []) number) place
 push-there first number places before place n e =
     subst (λ xs. Contains xs place) (sym (ap (places_at (first ++ places ∷ [])) n ∙ places-push first places ∙ e)) (Contains-push before place)
@@ -61,21 +59,21 @@ push-more (Ok x) p p' place o e = (place ∷ [], o)
 push-more (Err x) p p' place o e = ([], ap (λ (q : ArrayVec ℕ). q.items) e ∙ sym (append-nil p.items))
 
 module _ {T R : Type 0} (r : Result T R) (first : List (ArrayVec ℕ)) (number place : ℕ) (p p' : ArrayVec ℕ) (there : number < length first) where
-  pub grows-put : (old : List (ArrayVec ℕ)) → Grows old first → p ≡ get_or first number p → OnOk r (p'.items ≡ p.items ++ place ∷ []) → OnErr r (p' ≡ p) → Grows old (slice_set first number p')
-  grows-put old g is o e =
+  pub grows-kept : (old : List (ArrayVec ℕ)) → Grows old first → p ≡ get_or first number p → OnOk r (p'.items ≡ p.items ++ place ∷ []) → OnErr r (p' ≡ p) → Grows old (slice_set first number p')
+  grows-kept old g is o e =
       let m = push-more r p p' place o e in
       let k : p'.items ≡ places_at first number ++ m.0 = m.1 ∙ ap (λ xs. xs ++ m.0) (sym (places-there first number p there is)) in
       grows-trans old first (slice_set first number p') g (grows-set first number p' m.0 k)
 
-  pub put-there : is_ok r ≡ true → OnOk r (p'.items ≡ p.items ++ place ∷ []) → Contains (places_at (slice_set first number p') number) place
-  put-there t o = subst (λ xs. Contains xs place) (sym (places-set first number p' there ∙ pushed r t o)) (Contains-push p.items place)
+  pub kept-there : is_ok r ≡ true → OnOk r (p'.items ≡ p.items ++ place ∷ []) → Contains (places_at (slice_set first number p') number) place
+  kept-there t o = subst (λ xs. Contains xs place) (sym (places-set first number p' there ∙ pushed r t o)) (Contains-push p.items place)
     where
       pushed : (r : Result T R) → is_ok r ≡ true → OnOk r (p'.items ≡ p.items ++ place ∷ []) → p'.items ≡ p.items ++ place ∷ []
       pushed (Ok x) t o = o
       pushed (Err x) t o = absurd (cc)
 
-  pub put-full : (few : ℕ) → is_ok r ≡ false → OnErr r (p' ≡ p) → OnErr r (length p.items ≡ few) → few ≤ length (places_at (slice_set first number p') number)
-  put-full few f e l = omega (arith, ap length (places-set first number p' there), full r f e l)
+  pub kept-full : (few : ℕ) → is_ok r ≡ false → OnErr r (p' ≡ p) → OnErr r (length p.items ≡ few) → few ≤ length (places_at (slice_set first number p') number)
+  kept-full few f e l = omega (arith, ap length (places-set first number p' there), full r f e l)
     where
       full : (r : Result T R) → is_ok r ≡ false → OnErr r (p' ≡ p) → OnErr r (length p.items ≡ few) → length p'.items ≡ few
       full (Ok x) f e l = absurd (cc)
@@ -87,7 +85,7 @@ cons-none false v r e = (refl, e)
 
 module _ {K X : Type 0} (test : K → Bool) where
   -- where no key passes, none does at any place
-  pub fails-there : (es : List (K × X)) (place : ℕ) (k : K) (x : X) → lookup test es ≡ None → slice_get es place ≡ Some (k, x) → test k ≡ false
+  fails-there : (es : List (K × X)) (place : ℕ) (k : K) (x : X) → lookup test es ≡ None → slice_get es place ≡ Some (k, x) → test k ≡ false
   fails-there [] place k x n at = absurd (cc)
   fails-there (e ∷ es) zero k x n at =
       let q : e ≡ (k, x) = cc in
@@ -106,7 +104,7 @@ push-cases (z ∷ zs) y zero x e = inl e
 push-cases (z ∷ zs) y (suc i) x e = elim (push-cases zs y i x e) [ inl a ↦ inl a | inr p ↦ inr (ap suc p.0, p.1) ]
 
 module _ {K : Type 0} (E : K → K → Bool) (number : K → ℕ) (few : ℕ) where
-  -- places that are kept for numbers besides
+  -- where more places are kept
   pub found-grows : (old new : List (ArrayVec ℕ)) (others : List (K × ℕ)) (place : ℕ) (k : K) → Grows old new → IsFound E number few old others place k → IsFound E number few new others place k
   found-grows old new others place k g f =
       let p = g (number k) in
@@ -116,7 +114,7 @@ module _ {K : Type 0} (E : K → K → Bool) (number : K → ℕ) (few : ℕ) wh
         | inr s ↦ inr (omega (arith, s.0), s.1)
       ]
 
-  -- a place that is named under another key
+  -- where another place is named under another key
   pub found-other : IsEquivalence E → (first : List (ArrayVec ℕ)) (old new : List (K × ℕ)) (key again k : K) (named place : ℕ) → E key again ≡ true → E key k ≡ false
       → ((q : K) → lookup (E q) new ≡ cond (E again q) (Some named) (lookup (E q) old)) → IsFound E number few first old place k → IsFound E number few first new place k
   found-other laws first old new key again k named place same other u f =
@@ -126,16 +124,7 @@ module _ {K : Type 0} (E : K → K → Bool) (number : K → ℕ) (few : ℕ) wh
         | inr s ↦ inr (s.0, u k ∙ ap (λ b. cond b (Some named) (lookup (E k) old)) e ∙ s.1)
       ]
 
-  -- and under its own
-  pub found-named : IsEquivalence E → (old new : List (K × ℕ)) (key again : K) (named : ℕ) → E key again ≡ true
-      → ((q : K) → lookup (E q) new ≡ cond (E again q) (Some named) (lookup (E q) old)) → lookup (E key) new ≡ Some named
-  found-named laws old new key again named same u =
-      u key ∙ ap (λ b. cond b (Some named) (lookup (E key) old)) (laws.symm again key ∙ same)
-
 module _ {K X : Type 0} (E : K → K → Bool) (number : K → ℕ) (few : ℕ) where
-  pub table-nil : (first : List (ArrayVec ℕ)) (others : List (K × ℕ)) → IsTable {X = X} E number few [] first others
-  table-nil first others = record { finds = λ place k x e. absurd (cc) }
-
   -- indices that find what was found, but under a key that is not there
   pub table-keeps : (es now : List (K × X)) (first first' : List (ArrayVec ℕ)) (others others' : List (K × ℕ)) (key : K) → es ≡ now → lookup (E key) now ≡ None
       → ((place : ℕ) (k : K) → E key k ≡ false → IsFound E number few first others place k → IsFound E number few first' others' place k)

@@ -8,6 +8,7 @@
 //! Where an automaton has one state, `one_state` notes all pairs without reading.
 //! Downward: `falling` runs over the bodies of `descent`, which `kept` has as their `notes`, and keeps in `spots` what each was
 //! found to be, as stretches of nodes (`told`). `listing` tells a list that is made of earlier lists, for `answers`.
+//! Under `memo` and `spots` is a `table`, which finds most of its keys by a number and without a hash.
 //!
 //! `specs/Reached.antt` says which pairs and triples a run meets. Counts tell that a value is small enough for `fall`, by the lemma
 //! `nodes-weigh` of `proofs/Sizes.antt`; a hit's symbol tells its node's kind and name, by `document-symbol` of `proofs/Symbols.antt`.

@@ -84,7 +84,7 @@ impl<S: RunState> Memo<S> {
         requires { rank ≤ vec_len stack.now }
         ensures { IfSome result (λ r. slice_get self.now r.0 ≡ Some ((rule, take rank (reverse stack.now.items)), r.1.now)) }
     {
-        for place in self.table.likely(rule) {
+        for place in self.table.first_places(rule) {
             if let Some((pair, state)) = self.table.get(*place)
                 && pair.rule == rule
                 && are_topmost(&pair.states, rank, stack)

@@ -1,4 +1,4 @@
-// Entries under keys that have numbers. Most are found by the number of their key, without a hash.
+// Entries under keys that have numbers: most are found by the number of their key, without a hash.
 ghost use Rattle.std.specs.Prelude.{◌≡◌, ◌≤◌, ◌++◌, ℕ, true, false, [], ◌∷◌, length, map, slice_get, Some, None, Contains, IfOk, IfSome, IfNone, OnOk, IsSome};
 ghost use Rattle.std.specs.Map.{lookup};
 ghost use Rattle.rule_runs.specs.Tables.{places_at, Grows, IsFound};
@@ -9,16 +9,17 @@ use std::alloc::{AllocError, Global};
 use std::hash::Hash;
 use std::marker::Model;
 
-// How many places are kept for each number.
+// How many places are kept for each number, and so how many keys are compared before one is hashed.
 const FEW: usize = 4;
 
+// The places of the first entries of a number.
 type Places = ArrayVec<usize, FEW>;
 
 /// A key of a table. Equal keys have one number.
 pub(crate) trait Numbered: Eq + Hash + Drop {
     ghost number_of: { Self → ℕ };
 
-    /// The number that it is found by. Numbers are few: a list has a place for each below the largest.
+    /// The number that it is found by. A table keeps a list for each number up to the largest, so numbers are small.
     fn number(&self) -> usize
         ensures { result ≡ number_of self.now };
 
@@ -34,10 +35,10 @@ pub(crate) trait Numbered: Eq + Hash + Drop {
 #[derive(Drop)]
 pub(crate) struct Table<K: Numbered, X: Drop> {
     entries: Vec<(K, X)>,
-    // For each number the places of its first entries. A place may be named here or among the others though its entry was refused for
-    // want of memory, so what is found there is compared.
+    // For each number the places of its first entries.
     first: Vec<Places>,
-    // The places of all others, under copies of their keys.
+    // The places of all others, under copies of their keys. A place may be named, here or above, though memory was refused for its entry:
+    // so the key that stands there is always compared.
     others: IndexMap<K, usize>,
 }
 
@@ -93,8 +94,8 @@ impl<K: Numbered, X: Drop> Table<K, X> {
         }
     }
 
-    // Places where to look first for entries of a number, and no more than that.
-    pub(crate) fn likely(&self, number: usize) -> &[usize] {
+    // Places where to look first for the entries of a number, and no more than that.
+    pub(crate) fn first_places(&self, number: usize) -> &[usize] {
         places_of(&self.first, number)
     }
 
@@ -122,7 +123,7 @@ impl<K: Numbered, X: Drop> Table<K, X> {
         requires { lookup (K.eq key) self.old ≡ None }
         ensures { OnOk result (self.new ≡ self.old ++ (key, value) ∷ []) }
     {
-        put_place(&mut self.first, &mut self.others, &key, self.entries.len())?;
+        name_place(&mut self.first, &mut self.others, &key, self.entries.len())?;
         self.entries.push((key, value))?;
         Ok(())
     }
@@ -151,8 +152,8 @@ fn value_under<'a, K: Numbered, X: Drop>(
     if key == noted { Some(value) } else { None }
 }
 
-// Names a place under a key. The places of other keys are found as they were, whether or not memory is refused.
-fn put_place<K: Numbered>(
+// Names a place under a key. Those of other keys are found as before, even where memory is refused.
+fn name_place<K: Numbered>(
     first: &mut Vec<Places>,
     others: &mut IndexMap<K, usize>,
     key: &K,
@@ -161,19 +162,19 @@ fn put_place<K: Numbered>(
     ensures found { OnOk result (IsFound K.eq K.number_of FEW first.new.items others.new.entries place key.now) }
     ensures keeps { (other : ℕ) (k : K) → K.eq key.now k ≡ false → IsFound K.eq K.number_of FEW first.old.items others.old.entries other k → IsFound K.eq K.number_of FEW first.new.items others.new.entries other k }
 {
-    if put_first(first, key.number(), place)? {
+    if keep_first(first, key.number(), place)? {
         return Ok(());
     }
     others.insert(key.copy()?, place)?;
     Ok(())
 }
 
-// Keeps a place for a number, unless it has all that it may have: answers whether it does. Where the list was shorter, empty ones stand
-// before it.
-fn put_first(first: &mut Vec<Places>, number: usize, place: usize) -> Result<bool, AllocError>
+// Keeps a place for a number, unless as many as may be are kept for it: answers whether it is kept. Where numbers were fewer, those
+// between have no places.
+fn keep_first(first: &mut Vec<Places>, number: usize, place: usize) -> Result<bool, AllocError>
     ensures grows { Grows first.old.items first.new.items }
-    ensures put { IfOk result (λ put. put ≡ true → Contains (places_at first.new.items number) place) }
-    ensures full { IfOk result (λ put. put ≡ false → FEW ≤ length (places_at first.new.items number)) }
+    ensures kept { IfOk result (λ kept. kept ≡ true → Contains (places_at first.new.items number) place) }
+    ensures full { IfOk result (λ kept. kept ≡ false → FEW ≤ length (places_at first.new.items number)) }
 {
     for _i in first.len()..number {
         first.push(ArrayVec::new())?;

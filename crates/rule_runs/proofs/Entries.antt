@@ -1,12 +1,10 @@
 -- Tables whose keys are seen as other values: equal keys are those that are seen alike.
-use Rattle.std.specs.Map.{lookup, keys_of}
+use Rattle.std.specs.Map.{lookup}
 use Rattle.std.proofs.lemmas.List.Elements.{All-cons, All-head, All-nil, All-tail}
 use Rattle.std.specs.Cmp.Lexicographic.{pointwise}
 use Rattle.std.proofs.lemmas.Bool.{eqb-true, eq-eqb}
 use Rattle.std.proofs.lemmas.List.{map_push}
-use Rattle.std.proofs.lemmas.List.Quantifiers.{position-Some}
-use Rattle.std.proofs.Common.{◌≡◌, ◌≢◌, ◌&&◌, Bool, true, false, nat_eq, ℕ, zero, suc, List, [], ◌∷◌, ◌++◌, get_or, slice_get, Some, None, refl, sym, ap, ◌∙◌, cond, All}
-use Rattle.std.specs.Prelude.{position}
+use Rattle.std.proofs.Common.{◌≡◌, ◌≢◌, ◌&&◌, Bool, true, false, nat_eq, ℕ, zero, suc, List, [], ◌∷◌, ◌++◌, slice_get, Some, None, refl, sym, ap, ◌∙◌, cond, All}
 use Rattle.rule_runs.specs.Reached.{RuleStates}
 use Rattle.rule_runs.specs.declared.memo.Pair.{Pair}
 use Rattle.rule_runs.specs.Entries.{key_of, viewed}
@@ -48,28 +46,20 @@ key-same {S} E same p q e =
     rw (r, s, eq-eqb q.rule q.rule refl, pointwise-refl E same q.states.items) refl
 
 module _ {K V X : Type 0} (E : K → K → Bool) (view : K → V) where
-  pub viewed-at : (es : List (K × X)) (i : ℕ) (k : K) (x : X) → slice_get es i ≡ Some (k, x) → slice_get (viewed view es) i ≡ Some (view k, x)
+  viewed-at : (es : List (K × X)) (i : ℕ) (k : K) (x : X) → slice_get es i ≡ Some (k, x) → slice_get (viewed view es) i ≡ Some (view k, x)
   viewed-at [] i k x e = absurd (cc)
   viewed-at (e' ∷ es) zero k x e = let q : e' ≡ (k, x) = cc in ap (λ (p : K × X). Some (view p.0, p.1)) q
   viewed-at (e' ∷ es) (suc i) k x e = viewed-at es i k x e
 
-  key-there : (es : List (K × X)) (i : ℕ) (k : K) (x : X) (d : K) → slice_get es i ≡ Some (k, x) → get_or (keys_of es) i d ≡ k
-  key-there [] i k x d e = absurd (cc)
-  key-there (e' ∷ es) zero k x d e = let q : e' ≡ (k, x) = cc in ap (λ (p : K × X). p.0) q
-  key-there (e' ∷ es) (suc i) k x d e = key-there es i k x d e
-
   -- an entry that is found by its key
-  pub found-entry : ((a b : K) → E a b ≡ true → view a ≡ view b) → (es : List (K × X)) (p k : K) (i : ℕ) (x : X) → position (E p) (keys_of es) ≡ Some i → slice_get es i ≡ Some (k, x) → slice_get (viewed view es) i ≡ Some (view p, x)
-  found-entry same es p k i x f e =
-      let s = position-Some (E p) (keys_of es) i p f in
-      let t : E p k ≡ true = ap (E p) (sym (key-there es i k x p e)) ∙ s.1 in
-      viewed-at es i k x e ∙ ap (λ (v : V). Some (v, x)) (sym (same p k t))
+  pub found-entry : ((a b : K) → E a b ≡ true → view a ≡ view b) → (es : List (K × X)) (p k : K) (i : ℕ) (x : X) → slice_get es i ≡ Some (k, x) → E p k ≡ true → slice_get (viewed view es) i ≡ Some (view p, x)
+  found-entry same es p k i x e t = viewed-at es i k x e ∙ ap (λ (v : V). Some (v, x)) (sym (same p k t))
 
-  cons-absent : (b : Bool) (p : K) (e : K × X) (es : List (K × X)) → (view e.0 ≡ view p → b ≡ true) → None ≡ cond b (Some e.1) (lookup (E p) es) → (None ≡ lookup (E p) es → All (λ e. e.0 ≢ view p) (viewed view es)) → All (λ e. e.0 ≢ view p) (viewed view (e ∷ es))
+  cons-absent : (b : Bool) (p : K) (e : K × X) (es : List (K × X)) → (view e.0 ≡ view p → b ≡ true) → cond b (Some e.1) (lookup (E p) es) ≡ None → (lookup (E p) es ≡ None → All (λ e. e.0 ≢ view p) (viewed view es)) → All (λ e. e.0 ≢ view p) (viewed view (e ∷ es))
   cons-absent true p e es k f rest = absurd (cc)
   cons-absent false p e es k f rest = All-cons (λ (e : V × X). e.0 ≢ view p) (view e.0, e.1) (viewed view es) (λ h. let c = k h in absurd (cc)) (rest f)
 
-  pub absent-entry : ((a b : K) → view a ≡ view b → E a b ≡ true) → (p : K) (es : List (K × X)) → None ≡ lookup (E p) es → All (λ e. e.0 ≢ view p) (viewed view es)
+  pub absent-entry : ((a b : K) → view a ≡ view b → E a b ≡ true) → (p : K) (es : List (K × X)) → lookup (E p) es ≡ None → All (λ e. e.0 ≢ view p) (viewed view es)
   absent-entry alike p [] f = All-nil (λ (e : V × X). e.0 ≢ view p)
   absent-entry alike p (e ∷ es) f = cons-absent (E p e.0) p e es (λ h. alike p e.0 (sym h)) f (absent-entry alike p es)
 
@@ -87,7 +77,7 @@ module _ {K V X : Type 0} (E : K → K → Bool) (view : K → V) where
   entries-push es k x = map_push (λ (e : K × X). (view e.0, e.1)) es (k, x)
 
 -- the pair at a place of a table
-pub pair-there : {S : Type 0} (es : List (Pair S × S)) (i : ℕ) (p : Pair S) (x : S) → Some (p, x) ≡ slice_get es i → key_of p ≡ pair_at (keys (viewed key_of es)) i
+pub pair-there : {S : Type 0} (es : List (Pair S × S)) (i : ℕ) (p : Pair S) (x : S) → slice_get es i ≡ Some (p, x) → key_of p ≡ pair_at (keys (viewed key_of es)) i
 pair-there [] i p x e = absurd (cc)
 pair-there {S} (e' ∷ es) zero p x e = let q : (p, x) ≡ e' = cc in ap (λ (y : Pair S × S). key_of y.0) q
 pair-there (e' ∷ es) (suc i) p x e = pair-there es i p x e

@@ -1,6 +1,7 @@
 pub mod Lists
 pub mod Sizes
 pub mod Entries
+pub mod Tables
 pub mod Bodies
 pub mod Evaluation
 pub mod Closing

@@ -3,7 +3,7 @@ use Rattle.std.specs.Map.{lookup}
 use Rattle.std.proofs.lemmas.List.Elements.{All-cons, All-head, All-nil, All-tail}
 use Rattle.std.proofs.lemmas.Bool.{eqb-true, eq-eqb}
 use Rattle.std.proofs.lemmas.Option.{slice_get_within, get_or_from_slice_get}
-use Rattle.std.proofs.Common.{◌≡◌, ◌≢◌, ◌&&◌, Bool, true, false, nat_eq, ℕ, suc, List, [], ◌∷◌, Some, None, Contains, slice_get, refl, sym, ap, ◌∙◌, arith, cond, All}
+use Rattle.std.proofs.Common.{◌≡◌, ◌≢◌, ◌&&◌, Bool, true, false, nat_eq, ℕ, List, [], ◌∷◌, Some, None, Contains, slice_get, refl, sym, ap, ◌∙◌, cond, All}
 use Rattle.rule_runs.specs.declared.spots.Spot.{Spot}
 use Rattle.rule_runs.proofs.Entries.{both}
 
@@ -23,23 +23,15 @@ spot-same {D} E same p q e =
     rw e (rw (eq-eqb q.pair q.pair refl, same q.down) refl)
 
 module _ {K X : Type 0} (E : K → K → Bool) where
-  cons-found : (b : Bool) (p : K) (e : K × X) (es : List (K × X)) (x : X) → (b ≡ true → p ≡ e.0) → Some x ≡ cond b (Some e.1) (lookup (E p) es) → (Some x ≡ lookup (E p) es → Contains es (p, x)) → Contains (e ∷ es) (p, x)
-  cons-found true p e es x k f rest = let h = k refl in let y : x ≡ e.1 = cc in (0, omega arith, ap (λ (k : K). (k, e.1)) (sym h) ∙ ap (λ (z : X). (p, z)) (sym y))
-  cons-found false p e es x k f rest = let r = rest f in (suc r.0, omega (arith, r.1), r.2)
+  -- an entry that is found by its key
+  pub found-in : ((a b : K) → E a b ≡ true → a ≡ b) → (p k : K) (es : List (K × X)) (i : ℕ) (x : X) → slice_get es i ≡ Some (k, x) → E p k ≡ true → Contains es (p, x)
+  found-in same p k es i x e t = (i, slice_get_within es i (k, x) e, get_or_from_slice_get es i (k, x) (p, x) e ∙ ap (λ (k : K). (k, x)) (sym (same p k t)))
 
-  pub found-in : ((a b : K) → E a b ≡ true → a ≡ b) → (p : K) (es : List (K × X)) (x : X) → Some x ≡ lookup (E p) es → Contains es (p, x)
-  found-in same p [] x f = absurd (cc)
-  found-in same p (e ∷ es) x f = cons-found (E p e.0) p e es x (same p e.0) f (found-in same p es x)
-
-  -- an entry that is found by its place
-  pub noted-in : ((a b : K) → E a b ≡ true → a ≡ b) → (p k : K) (es : List (K × X)) (i : ℕ) (x : X) → slice_get es i ≡ Some (k, x) → E k p ≡ true → Contains es (p, x)
-  noted-in same p k es i x e t = (i, slice_get_within es i (k, x) e, get_or_from_slice_get es i (k, x) (p, x) e ∙ ap (λ (k : K). (k, x)) (same k p t))
-
-  cons-absent : (b : Bool) (p : K) (e : K × X) (es : List (K × X)) → (p ≡ e.0 → b ≡ true) → None ≡ cond b (Some e.1) (lookup (E p) es) → (None ≡ lookup (E p) es → All (λ e. e.0 ≢ p) es) → All (λ e. e.0 ≢ p) (e ∷ es)
+  cons-absent : (b : Bool) (p : K) (e : K × X) (es : List (K × X)) → (p ≡ e.0 → b ≡ true) → cond b (Some e.1) (lookup (E p) es) ≡ None → (lookup (E p) es ≡ None → All (λ e. e.0 ≢ p) es) → All (λ e. e.0 ≢ p) (e ∷ es)
   cons-absent true p e es k f rest = absurd (cc)
   cons-absent false p e es k f rest = All-cons (λ (e : K × X). e.0 ≢ p) e es (λ h. let c = k (sym h) in absurd (cc)) (rest f)
 
-  pub absent-from : ((a b : K) → a ≡ b → E a b ≡ true) → (p : K) (es : List (K × X)) → None ≡ lookup (E p) es → All (λ e. e.0 ≢ p) es
+  pub absent-from : ((a b : K) → a ≡ b → E a b ≡ true) → (p : K) (es : List (K × X)) → lookup (E p) es ≡ None → All (λ e. e.0 ≢ p) es
   absent-from alike p [] f = All-nil (λ (e : K × X). e.0 ≢ p)
   absent-from alike p (e ∷ es) f = cons-absent (E p e.0) p e es (alike p e.0) f (absent-from alike p es)
 

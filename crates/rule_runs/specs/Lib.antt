@@ -1,5 +1,6 @@
 pub mod Reached
 pub mod Entries
+pub mod Tables
 pub mod Risen
 pub mod Frames
 pub mod Hits

@@ -32,7 +32,7 @@ pub(crate) fn take_call<S: RunState>(
     ensures new { IfOk result (λ called. (pair : Pair S) → called ≡ Called.Unknown pair → All (λ e. e.0 ≢ key_of pair) known.now) }
 {
     let rank = grammar.rank(rule);
-    if let Some((place, found)) = known.latest(rule, rank, stack) {
+    if let Some((place, found)) = known.find_topmost(rule, rank, stack) {
         let state = found.copy()?;
         drop_top(stack, rank);
         return Ok(Called::Known(place, state));

@@ -80,7 +80,7 @@ pub fn fall<A: Falling, L: Ledger>(
     let _rules = grammar.rules();
     let pairs = risen.known.len();
     let mut bodies = Bodies::new(alloc, pairs)?;
-    let mut known = Spots::new(alloc);
+    let mut known = Spots::with_room(alloc, pairs)?;
     let mut lists = Vec::new(alloc);
     let mut frames = Vec::new(alloc);
     let start = Spot {

@@ -9,6 +9,7 @@
 //! Downward: `falling` runs over the bodies of `descent`, which `kept` has as their `notes`, with what is open in `layers`, and keeps in
 //! `spots` what each was found to be, as stretches of nodes (`told`). At a down state from which nothing is hit, `spent` tells that by
 //! counts. `listing` tells a list that is made of earlier lists, for `answers`.
+//! Under `memo` and `spots` is a `table`, which finds most of its keys by a number and without a hash.
 //!
 //! `specs/Reached.antt` says which pairs and triples a run meets. Counts tell that a value is small enough for `fall`, by the lemma
 //! `nodes-weigh` of `proofs/Sizes.antt`; a hit's symbol tells its node's kind and name, by `document-symbol` of `proofs/Symbols.antt`.
@@ -25,12 +26,12 @@ mod layers;
 mod listing;
 mod memo;
 mod notes;
-mod numbers;
 mod one_state;
 mod rising;
 mod spent;
 mod spots;
 mod stack;
+mod table;
 mod told;
 
 pub use answers::Answers;

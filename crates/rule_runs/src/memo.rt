@@ -3,9 +3,8 @@ ghost use Rattle.std.specs.Prelude.{◌≡◌, ◌≢◌, ◌++◌, ◌<◌, ◌
 ghost use Rattle.rule_runs.specs.Entries.{key_of};
 ghost use Rattle.rule_runs.specs.Risen.{keys, pair_at};
 
-use crate::numbers::put;
 use crate::stack::are_topmost;
-use indexmap::IndexMap;
+use crate::table::{Numbered, Table};
 use slt_grammar::RunState;
 use std::alloc::{AllocError, Global};
 use std::marker::Model;
@@ -17,12 +16,33 @@ pub(crate) struct Pair<S> {
     pub(crate) states: Vec<S>,
 }
 
+impl<S: RunState> Numbered for Pair<S> {
+    ghost use Rattle.std.proofs.Common.{rules};
+
+    ghost number_of = { λ pair. pair.rule };
+
+    fn number(&self) -> usize {
+        self.rule
+    }
+
+    fn copy(&self) -> Result<Pair<S>, AllocError> {
+        let mut states = Vec::with_capacity(*self.states.allocator(), self.states.len())?;
+        for state in &self.states {
+            states.push(state.copy()?)?;
+        }
+        Ok(Pair {
+            rule: self.rule,
+            states,
+        })
+    }
+
+    ghost one_number = { Prim.search rules };
+}
+
 /// The states of pairs, in the order in which they were noted.
 #[derive(Drop)]
 pub(crate) struct Memo<S: RunState> {
-    known: IndexMap<Pair<S>, S>,
-    // For each rule the place where a pair of it was noted last. It is where to look first, and no more than that.
-    latest: Vec<usize>,
+    table: Table<Pair<S>, S>,
 }
 
 impl<S: RunState> Model for Memo<S> {
@@ -32,7 +52,7 @@ impl<S: RunState> Model for Memo<S> {
 
     ghost Value = { List (RuleStates S × S) };
 
-    ghost view = { λ m. viewed key_of m.known.entries };
+    ghost view = { λ m. viewed key_of m.table };
 }
 
 impl<S: RunState> Memo<S> {
@@ -40,8 +60,7 @@ impl<S: RunState> Memo<S> {
         ensures { result ≡ [] }
     {
         Memo {
-            known: IndexMap::new(alloc),
-            latest: Vec::new(alloc),
+            table: Table::new(alloc),
         }
     }
 
@@ -50,24 +69,30 @@ impl<S: RunState> Memo<S> {
         ensures { IfOk result (λ memo. memo ≡ []) }
     {
         Ok(Memo {
-            known: IndexMap::with_capacity(alloc, count)?,
-            latest: Vec::with_capacity(alloc, count)?,
+            table: Table::with_room(alloc, count)?,
         })
     }
 
-    // The place and the state of the pair of a rule that was noted last, if it has the topmost states. Most pairs are found so, without a
-    // list of their states and without a hash.
-    pub(crate) fn latest(&self, rule: usize, rank: usize, stack: &Vec<S>) -> Option<(usize, &S)>
+    // The place and the state of the pair of a rule with the topmost states, if it is among the first of the rule. Most pairs are found
+    // so, without a list of their states and without a hash.
+    pub(crate) fn find_topmost(
+        &self,
+        rule: usize,
+        rank: usize,
+        stack: &Vec<S>,
+    ) -> Option<(usize, &S)>
         requires { rank ≤ vec_len stack.now }
         ensures { IfSome result (λ r. slice_get self.now r.0 ≡ Some ((rule, take rank (reverse stack.now.items)), r.1.now)) }
     {
-        let place = *self.latest.get(rule)?;
-        let (pair, state) = self.known.get_index(place)?;
-        if pair.rule == rule && are_topmost(&pair.states, rank, stack) {
-            Some((place, state))
-        } else {
-            None
+        for place in self.table.first_places(rule) {
+            if let Some((pair, state)) = self.table.get(*place)
+                && pair.rule == rule
+                && are_topmost(&pair.states, rank, stack)
+            {
+                return Some((*place, state));
+            }
         }
+        None
     }
 
     // A pair's place and state.
@@ -75,17 +100,14 @@ impl<S: RunState> Memo<S> {
         ensures found { IfSome result (λ r. slice_get self.now r.0 ≡ Some (key_of pair.now, r.1.now)) }
         ensures absent { IfNone result (All (λ e. e.0 ≢ key_of pair.now) self.now) }
     {
-        match self.known.get_full(pair) {
-            Some((index, _, state)) => Some((index, state)),
-            None => None,
-        }
+        self.table.find(pair)
     }
 
     // How many pairs there are.
     pub(crate) fn len(&self) -> usize
         ensures { result ≡ length (keys self.now) }
     {
-        self.known.len()
+        self.table.len()
     }
 
     // The pair at a place.
@@ -93,7 +115,7 @@ impl<S: RunState> Memo<S> {
         ensures there { index < length self.now → IsSome result }
         ensures pair { IfSome result (λ p. key_of p.now ≡ pair_at (keys self.now) index) }
     {
-        match self.known.get_index(index) {
+        match self.table.get(index) {
             Some((pair, _)) => Some(pair),
             None => None,
         }
@@ -104,10 +126,6 @@ impl<S: RunState> Memo<S> {
         requires { All (λ e. e.0 ≢ key_of pair) self.old }
         ensures ok { OnOk result (self.new ≡ self.old ++ (key_of pair, state) ∷ []) }
     {
-        put(&mut self.latest, pair.rule, self.known.len())?;
-        match self.known.insert(pair, state) {
-            Ok(_) => Ok(()),
-            Err(_) => Err(AllocError),
-        }
+        self.table.note(pair, state)
     }
 }

@@ -1,9 +1,8 @@
 // What a run downward knows of pairs at down states of their roots.
-ghost use Rattle.std.specs.Prelude.{◌≡◌, ◌≢◌, ◌++◌, [], ◌∷◌, slice_get, Some, IfSome, IfNone, OnOk, Contains, All};
+ghost use Rattle.std.specs.Prelude.{◌≡◌, ◌≢◌, ◌++◌, [], ◌∷◌, slice_get, Some, IfSome, IfNone, OnOk, Contains, All, IfOk};
 
-use crate::numbers::put;
+use crate::table::{Numbered, Table};
 use crate::told::Told;
-use indexmap::IndexMap;
 use slt_grammar::RunState;
 use std::alloc::{AllocError, Global};
 use std::marker::Model;
@@ -13,6 +12,25 @@ use std::marker::Model;
 pub(crate) struct Spot<D> {
     pub(crate) pair: usize,
     pub(crate) down: D,
+}
+
+impl<D: RunState> Numbered for Spot<D> {
+    ghost use Rattle.std.proofs.Common.{rules};
+
+    ghost number_of = { λ spot. spot.pair };
+
+    fn number(&self) -> usize {
+        self.pair
+    }
+
+    fn copy(&self) -> Result<Spot<D>, AllocError> {
+        Ok(Spot {
+            pair: self.pair,
+            down: self.down.copy()?,
+        })
+    }
+
+    ghost one_number = { Prim.search rules };
 }
 
 // A parameter of a rule: the stretch before it, and its down state.
@@ -32,9 +50,7 @@ pub(crate) struct Outcome<D: Drop> {
 // The outcomes of spots.
 #[derive(Drop)]
 pub(crate) struct Spots<D: RunState> {
-    known: IndexMap<Spot<D>, Outcome<D>>,
-    // For each pair the place where a spot of it was noted last. It is where to look first, and no more than that.
-    latest: Vec<usize>,
+    table: Table<Spot<D>, Outcome<D>>,
 }
 
 impl<D: RunState> Model for Spots<D> {
@@ -44,37 +60,25 @@ impl<D: RunState> Model for Spots<D> {
 
     ghost Value = { List (Spot D × Outcome D) };
 
-    ghost view = { λ m. m.known.entries };
+    ghost view = { λ m. m.table };
 }
 
 impl<D: RunState> Spots<D> {
-    pub(crate) fn new(alloc: Global) -> Spots<D>
-        ensures { result ≡ [] }
+    // With room for so many spots of as many pairs.
+    pub(crate) fn with_room(alloc: Global, count: usize) -> Result<Spots<D>, AllocError>
+        ensures { IfOk result (λ spots. spots ≡ []) }
     {
-        Spots {
-            known: IndexMap::new(alloc),
-            latest: Vec::new(alloc),
-        }
-    }
-
-    // The outcome of the spot of its pair that was noted last, if it is that one.
-    fn latest(&self, spot: &Spot<D>) -> Option<&Outcome<D>>
-        ensures { IfSome result (λ outcome. Contains self.now (spot.now, outcome.now)) }
-    {
-        let place = *self.latest.get(spot.pair)?;
-        let (noted, outcome) = self.known.get_index(place)?;
-        if noted == spot { Some(outcome) } else { None }
+        Ok(Spots {
+            table: Table::with_room(alloc, count)?,
+        })
     }
 
     pub(crate) fn find(&self, spot: &Spot<D>) -> Option<&Outcome<D>>
         ensures found { IfSome result (λ outcome. Contains self.now (spot.now, outcome.now)) }
         ensures absent { IfNone result (All (λ e. e.0 ≢ spot.now) self.now) }
     {
-        if let Some(outcome) = self.latest(spot) {
-            return Some(outcome);
-        }
-        match self.known.get(spot) {
-            Some(outcome) => Some(outcome),
+        match self.table.find(spot) {
+            Some((_, outcome)) => Some(outcome),
             None => None,
         }
     }
@@ -84,10 +88,6 @@ impl<D: RunState> Spots<D> {
         requires { All (λ e. e.0 ≢ spot) self.old }
         ensures ok { OnOk result (self.new ≡ self.old ++ (spot, outcome) ∷ []) }
     {
-        put(&mut self.latest, spot.pair, self.known.len())?;
-        match self.known.insert(spot, outcome) {
-            Ok(_) => Ok(()),
-            Err(_) => Err(AllocError),
-        }
+        self.table.note(spot, outcome)
     }
 }

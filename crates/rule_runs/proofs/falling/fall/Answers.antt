@@ -29,6 +29,9 @@ descend-requires-clause-noted g c = c.bodies.invariant.kept.noted c.bodies.frame
 pub returns-in_err-bodies-clause-steps : goal.returns-in_err-bodies-clause-steps
 returns-in_err-bodies-clause-steps g c = ([], falls-none (g.A.Rising.algebra c.args.automaton.now) (g.A.Falling.downward c.args.automaton.now) (rules_of c.args.grammar.now.rules) _ (omega arith))
 
+pub returns-in_err-known-clause-steps : goal.returns-in_err-known-clause-steps
+returns-in_err-known-clause-steps g c = ([], falls-none (g.A.Rising.algebra c.args.automaton.now) (g.A.Falling.downward c.args.automaton.now) (rules_of c.args.grammar.now.rules) _ (omega arith))
+
 pub begin-requires-clause-kept : goal.begin-requires-clause-kept
 begin-requires-clause-kept g c =
     let kn = ap (λ r. r.known) c.risen.view_is in
@@ -70,7 +73,7 @@ bodies-init g c =
     let p = ap (λ x. x.pair) s in
     let r = falls-start A W G es c.requires.run c.rules-rules.ensures.grammar (record { pair = c.len-pairs.result - 1; down = c.in_ok-start.field-0 }) (c.begin.new.steps - c.args.steps.now) n c.in_ok-start.ensures (omega arith) in
     record {
-      outcomes = rw c.new-known.ensures (All-nil (λ e. HasOutcome A W G (keys es) c.new-lists.result.items e.0 e.1));
+      outcomes = rw c.in_ok-known.ensures (All-nil (λ e. HasOutcome A W G (keys es) c.new-lists.result.items e.0 e.1));
       kept = c.begin.ensures.kept;
       read = rw s c.in_ok-frame.ensures.read;
       outer = rw c.new-frames.ensures.items (All-nil (λ f. HasBody c.begin.new.bodies.kept.items f.spot.pair));
@@ -78,7 +81,7 @@ bodies-init g c =
       there = omega (arith, p, n, last.1);
       stands = c.in_ok-frame.ensures.stands c.new-lists.result.items;
       waiting = rw c.new-frames.ensures.items (s ∙ ap (λ x. record { pair = x; down = c.in_ok-start.field-0 }) n ∙ ap (λ d. record { pair = length (keys es) - 1; down = d }) c.in_ok-start.ensures);
-      reads = rw (c.new-known.ensures, c.new-frames.ensures.items, s) r;
+      reads = rw (c.in_ok-known.ensures, c.new-frames.ensures.items, s) r;
       counted = c.begin.ensures.counted;
       few = (let h = c.in_ok-frame.ensures.once in omega (arith, unread-most G (keys es) c.in_ok-bodies.bodies.kept.items));
     }

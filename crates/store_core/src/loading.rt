@@ -103,8 +103,8 @@ fn store_of(alloc: Global, folded: Folded) -> Result<Store, AllocError>
         texts,
     } = folded;
     settle(alloc, &mut grammar, RULE_RANK)?;
-    // The room that settling needed goes: a copy has no more than its rules take.
-    let grammar = grammar.copy()?;
+    // The room that settling needed goes, before anything is made that stays: a copy has no more than its rules take.
+    grammar = grammar.copy()?;
     let counts = counts_of(alloc, &grammar, &names)?;
     let index = build(alloc, &grammar)?;
     Ok(Store {

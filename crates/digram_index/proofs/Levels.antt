@@ -1,10 +1,10 @@
 -- How great a key is.
-use Rattle.std.proofs.Common.{◌≡◌, ◌∙◌, ◌<◌, ◌≤◌, ◌+◌, ◌*◌, ◌/◌, ◌^◌, ◌⊎◌, inl, inr, ℕ, suc, min, refl, ap, sym, subst, arith}
+use Rattle.std.proofs.Common.{◌≡◌, ◌∙◌, ◌<◌, ◌≤◌, ◌+◌, ◌*◌, ◌/◌, ◌^◌, ◌⊎◌, inl, inr, ℕ, suc, max, min, refl, ap, sym, subst, arith}
 use Rattle.std.proofs.Math.Nat.{pow-suc}
 use Rattle.std.proofs.Math.Pow.{pow_mono}
 use Rattle.std.proofs.lemmas.Bool.{cases_lt}
 use Rattle.std.proofs.lemmas.Nat.{mul-le, pow_pos}
-use Rattle.digram_index.specs.Ranking.{IsLevel}
+use Rattle.digram_index.specs.Ranking.{HasBuckets, IsLevel}
 
 -- a key that was halved some times in some turns, as long as 32 or more was left
 pub record IsHalved (key rest doublings turns : ℕ) : Type 0 where
@@ -73,6 +73,37 @@ halved-exact key rest d H least m = at (cases_lt 0 d)
         let h = subst (λ n. key < (rest + 1) * 2 ^ n) z H.high in
         (λ a. omega arith, λ b. omega arith)
 
+-- fewer doublings are of a smaller key
+fewer-doublings : (key level other lower : ℕ) (L : IsLevel key level) (M : IsLevel other lower) → M.doublings < L.doublings → other < key
+fewer-doublings k v k' v' L M x =
+    let a : (M.rest + 1) * 2 ^ M.doublings ≤ 32 * 2 ^ M.doublings = mul-le (M.rest + 1) (2 ^ M.doublings) 32 (2 ^ M.doublings) (let s = M.small in omega arith) (omega arith) in
+    let b : 2 ^ (suc M.doublings) ≤ 2 ^ L.doublings = pow_mono (let y : suc M.doublings ≤ L.doublings = omega arith in y) in
+    let c : 2 ^ (suc M.doublings) ≡ 2 ^ M.doublings * 2 = pow-suc 2 M.doublings in
+    let d : 16 * 2 ^ L.doublings ≤ L.rest * 2 ^ L.doublings = mul-le 16 (2 ^ L.doublings) L.rest (2 ^ L.doublings) (L.great (omega arith)) (omega arith) in
+    let l = L.low in
+    let g = M.high in
+    omega arith
+
+-- a greater key has no lower level
+pub level-rises : (key level other higher : ℕ) → IsLevel key level → IsLevel other higher → key ≤ other → level ≤ higher
+level-rises k v k' v' L M h = at (cases_lt L.doublings M.doublings)
+  where
+    same : M.doublings ≡ L.doublings → (M.rest < L.rest) ⊎ (L.rest ≤ M.rest) → v ≤ v'
+    same x (inr r) = let a = L.here in let b = M.here in omega arith
+    same x (inl r) =
+        let g : k' < (M.rest + 1) * 2 ^ L.doublings = subst (λ n. k' < (M.rest + 1) * 2 ^ n) x M.high in
+        let a : (M.rest + 1) * 2 ^ L.doublings ≤ L.rest * 2 ^ L.doublings = mul-le (M.rest + 1) (2 ^ L.doublings) L.rest (2 ^ L.doublings) (omega arith) (omega arith) in
+        let l = L.low in
+        absurd (omega arith)
+
+    at : (L.doublings < M.doublings) ⊎ (M.doublings ≤ L.doublings) → v ≤ v'
+    at (inl x) = let a = L.here in let b = M.here in let s = L.small in let g = M.great (omega arith) in omega arith
+    at (inr x) = within (cases_lt M.doublings L.doublings)
+      where
+        within : (M.doublings < L.doublings) ⊎ (L.doublings ≤ M.doublings) → v ≤ v'
+        within (inl y) = absurd (let z = fewer-doublings k v k' v' L M y in omega arith)
+        within (inr y) = same (omega arith) (cases_lt M.rest L.rest)
+
 -- keys of one level, or of a lower one, are greater by less than a sixteenth
 pub level-compares : (key level other lower : ℕ) → IsLevel key level → IsLevel other lower → lower ≤ level → 16 * other ≤ 17 * key
 level-compares k v k' v' L M h = at (cases_lt M.doublings L.doublings)
@@ -82,17 +113,6 @@ level-compares k v k' v' L M h = at (cases_lt M.doublings L.doublings)
 
     e' : ℕ
     e' = M.doublings
-
-    -- below an earlier doubling
-    earlier : e' < e → k' ≤ k
-    earlier x =
-        let a : (M.rest + 1) * 2 ^ e' ≤ 32 * 2 ^ e' = mul-le (M.rest + 1) (2 ^ e') 32 (2 ^ e') (let s = M.small in omega arith) (omega arith) in
-        let b : 2 ^ (suc e') ≤ 2 ^ e = pow_mono (let y : suc e' ≤ e = omega arith in y) in
-        let c : 2 ^ (suc e') ≡ 2 ^ e' * 2 = pow-suc 2 e' in
-        let d : 16 * 2 ^ e ≤ L.rest * 2 ^ e = mul-le 16 (2 ^ e) L.rest (2 ^ e) (L.great (omega arith)) (omega arith) in
-        let l = L.low in
-        let g = M.high in
-        omega arith
 
     -- at the same one
     same : e' ≡ e → M.rest ≤ L.rest → 16 * k' ≤ 17 * k
@@ -119,9 +139,30 @@ level-compares k v k' v' L M h = at (cases_lt M.doublings L.doublings)
             omega arith
 
     at : (e' < e) ⊎ (e ≤ e') → 16 * k' ≤ 17 * k
-    at (inl x) = let z = earlier x in omega arith
+    at (inl x) = let z = fewer-doublings k v k' v' L M x in omega arith
     at (inr x) = within (cases_lt e e')
       where
         within : (e < e') ⊎ (e' ≤ e) → 16 * k' ≤ 17 * k
         within (inl y) = absurd (let g = M.great (omega arith) in let a = L.here in let b = M.here in let s = L.small in omega arith)
         within (inr y) = let z : e' ≡ e = omega arith in same z (let a = L.here in let b = M.here in omega arith)
+
+-- the buckets up to the level of the greatest key are enough
+pub enough-buckets : (greatest most level groups : ℕ) → max 3 greatest ≤ most → IsLevel most level → (level + 1) * 10 ≤ groups → HasBuckets greatest groups
+enough-buckets n m v g h L e = record {
+  all = λ r k b x B.
+      let l = level-rises k B.level m v B.right L (omega arith) in
+      let y = B.here in
+      omega arith;
+}
+
+-- and for fewer keys, or where there are more of them
+pub still-enough : (n n' groups groups' : ℕ) → HasBuckets n groups → n' ≤ n → groups ≤ groups' → HasBuckets n' groups'
+still-enough n n' g g' H l m = record { all = λ r k b h B. let x = H.all r k b (omega arith) B in omega arith }
+
+-- and where each of two numbers of keys has enough, and there are no more keys than either
+pub enough-for-both : (m n keys groups : ℕ) → HasBuckets m groups → HasBuckets n groups → ((most : ℕ) → m ≤ most → n ≤ most → keys ≤ most) → HasBuckets keys groups
+enough-for-both m n k g G H most = at (cases_lt m n)
+  where
+    at : (m < n) ⊎ (n ≤ m) → HasBuckets k g
+    at (inl l) = still-enough n k g g H (most n (omega arith) (omega arith)) (omega arith)
+    at (inr l) = still-enough m k g g G (most m (omega arith) (omega arith)) (omega arith)

@@ -1,77 +1,51 @@
 -- How great a key is.
-use Rattle.std.proofs.Common.{◌≡◌, ◌∙◌, ◌<◌, ◌≤◌, ◌+◌, ◌*◌, ◌/◌, ◌^◌, ◌⊎◌, inl, inr, ℕ, suc, max, min, refl, ap, sym, subst, arith}
-use Rattle.std.proofs.Math.Nat.{pow-suc}
+use Rattle.std.proofs.Common.{◌≡◌, ◌∙◌, ◌<◌, ◌≤◌, ◌+◌, ◌-◌, ◌*◌, ◌/◌, ◌^◌, ◌⊎◌, inl, inr, ℕ, zero, suc, max, refl, ap, sym, subst, arith}
+use Rattle.std.proofs.Math.Nat.{pow-suc, div-lt_iff_lt-mul, div-mul-le_self, le-div_iff_mul-le, lt-div-mul-add}
 use Rattle.std.proofs.Math.Pow.{pow_mono}
 use Rattle.std.proofs.lemmas.Bool.{cases_lt}
 use Rattle.std.proofs.lemmas.Nat.{mul-le, pow_pos}
 use Rattle.digram_index.specs.Ranking.{HasBuckets, IsLevel}
 
--- a key that was halved some times in some turns, as long as 32 or more was left
-pub record IsHalved (key rest doublings turns : ℕ) : Type 0 where
-  pub few : doublings ≤ turns
-  pub full : 32 ≤ rest → doublings ≡ turns
-  pub great : 0 < doublings → 16 ≤ rest
-  pub low : rest * 2 ^ doublings ≤ key
-  pub high : key < (rest + 1) * 2 ^ doublings
+-- a small key is its own level
+pub level-itself : (key : ℕ) → key < 32 → IsLevel key key
+level-itself key l = record { doublings = 0; rest = key; here = omega arith; small = l; great = λ h. absurd (omega arith); low = omega arith; high = omega arith }
 
-pub halved-none : (key : ℕ) → IsHalved key key 0 0
-halved-none key = record { few = omega arith; full = λ h. refl; great = λ h. absurd (omega arith); low = omega arith; high = omega arith }
+-- the place of the first binary digit of a key of 32 or more that is below 2^32
+pub first-digit : (key place : ℕ) → 32 ≤ key → key < 2 ^ 32 → 2 ^ place ≤ key → key < 2 * 2 ^ place → (5 ≤ place) × (place < 32)
+first-digit key place m s l h = (high (cases_lt place 5), low (cases_lt place 32))
+  where
+    high : (place < 5) ⊎ (5 ≤ place) → 5 ≤ place
+    high (inl x) = let p : 2 ^ place ≤ 2 ^ 4 = pow_mono (let y : place ≤ 4 = omega arith in y) in absurd (omega arith)
+    high (inr x) = x
 
-pub halved-stays : (key rest doublings turns : ℕ) → IsHalved key rest doublings turns → rest < 32 → IsHalved key rest doublings (turns + 1)
-halved-stays key rest d t H h = record { few = let f = H.few in omega arith; full = λ x. absurd (omega arith); great = H.great; low = H.low; high = H.high }
+    low : (place < 32) ⊎ (32 ≤ place) → place < 32
+    low (inl x) = x
+    low (inr x) = let p : 2 ^ 32 ≤ 2 ^ place = pow_mono x in absurd (omega arith)
 
-pub halved-next : (key rest doublings turns : ℕ) → IsHalved key rest doublings turns → 32 ≤ rest → IsHalved key (rest / 2) (doublings + 1) (turns + 1)
-halved-next key rest d t H h =
-    let q : ℕ = rest / 2 in
-    let a : 2 * q ≤ rest = omega arith in
-    let b : rest ≤ 2 * q + 1 = omega arith in
-    let e = doubled d in
-    let x : 2 * q * 2 ^ d ≤ rest * 2 ^ d = mul-le (2 * q) (2 ^ d) rest (2 ^ d) a (omega arith) in
-    let y : (rest + 1) * 2 ^ d ≤ (2 * q + 2) * 2 ^ d = mul-le (rest + 1) (2 ^ d) (2 * q + 2) (2 ^ d) (omega arith) (omega arith) in
+sixteen-times : (d place : ℕ) → place ≡ suc (suc (suc (suc d))) → 2 ^ place ≡ 16 * 2 ^ d
+sixteen-times d place e = ap (λ n. 2 ^ n) e ∙ omega (arith, pow-suc 2 d, pow-suc 2 (suc d), pow-suc 2 (suc (suc d)), pow-suc 2 (suc (suc (suc d))))
+
+-- the first five digits of a key
+pub five-digits : (key place : ℕ) → 5 ≤ place → key < 2 * 2 ^ place → key / 2 ^ (place - 4) < 32
+five-digits key place f h =
+    let w = sixteen-times (place - 4) place (omega arith) in
+    (div-lt_iff_lt-mul (pow_pos (place - 4))).1 (omega (arith, w))
+
+-- a greater key has the level of its first five digits
+pub digits-level : (key place : ℕ) → 5 ≤ place → 2 ^ place ≤ key → key < 2 * 2 ^ place → IsLevel key (16 * (place - 4) + key / 2 ^ (place - 4))
+digits-level key place f l h =
+    let d : ℕ = place - 4 in
+    let p = pow_pos d in
+    let w = sixteen-times d place (omega arith) in
     record {
-      few = let f = H.few in omega arith;
-      full = λ k. let f = H.full h in omega arith;
-      great = λ k. omega arith;
-      low = let l = H.low in subst (λ w. q * w ≤ key) (sym e) (to_low q (2 ^ d) (rest * 2 ^ d) x l);
-      high = let l = H.high in subst (λ w. key < (q + 1) * w) (sym e) (to_high q (2 ^ d) ((rest + 1) * 2 ^ d) y l);
+      doublings = d;
+      rest = key / 2 ^ d;
+      here = refl;
+      small = five-digits key place f h;
+      great = λ x. (le-div_iff_mul-le p).1 (omega (arith, w));
+      low = div-mul-le_self key (2 ^ d);
+      high = let n = lt-div-mul-add {a = key} p in omega (arith, n);
     }
-  where
-    doubled : (d : ℕ) → 2 ^ (d + 1) ≡ 2 ^ d * 2
-    doubled d = ap (λ n. 2 ^ n) (add_one d) ∙ pow-suc 2 d
-      where
-        add_one : (d : ℕ) → d + 1 ≡ suc d
-        add_one d = omega arith
-
-    to_low : {key : ℕ} (q w r : ℕ) → 2 * q * w ≤ r → r ≤ key → q * (w * 2) ≤ key
-    to_low q w r x l = omega arith
-
-    to_high : {key : ℕ} (q w r : ℕ) → r ≤ (2 * q + 2) * w → key < r → key < (q + 1) * (w * 2)
-    to_high q w r y l = omega arith
-
--- what is left at last is below 32, where the key is below 2^32
-pub halved-level : (key rest doublings : ℕ) → IsHalved key rest doublings 27 → key < 2 ^ 32 → IsLevel key (16 * doublings + min rest 31)
-halved-level key rest d H k = at (cases_lt rest 32)
-  where
-    at : (rest < 32) ⊎ (32 ≤ rest) → IsLevel key (16 * d + min rest 31)
-    at (inl x) = record { doublings = d; rest = rest; here = omega arith; small = x; great = H.great; low = H.low; high = H.high }
-    at (inr x) =
-        let l = subst (λ n. rest * 2 ^ n ≤ key) (H.full x) H.low in
-        absurd (omega arith)
-
-pub halved-exact : (key rest doublings : ℕ) → IsHalved key rest doublings 27 → (least : ℕ) → least ≤ 3 → (least ≤ 16 * doublings + min rest 31 → least ≤ key) × (least ≤ key → least ≤ 16 * doublings + min rest 31)
-halved-exact key rest d H least m = at (cases_lt 0 d)
-  where
-    at : (0 < d) ⊎ (d ≤ 0) → (least ≤ 16 * d + min rest 31 → least ≤ key) × (least ≤ key → least ≤ 16 * d + min rest 31)
-    at (inl x) =
-        let g = H.great x in
-        let l = H.low in
-        let y : rest * 1 ≤ rest * 2 ^ d = mul-le rest 1 rest (2 ^ d) (omega arith) (pow_pos d) in
-        (λ a. omega arith, λ b. omega arith)
-    at (inr x) =
-        let z : d ≡ 0 = omega arith in
-        let l = subst (λ n. rest * 2 ^ n ≤ key) z H.low in
-        let h = subst (λ n. key < (rest + 1) * 2 ^ n) z H.high in
-        (λ a. omega arith, λ b. omega arith)
 
 -- fewer doublings are of a smaller key
 fewer-doublings : (key level other lower : ℕ) (L : IsLevel key level) (M : IsLevel other lower) → M.doublings < L.doublings → other < key

@@ -1,9 +1,19 @@
-use Rattle.digram_index.proofs.Levels.{halved-stays, halved-next}
-use Rattle.digram_index.proofs.ranking.level.Goals.{then-rest-ge32, else-rest-ge32}
+use Rattle.std.proofs.Common.{arith}
+use Rattle.digram_index.proofs.Levels.{digits-level, first-digit, five-digits, level-itself}
 use Rattle.digram_index.proofs.ranking.level.Goals as goal
 
-pub loop-preserved : goal.loop-preserved
-loop-preserved c = elim c.if-rest-ge32.branch [
-  | then-rest-ge32 w ↦ rw w.rest-is (rw w.doublings-is (halved-next c.args.key c.loop.rest c.loop.doublings c.loop.counter c.loop.invariant w.if-rest-ge32.true))
-  | else-rest-ge32 w ↦ rw w.rest-is (rw w.doublings-is (halved-stays c.args.key c.loop.rest c.loop.doublings c.loop.counter c.loop.invariant w.if-rest-ge32.false))
-]
+pub returns-then-key-lt32-clause-level : goal.returns-then-key-lt32-clause-level
+returns-then-key-lt32-clause-level c = level-itself c.args.key c.if-key-lt32.true
+
+pub overflow_sub-doublings : goal.overflow_sub-doublings
+overflow_sub-doublings c = let p = first-digit c.args.key c.ilog2.result c.if-key-lt32.false c.requires c.ilog2.ensures.power_le c.ilog2.ensures.next_power_gt in omega (arith, p.0)
+
+pub returns-clause-small : goal.returns-clause-small
+returns-clause-small c =
+    let p = first-digit c.args.key c.ilog2.result c.if-key-lt32.false c.requires c.ilog2.ensures.power_le c.ilog2.ensures.next_power_gt in
+    omega (arith, p.1, five-digits c.args.key c.ilog2.result p.0 c.ilog2.ensures.next_power_gt)
+
+pub returns-clause-level : goal.returns-clause-level
+returns-clause-level c =
+    let p = first-digit c.args.key c.ilog2.result c.if-key-lt32.false c.requires c.ilog2.ensures.power_le c.ilog2.ensures.next_power_gt in
+    digits-level c.args.key c.ilog2.result p.0 c.ilog2.ensures.power_le c.ilog2.ensures.next_power_gt

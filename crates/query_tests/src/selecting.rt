@@ -140,16 +140,6 @@ fn four_siblings(alloc: Global) -> Result<Vec<(usize, Vec<Label>)>, AllocError> 
     Ok(bodies)
 }
 
-#[test]
-fn shared_siblings_are_selected_each(rt: HostRuntime) -> Result<(), Fail> {
-    let alloc = rt.alloc();
-    let names = names_of(alloc, &tables::TWINS)?;
-    let bodies = four_siblings(alloc)?;
-    let miss = first_miss(alloc, &names, bodies.as_slice(), &tables::OF_FOUR)?;
-    assert_eq!(rt; miss, None);
-    Ok(())
-}
-
 // <a><b><a/><a/><a/></b><b><a/><a/><a/></b></a>, where rule 0 is a(bottom, a(bottom, y1)).
 fn two_parents(alloc: Global) -> Result<Vec<(usize, Vec<Label>)>, AllocError> {
     let mut bodies = Vec::new(alloc);
@@ -177,12 +167,19 @@ fn two_parents(alloc: Global) -> Result<Vec<(usize, Vec<Label>)>, AllocError> {
 }
 
 #[test]
-fn nodes_behind_the_ends_of_paths_have_their_numbers(rt: HostRuntime) -> Result<(), Fail> {
+fn shared_rules_are_selected_at_each_call(rt: HostRuntime) -> Result<(), Fail> {
     let alloc = rt.alloc();
     let names = names_of(alloc, &tables::TWINS)?;
-    let bodies = two_parents(alloc)?;
-    let miss = first_miss(alloc, &names, bodies.as_slice(), &tables::OF_PARENTS)?;
-    assert_eq!(rt; miss, None);
+    let four = four_siblings(alloc)?;
+    assert_eq!(rt;
+        first_miss(alloc, &names, four.as_slice(), &tables::OF_FOUR)?,
+        None
+    );
+    let two = two_parents(alloc)?;
+    assert_eq!(rt;
+        first_miss(alloc, &names, two.as_slice(), &tables::OF_PARENTS)?,
+        None
+    );
     Ok(())
 }
 

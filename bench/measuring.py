@@ -7,9 +7,20 @@ import subprocess
 import sys
 
 HERE = os.path.dirname(os.path.abspath(__file__))
-TREESTORE = os.path.join(HERE, "..", "treestore")
+SCRIPT = os.path.join(HERE, "..", "treestore")
+TREESTORE = os.path.join(HERE, "..", "crates", "treestore", "out", "treestore")
+SETTING = re.compile(r"(\w+)=\$\{\1:-(.*)\}")  # a line of the script for the C library
 LIMIT = 120  # processor seconds, behind which a program is ended
 SHORTEST = 0.2  # seconds of a measurement of a command
+
+
+def build():
+    """Has the script build the program where it isn't built, and takes over its settings of the C library. The program is measured without
+    the script, which looks for newer sources each time."""
+    subprocess.run([SCRIPT], stdin=subprocess.DEVNULL, check=True)
+    with open(SCRIPT) as script:
+        for setting in filter(None, map(SETTING.match, script)):
+            os.environ.setdefault(*setting.groups())
 
 
 def limit_time():

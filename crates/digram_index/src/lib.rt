@@ -4,7 +4,7 @@
 //! list in which one item is put in or taken out in a constant number of steps, and `thread` is what it keeps at a place;
 //! `uppers` has the upper node of each lower one; `patterns` tells digrams apart, and `packed_pattern` is what it keeps of one;
 //! `numbers` gives rules numbers that stay; `ranking` keeps the digrams in buckets by rank and count; `entries` joins these, and
-//! knows nothing of grammars. `index` links what it reads of a grammar and answers which digram to replace next (`top`, `twice`);
+//! knows nothing of grammars; `room` is how their lists grow. `index` links what it reads of a grammar and answers which digram to replace next (`top`, `twice`);
 //! `nodes` reads, unlinks and links single nodes, `building` all those of a rule or of a grammar.
 //! Contracts see the cells by node number (`specs/Linked.antt`) and compare them with the occurrences of a grammar
 //! (`specs/Digrams.antt`).
@@ -18,6 +18,7 @@ mod numbers;
 mod packed_pattern;
 mod patterns;
 mod ranking;
+mod room;
 mod thread;
 mod threads;
 mod triples;

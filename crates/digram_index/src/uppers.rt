@@ -2,6 +2,7 @@
 ghost use Rattle.std.specs.Prelude.{◌≡◌, ◌≢◌, ◌<◌, ◌≤◌, [], ℕ, length, get_or, OnOk, IsOk};
 ghost use Rattle.digram_index.specs.Uppers.{numbers_of};
 
+use crate::room::make_room;
 use slt_grammar::Key;
 use std::alloc::{AllocError, Global};
 use std::marker::Model;
@@ -70,9 +71,7 @@ fn fill(keys: &mut Vec<Key>, limit: usize) -> Result<(), AllocError>
     ensures succeeds { limit ≤ length keys.old.items → IsOk result }
 {
     let count = keys.len();
-    if count < limit {
-        keys.reserve_exact(limit - count)?;
-    }
+    make_room(keys, limit.saturating_sub(count))?;
     for _ in count..limit {
         keys.push(Key::of(0))?;
     }

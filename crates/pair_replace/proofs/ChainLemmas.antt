@@ -6,7 +6,9 @@ use Rattle.slt_grammar.specs.Keyed.{Keyed, IsKeyed, nodes_at}
 use Rattle.slt_grammar.specs.declared.digram.Digram.{Digram}
 use Rattle.digram_index.specs.Digrams.{Cell, OccursAt}
 use Rattle.digram_index.specs.Linked.{Linked, cell}
-use Rattle.digram_index.proofs.Apartness.{stands, one-key}
+use Rattle.digram_index.specs.Keeping.{AreOccurrences}
+use Rattle.digram_index.specs.Settled.{NodePair}
+use Rattle.digram_index.proofs.Apartness.{Stood, stands, one-key, meet}
 use Rattle.digram_index.proofs.ParentLemmas.{parent-there}
 use Rattle.digram_index.proofs.RankLemmas.{digram-sound, digram-same}
 use Rattle.slt_grammar.specs.contracts.digram.DigramPartialEq.TheImpl as eqs
@@ -47,3 +49,30 @@ head-same I J d k same H = record {
       let v : IsLinkedAs J d (upper_at I k) = subst (λ (n : ℕ). IsLinkedAs J d n) u w in
       H.first (v.0, (sym (same (upper_at I k)) ∙ v.1.0, v.1.1));
 }
+
+-- an occurrence whose labels differ is the head of its chain
+pub head-differing : (g : Keyed) → IsKeyed g → (I : Linked) (d : Digram) → AreOccurrences g.rules I → d.upper ≢ d.lower → (low : Key) → IsLinkedAs I d low.number → IsHead I d low.number
+head-differing g K I d occurrences differ low w = record {
+  linked = w;
+  first = λ v.
+      let up : Key = record { number = upper_at I low.number } in
+      differ (sym (meet g K d (pair up v) (pair low w) (stood up v) (stood low w) (linked-upper I d low.number w.0 w.1.0)).labels);
+}
+  where
+    pair : (key : Key) → IsLinkedAs I d key.number → NodePair
+    pair key v = record { low = key.number; high = v.0.upper }
+
+    stood : (key : Key) (v : IsLinkedAs I d key.number) → Stood g.rules d (pair key v)
+    stood key v =
+        let O = occurrences key v.0 v.1.0 in
+        record {
+          rule = O.rule;
+          place = O.place;
+          key = key;
+          occurrence = v.0;
+          key_at = O.there;
+          at = stands g.rules O.rule O.place key v.0 O.there O.here;
+          low = refl;
+          high = refl;
+          digram = v.1.1;
+        }

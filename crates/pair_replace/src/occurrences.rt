@@ -1,5 +1,5 @@
 // Where a digram occurs.
-ghost use Rattle.std.specs.Prelude.{◌≡◌, ℕ, IfSome, IfNone, MatchBool};
+ghost use Rattle.std.specs.Prelude.{◌≡◌, ◌≢◌, ℕ, false, IfSome, IfNone, MatchBool};
 ghost use Rattle.digram_index.specs.Digrams.{Cell, OccursAt};
 ghost use Rattle.digram_index.specs.Keeping.{AreOccurrences};
 ghost use Rattle.pair_replace.specs.Chains.{IsHead, IsLinkedAs};
@@ -37,6 +37,9 @@ fn head(grammar: &Grammar, index: &Index, digram: Digram, lower: Key) -> Key
     ensures { IsHead index.now digram result.number }
 {
     let _limit = grammar.limit();
+    if !can_chain(digram) {
+        return lower;
+    }
     let mut first = lower;
     let (_, mut above) = read(grammar, first);
     while occurs(grammar, index, digram, above) {
@@ -75,12 +78,22 @@ fn read(grammar: &Grammar, lower: Key) -> (Digram, Key)
     (digram, high)
 }
 
-// The node two steps down a chain from the lower node of an occurrence.
+// Whether the lower node of an occurrence can be the upper node of another: it has one label.
+fn can_chain(digram: Digram) -> bool
+    ensures { result ≡ false → digram.upper ≢ digram.lower }
+{
+    digram.upper == digram.lower
+}
+
+// The node two steps down a chain from the lower node of an occurrence, where there are chains.
 pub(crate) fn further(grammar: &Grammar, digram: Digram, lower: Key) -> Option<Key>
     requires { (o : Cell) × OccursAt grammar.now.rules lower o }
 {
     // The call tells that the rules' bodies are terms.
     let _limit = grammar.limit();
+    if !can_chain(digram) {
+        return None;
+    }
     let child = digram.place.checked_sub(1)?;
     let next = item(grammar, lower).kids.get(child)?;
     item(grammar, next).kids.get(child)

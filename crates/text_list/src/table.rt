@@ -1,5 +1,5 @@
 // The texts of a document while it is read.
-ghost use Rattle.std.specs.Prelude.{◌≡◌, ◌++◌, [], ◌∷◌, ◌⊎◌, Some, length, slice_get, OnOk, OnErr, IfOk, IfSome};
+ghost use Rattle.std.specs.Prelude.{◌≡◌, ◌++◌, [], ◌∷◌, ◌⊎◌, ℕ, Some, length, slice_get, OnOk, OnErr, IfOk};
 ghost use Rattle.std.specs.Option.{option_copied};
 ghost use Rattle.text_list.specs.Numbers.{texts_at, AreWithin};
 
@@ -130,10 +130,10 @@ impl Interned {
         if self.texts.len() >= self.slots.len() / 2 {
             self.widen()?;
         }
-        let slot = slot_of(&self.texts, self.slots.as_slice(), text);
-        if let Some(number) = self.found(slot, text) {
-            return Ok(number);
-        }
+        let slot = match self.look_up(text) {
+            Looked::Found(number) => return Ok(number),
+            Looked::Slot(slot) => slot,
+        };
         let len = self.texts.len();
         if len >= MOST_KEPT {
             return Err(AllocError);
@@ -146,13 +146,22 @@ impl Interned {
         Ok(number)
     }
 
-    // The number in a slot, where it names this very text.
-    fn found(&self, slot: usize, text: &[u8]) -> Option<u32>
-        ensures { IfSome result (λ n. slice_get self.now n ≡ Some text.now) }
+    // Looks for a text in the slots from its hash on, up to a free one.
+    fn look_up(&self, text: &[u8]) -> Looked
+        ensures { (n : ℕ) → result ≡ Looked.Found n → slice_get self.now n ≡ Some text.now }
     {
-        let number = *self.slots.get(slot)?;
-        let found = self.texts.get(number as usize)?;
-        if found == text { Some(number) } else { None }
+        let hash = hash_of(text);
+        let mut slot = 0;
+        for look in 0..MOST_LOOKS {
+            slot = slot_at(hash, look, self.slots.len());
+            let number = self.slots.get(slot).copied().unwrap_or(FREE);
+            match self.texts.get(number as usize) {
+                Some(found) if found == text => return Looked::Found(number),
+                Some(_) => {}
+                None => break,
+            }
+        }
+        Looked::Slot(slot)
     }
 
     // Doubles the slots, and finds each text a new one.
@@ -166,7 +175,7 @@ impl Interned {
             let Some(text) = self.texts.get(number) else {
                 break;
             };
-            let slot = slot_of(&self.texts, slots.as_slice(), text);
+            let slot = free_slot(slots.as_slice(), text);
             if slot < slots.len() {
                 slots[slot] = number as u32;
             }
@@ -176,27 +185,29 @@ impl Interned {
     }
 }
 
-// The slot for a text: the first, from its hash on, that names the text or none, and else the last of those that are looked at.
-fn slot_of(texts: &Blob, slots: &[u32], text: &[u8]) -> usize {
+// What looking for a text finds: its number, or a slot for it.
+#[derive(Clone, Copy, Drop)]
+enum Looked {
+    Found(u32),
+    Slot(usize),
+}
+
+// A slot for a text that none names: the first free one from its hash on, and else the last of those that are looked at.
+fn free_slot(slots: &[u32], text: &[u8]) -> usize {
     let hash = hash_of(text);
     let mut slot = 0;
     for look in 0..MOST_LOOKS {
         slot = slot_at(hash, look, slots.len());
-        let number = slots.get(slot).copied().unwrap_or(FREE);
-        match texts.get(number as usize) {
-            Some(other) if other != text => (),
-            _ => return slot,
+        if slots.get(slot).copied().unwrap_or(FREE) == FREE {
+            break;
         }
     }
     slot
 }
 
-// So many slots behind the one of a hash, round at the end.
+// So many slots behind the one of a hash, round at the end. How many there are is a power of two.
 fn slot_at(hash: u64, look: usize, count: usize) -> usize {
-    if count == 0 {
-        return 0;
-    }
-    (hash as usize).wrapping_add(look) % count
+    (hash as usize).wrapping_add(look) & count.saturating_sub(1)
 }
 
 fn hash_of(text: &[u8]) -> u64 {

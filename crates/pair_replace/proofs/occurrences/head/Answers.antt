@@ -1,5 +1,5 @@
-use Rattle.std.proofs.Common.{sym, ◌∙◌}
-use Rattle.pair_replace.proofs.ChainLemmas.{upper-before, linked-upper}
+use Rattle.std.proofs.Common.{◌≡◌, false, rules, sym, ◌∙◌}
+use Rattle.pair_replace.proofs.ChainLemmas.{upper-before, linked-upper, head-differing}
 use Rattle.pair_replace.proofs.occurrences.head.Goals as goal
 
 pub loop-first-init : goal.loop-first-init
@@ -23,3 +23,8 @@ loop-first-preserved c =
       linked = w;
       upper = sym (c.read-above-in-loop-first.ensures.upper w.0 (c.requires.occurrences c.loop-first.above w.0 w.1.0)) ∙ sym (linked-upper c.args.index.now c.args.digram c.loop-first.above.number w.0 w.1.0);
     }
+
+pub returns-then-not-can_chain : goal.returns-then-not-can_chain
+returns-then-not-can_chain c =
+    let x : c.can_chain.result ≡ false = search rules in
+    head-differing c.args.grammar.now c.limit-limit.ensures.keyed c.args.index.now c.args.digram c.requires.occurrences (c.can_chain.ensures x) c.args.lower c.requires.linked

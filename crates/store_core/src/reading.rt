@@ -16,7 +16,7 @@ use xml_profile::{Reader, XmlError};
 pub(crate) const FILE_LIMIT: usize = 1 << 30;
 
 /// A subterm of the code that is used less often has no rule before settling, which then finds smaller rules.
-const LEAST_USES: usize = 32;
+const LEAST_USES: usize = 16;
 
 /// How many bytes of a file are read at once.
 pub(crate) const PIECE: usize = 1 << 16;

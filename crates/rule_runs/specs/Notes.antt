@@ -1,6 +1,5 @@
 -- Bodies as a run downward reads them.
-use Rattle.std.specs.Prelude.{◌≡◌, ℕ, ◌+◌, List, [], ◌∷◌, length, get_or, take, drop, reverse, Option, Some, None, Vec, slice_get}
-use Rattle.std.specs.Global.{Global}
+use Rattle.std.specs.Prelude.{◌≡◌, ◌≤◌, ℕ, ◌+◌, List, [], ◌∷◌, length, get_or, take, drop, reverse, map, Option, Some, None, IfSome, option_map, slice_get, slice_range}
 use Rattle.rule_arena.specs.declared.label.Label.{Label}
 use Rattle.rule_arena.specs.declared.label.Label.TheVariants.{Bottom, Symbol, Call, Param}
 use Rattle.slt_grammar.specs.Algebras.{Algebra, ranks_of}
@@ -8,6 +7,7 @@ use Rattle.slt_grammar.specs.Grammars.{body_at}
 use Rattle.rule_runs.specs.Reached.{RuleStates, states_of}
 use Rattle.rule_runs.specs.Risen.{pair_at}
 use Rattle.slt_grammar.specs.declared.rules.Rule.{Rule}
+use Rattle.rule_runs.specs.declared.kept.Span.{Span}
 use Rattle.rule_runs.specs.declared.notes.Note.{Note}
 use Rattle.rule_runs.specs.declared.notes.Note.TheVariants.{Bottom as NoteBottom, Param as NoteParam, Symbol as NoteSymbol, Call as NoteCall}
 
@@ -28,17 +28,25 @@ module _ {S : Type 0} (A : Algebra S) (G : List Rule) (keys : List (RuleStates S
   AreNotes args (l ∷ ls) (n ∷ ns) = NoteIs l (states_of A G args ls) n × AreNotes args ls ns
 
   -- what is kept for each pair of the table: nothing yet, or the notes of its body, the last node first
-  pub record AreKept (kept : List (Option (Vec (Note S) Global))) : Type 0 where
+  pub record AreKept (kept : List (Option (List (Note S)))) : Type 0 where
     pub rows : length kept ≡ length keys
-    pub noted : (i : ℕ) (notes : Vec (Note S) Global) → slice_get kept i ≡ Some (Some notes) → AreNotes (pair_at keys i).1 (body_at G (pair_at keys i).0) (reverse notes.items)
+    pub noted : (i : ℕ) (notes : List (Note S)) → slice_get kept i ≡ Some (Some notes) → AreNotes (pair_at keys i).1 (body_at G (pair_at keys i).0) (reverse notes)
 
 -- the body of a pair is kept
-abbrev pub HasBody : {S : Type 0} → List (Option (Vec (Note S) Global)) → ℕ → Type 0
-HasBody {S} kept i = (notes : Vec (Note S) Global) × (slice_get kept i ≡ Some (Some notes))
+abbrev pub HasBody : {S : Type 0} → List (Option (List (Note S))) → ℕ → Type 0
+HasBody {S} kept i = (notes : List (Note S)) × (slice_get kept i ≡ Some (Some notes))
 
 -- how many nodes the bodies have that are not kept yet
-abbrev pub unread : {S : Type 0} → List Rule → List (RuleStates S) → List (Option (Vec (Note S) Global)) → ℕ
+abbrev pub unread : {S : Type 0} → List Rule → List (RuleStates S) → List (Option (List (Note S))) → ℕ
 unread G [] ms = 0
 unread G (k ∷ ks) [] = length (body_at G k.0) + unread G ks []
 unread G (k ∷ ks) (None ∷ ms) = length (body_at G k.0) + unread G ks ms
 unread G (k ∷ ks) (Some notes ∷ ms) = unread G ks ms
+
+-- the notes of each body, where they stand in one list with those of the others
+abbrev pub kept_of : {S : Type 0} → List (Note S) → List (Option Span) → List (Option (List (Note S)))
+kept_of notes spans = map (option_map (λ span. slice_range notes span.begin span.end)) spans
+
+-- a body's notes stand among so many
+abbrev pub IsWithin : ℕ → Option Span → Type 0
+IsWithin count o = IfSome o (λ span. (span.begin ≤ span.end) × (span.end ≤ count))

@@ -56,30 +56,35 @@ pub(crate) fn begin<A: Falling, L: Ledger>(
     requires run { IsRun (A.algebra automaton.now) (rules_of grammar.now.rules) risen.now.known }
     requires there { spot.pair < length (keys risen.now.known) }
     requires met { Falls A.State A.Down (A.algebra automaton.now) (A.downward automaton.now) (rules_of grammar.now.rules) (pair_at (keys risen.now.known) spot.pair).0 (pair_at (keys risen.now.known) spot.pair).1 spot.down }
-    requires kept { AreKept (A.algebra automaton.now) (rules_of grammar.now.rules) (keys risen.now.known) bodies.old.kept.items }
+    requires kept { AreKept (A.algebra automaton.now) (rules_of grammar.now.rules) (keys risen.now.known) bodies.old }
     requires fresh { marks.old.top ≡ [] }
-    ensures kept { AreKept (A.algebra automaton.now) (rules_of grammar.now.rules) (keys risen.now.known) bodies.new.kept.items }
-    ensures stays { (i : ℕ) → HasBody bodies.old.kept.items i → HasBody bodies.new.kept.items i }
-    ensures read { OnOk result (HasBody bodies.new.kept.items spot.pair) }
+    ensures kept { AreKept (A.algebra automaton.now) (rules_of grammar.now.rules) (keys risen.now.known) bodies.new }
+    ensures stays { (i : ℕ) → HasBody bodies.old i → HasBody bodies.new i }
+    ensures read { OnOk result (HasBody bodies.new spot.pair) }
     ensures spot { IfOk result (λ descent. descent.spot ≡ spot) }
     ensures stands { IfOk result (λ descent. (lists : List (Vec Part TheGlobal)) → Standing (A.algebra automaton.now) (A.downward automaton.now) (rules_of grammar.now.rules) (keys risen.now.known) lists descent marks.new.top) }
     ensures below { OnOk result (marks.new.below ≡ marks.old.below) }
     ensures cost { IfOk result (λ descent. descent.left ≡ length (body_at (rules_of grammar.now.rules) (pair_at (keys risen.now.known) spot.pair).0)) }
     ensures steps { steps.new ≤ steps.old + 2 * length (body_at (rules_of grammar.now.rules) (pair_at (keys risen.now.known) spot.pair).0) }
     ensures counted { steps.old ≤ steps.new }
-    ensures reads { steps.new ≤ steps.old + 2 * unread (rules_of grammar.now.rules) (keys risen.now.known) bodies.old.kept.items }
-    ensures once { OnOk result (steps.new + 2 * unread (rules_of grammar.now.rules) (keys risen.now.known) bodies.new.kept.items ≤ steps.old + 2 * unread (rules_of grammar.now.rules) (keys risen.now.known) bodies.old.kept.items) }
+    ensures reads { steps.new ≤ steps.old + 2 * unread (rules_of grammar.now.rules) (keys risen.now.known) bodies.old }
+    ensures once { OnOk result (steps.new + 2 * unread (rules_of grammar.now.rules) (keys risen.now.known) bodies.new ≤ steps.old + 2 * unread (rules_of grammar.now.rules) (keys risen.now.known) bodies.old) }
 {
     // The call tells that the rules are a grammar.
     let _rules = grammar.rules();
     let left = read(alloc, automaton, grammar, risen, bodies, spot.pair, steps)?;
+    let Some(pair) = risen.known.pair(spot.pair) else {
+        unreachable!()
+    };
+    // Each parameter is handed a down state once.
+    let handed = Vec::with_capacity(alloc, pair.states.len())?;
     marks.push(Mark::Term(spot.down.copy()?))?;
     Ok(Descent {
         spot,
         left,
         here: Here::new(alloc),
         outcome: Outcome {
-            handed: Vec::new(alloc),
+            handed,
             last: Told::NOTHING,
         },
     })
@@ -91,14 +96,14 @@ pub(crate) fn descend<A: Falling>(
     automaton: &A,
     grammar: &Grammar,
     risen: &RiseTable<A>,
-    notes: &Vec<Note<A::State>>,
+    notes: &[Note<A::State>],
     known: &Spots<A::Down>,
     lists: &mut Vec<Vec<Part>>,
     marks: &mut Layers<Mark<A::Down>>,
     descent: &mut Descent<A::Down>,
 ) -> Result<Option<Spot<A::Down>>, AllocError>
     requires run { IsRun (A.algebra automaton.now) (rules_of grammar.now.rules) risen.now.known }
-    requires noted { AreNotes (A.algebra automaton.now) (rules_of grammar.now.rules) (keys risen.now.known) (pair_at (keys risen.now.known) descent.old.spot.pair).1 (body_at (rules_of grammar.now.rules) (pair_at (keys risen.now.known) descent.old.spot.pair).0) (reverse notes.now.items) }
+    requires noted { AreNotes (A.algebra automaton.now) (rules_of grammar.now.rules) (keys risen.now.known) (pair_at (keys risen.now.known) descent.old.spot.pair).1 (body_at (rules_of grammar.now.rules) (pair_at (keys risen.now.known) descent.old.spot.pair).0) (reverse notes.now) }
     requires known { All (λ e. HasOutcome (A.algebra automaton.now) (A.downward automaton.now) (rules_of grammar.now.rules) (keys risen.now.known) lists.old.items e.0 e.1) known.now }
     requires earlier { AreEarlier lists.old.items }
     requires there { descent.old.spot.pair < length (keys risen.now.known) }

@@ -1,5 +1,5 @@
-// The bodies that a run downward reads, as their notes: each is read once.
-ghost use Rattle.std.specs.Prelude.{◌≡◌, ◌+◌, ◌*◌, ◌<◌, ◌≤◌, ℕ, List, Some, Vec, length, slice_get, IfOk, IfSome, IfNone, OnOk};
+// The bodies that a run downward reads, as their notes: each is read once, and the notes of all stand in one list.
+ghost use Rattle.std.specs.Prelude.{◌≡◌, ◌+◌, ◌*◌, ◌<◌, ◌≤◌, ℕ, List, Some, length, slice_get, IfOk, IfSome, IfNone, OnOk};
 ghost use Rattle.slt_grammar.specs.Algebras.{Algebra};
 ghost use Rattle.slt_grammar.specs.Grammars.{body_at};
 ghost use Rattle.slt_grammar.specs.Keyed.{rules_of};
@@ -14,40 +14,64 @@ use crate::rising::RiseTable;
 use read_steps::Steps;
 use slt_grammar::{Grammar, Label, Rising};
 use std::alloc::{AllocError, Global};
+use std::marker::Model;
 use std::sync::ledger::Ledger;
 
-// For each pair of the table of a run upward the notes of its body, the last node first, once it was read.
+// Where the notes of a body stand among those of all.
+#[derive(Clone, Copy, Drop)]
+pub(crate) struct Span {
+    begin: usize,
+    end: usize,
+}
+
+// For each pair of the table of a run upward the notes of its body, the last node first, once it was read. It is seen as the list of
+// these.
 #[derive(Drop)]
 pub(crate) struct Bodies<S: Drop> {
-    pub(crate) kept: Vec<Option<Vec<Note<S>>>>,
+    // The notes of all bodies in the order in which they were read, so that a body takes no memory of its own.
+    notes: Vec<Note<S>>,
+    spans: Vec<Option<Span>>,
     // What reading a body needs, kept for the next one.
     labels: Vec<Label>,
     states: Vec<S>,
 }
 
+impl<S: Drop> Model for Bodies<S> {
+    ghost use Rattle.std.specs.Prelude.{List, Option, length, All};
+    ghost use Rattle.rule_runs.specs.declared.notes.Note.{Note};
+    ghost use Rattle.rule_runs.specs.Notes.{kept_of, IsWithin};
+
+    ghost Value = { List (Option (List (Note S))) };
+
+    ghost view = { λ b. kept_of b.notes.items b.spans.items };
+
+    ghost invariant = { λ b. All (IsWithin (length b.notes.items)) b.spans.items };
+}
+
 impl<S: Drop> Bodies<S> {
     // Bodies of which none was read.
     pub(crate) fn new(alloc: Global, pairs: usize) -> Result<Bodies<S>, AllocError>
-        ensures kept { (A : Algebra S) (G : List Rule) (ks : List (RuleStates S)) → length ks ≡ pairs → IfOk result (λ bodies. AreKept A G ks bodies.kept.items) }
+        ensures kept { (A : Algebra S) (G : List Rule) (ks : List (RuleStates S)) → length ks ≡ pairs → IfOk result (λ bodies. AreKept A G ks bodies) }
     {
-        let mut kept = Vec::with_capacity(alloc, pairs)?;
+        let mut spans = Vec::with_capacity(alloc, pairs)?;
         'pairs: for _i in 0..pairs {
-            kept.push(None)?;
+            spans.push(None)?;
         }
         Ok(Bodies {
-            kept,
+            notes: Vec::new(alloc),
+            spans,
             labels: Vec::new(alloc),
             states: Vec::new(alloc),
         })
     }
 
     // The notes of a pair's body, if it was read.
-    pub(crate) fn notes(&self, pair: usize) -> Option<&Vec<Note<S>>>
-        ensures some { IfSome result (λ notes. slice_get self.now.kept.items pair ≡ Some (Some notes.now)) }
-        ensures none { IfNone result (HasBody self.now.kept.items pair → ⊥) }
+    pub(crate) fn notes(&self, pair: usize) -> Option<&[Note<S>]>
+        ensures some { IfSome result (λ notes. slice_get self.now pair ≡ Some (Some notes.now)) }
+        ensures none { IfNone result (HasBody self.now pair → ⊥) }
     {
-        match self.kept.get(pair) {
-            Some(Some(notes)) => Some(notes),
+        match self.spans.get(pair) {
+            Some(Some(span)) => Some(&self.notes[span.begin..span.end]),
             _ => None,
         }
     }
@@ -65,15 +89,15 @@ pub(crate) fn read<A: Rising, L: Ledger>(
 ) -> Result<usize, AllocError>
     requires run { IsRun (A.algebra automaton.now) (rules_of grammar.now.rules) risen.now.known }
     requires there { pair < length (keys risen.now.known) }
-    requires kept { AreKept (A.algebra automaton.now) (rules_of grammar.now.rules) (keys risen.now.known) bodies.old.kept.items }
-    ensures kept { AreKept (A.algebra automaton.now) (rules_of grammar.now.rules) (keys risen.now.known) bodies.new.kept.items }
-    ensures stays { (i : ℕ) → HasBody bodies.old.kept.items i → HasBody bodies.new.kept.items i }
-    ensures read { OnOk result (HasBody bodies.new.kept.items pair) }
+    requires kept { AreKept (A.algebra automaton.now) (rules_of grammar.now.rules) (keys risen.now.known) bodies.old }
+    ensures kept { AreKept (A.algebra automaton.now) (rules_of grammar.now.rules) (keys risen.now.known) bodies.new }
+    ensures stays { (i : ℕ) → HasBody bodies.old i → HasBody bodies.new i }
+    ensures read { OnOk result (HasBody bodies.new pair) }
     ensures nodes { IfOk result (λ nodes. nodes ≡ length (body_at (rules_of grammar.now.rules) (pair_at (keys risen.now.known) pair).0)) }
     ensures steps { steps.new ≤ steps.old + 2 * length (body_at (rules_of grammar.now.rules) (pair_at (keys risen.now.known) pair).0) }
     ensures counted { steps.old ≤ steps.new }
-    ensures reads { steps.new ≤ steps.old + 2 * unread (rules_of grammar.now.rules) (keys risen.now.known) bodies.old.kept.items }
-    ensures once { OnOk result (steps.new + 2 * unread (rules_of grammar.now.rules) (keys risen.now.known) bodies.new.kept.items ≤ steps.old + 2 * unread (rules_of grammar.now.rules) (keys risen.now.known) bodies.old.kept.items) }
+    ensures reads { steps.new ≤ steps.old + 2 * unread (rules_of grammar.now.rules) (keys risen.now.known) bodies.old }
+    ensures once { OnOk result (steps.new + 2 * unread (rules_of grammar.now.rules) (keys risen.now.known) bodies.new ≤ steps.old + 2 * unread (rules_of grammar.now.rules) (keys risen.now.known) bodies.old) }
 {
     // The call tells that the rules are a grammar.
     let _rules = grammar.rules();
@@ -85,7 +109,8 @@ pub(crate) fn read<A: Rising, L: Ledger>(
     };
     bodies.labels.clear();
     append_body(grammar, met.rule, &mut bodies.labels, steps)?;
-    let notes = note_labels(
+    let begin = bodies.notes.len();
+    note_labels(
         alloc,
         automaton,
         grammar,
@@ -93,7 +118,11 @@ pub(crate) fn read<A: Rising, L: Ledger>(
         met,
         &bodies.labels,
         &mut bodies.states,
+        &mut bodies.notes,
     )?;
-    bodies.kept[pair] = Some(notes);
+    bodies.spans[pair] = Some(Span {
+        begin,
+        end: bodies.notes.len(),
+    });
     Ok(bodies.labels.len())
 }

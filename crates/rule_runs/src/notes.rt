@@ -1,5 +1,5 @@
 // A body as a run downward reads it: its nodes with the states from below that each of them asks for.
-ghost use Rattle.std.specs.Prelude.{◌≡◌, ◌≢◌, ◌+◌, ◌*◌, ◌<◌, ◌≤◌, ◌∷◌, ℕ, Some, length, slice_get, take, drop, reverse, vec_len, IfOk, IfSome, All};
+ghost use Rattle.std.specs.Prelude.{◌≡◌, ◌≢◌, ◌+◌, ◌*◌, ◌<◌, ◌≤◌, ◌∷◌, ◌++◌, ℕ, List, Some, length, slice_get, take, drop, reverse, vec_len, IfOk, IfSome, OnOk, All};
 ghost use Rattle.slt_grammar.specs.Algebras.{apply, all_meanings, ranks_of};
 ghost use Rattle.slt_grammar.specs.Bodies.{arity};
 ghost use Rattle.slt_grammar.specs.Grammars.{body_at, rank_at};
@@ -61,7 +61,7 @@ fn note_label<A: Rising>(
     }
 }
 
-// The notes of a pair's body, the last node first.
+// Puts the notes of a pair's body, the last node first, behind those of other bodies.
 pub(crate) fn note_labels<A: Rising>(
     alloc: Global,
     automaton: &A,
@@ -70,16 +70,17 @@ pub(crate) fn note_labels<A: Rising>(
     pair: &Pair<A::State>,
     labels: &Vec<Label>,
     stack: &mut Vec<A::State>,
-) -> Result<Vec<Note<A::State>>, AllocError>
+    notes: &mut Vec<Note<A::State>>,
+) -> Result<(), AllocError>
     requires right { All (λ e. e.1 ≡ state_at (A.algebra automaton.now) (rules_of grammar.now.rules) e.0) known.now }
     requires pair { IsPair (rules_of grammar.now.rules) (key_of pair.now) }
     requires closed { AreKnown (A.algebra automaton.now) (rules_of grammar.now.rules) known.now (key_of pair.now) 0 }
     requires labels { labels.now.items ≡ body_at (rules_of grammar.now.rules) pair.now.rule }
-    ensures { IfOk result (λ notes. AreNotes (A.algebra automaton.now) (rules_of grammar.now.rules) (keys known.now) pair.now.states.items labels.now.items (reverse notes.items)) }
+    ensures { (more : List (Note A.State)) × (notes.new.items ≡ notes.old.items ++ more) × OnOk result (AreNotes (A.algebra automaton.now) (rules_of grammar.now.rules) (keys known.now) pair.now.states.items labels.now.items (reverse more)) }
 {
     // The call tells that the rules are a grammar.
     let _rules = grammar.rules();
-    let mut notes = Vec::with_capacity(alloc, labels.len())?;
+    notes.reserve(labels.len())?;
     stack.clear();
     let mut waiting = pair.states.len();
     let mut left = labels.len();
@@ -94,5 +95,5 @@ pub(crate) fn note_labels<A: Rising>(
             notes.push(note_label(alloc, automaton, grammar, known, label, stack)?)?;
         }
     }
-    Ok(notes)
+    Ok(())
 }

@@ -18,7 +18,7 @@ returns-clause-stands g c = λ lists.
     let k = pair_at ks c.args.spot.pair in
     let p = pair-of A W G c.args.risen.now.known c.requires.run c.args.spot.pair c.requires.there in
     let body = c.in_ok-left.ensures.read in
-    let ns = body.0.items in
+    let ns = body.0 in
     let noted = c.read.ensures.kept.noted c.args.spot.pair body.0 body.1 in
     let n : c.in_ok-left.left ≡ length ns = c.in_ok-left.ensures.nodes ∙ sym (notes-length A G ks k.1 (body_at G k.0) (reverse ns) noted) ∙ length-reverse ns in
     let all : take c.in_ok-left.left ns ≡ ns = take_all c.in_ok-left.left ns (omega arith) in
@@ -27,5 +27,5 @@ returns-clause-stands g c = λ lists.
       notes = ns;
       noted = noted;
       within = omega arith;
-      walks = rw (all, m) (walk-start A W G c.rules-rules.ensures.grammar k p ks lists c.args.spot.down (reverse ns) c.new.result _ c.requires.met noted c.new-2.ensures.items (c.new.ensures lists));
+      walks = rw (all, m) (walk-start A W G c.rules-rules.ensures.grammar k p ks lists c.args.spot.down (reverse ns) c.new.result _ c.requires.met noted c.in_ok-handed.ensures.items (c.new.ensures lists));
     }

@@ -27,7 +27,7 @@ notes-init g c =
     let ks = keys c.args.risen.now.known in
     let f = c.args.descent.now in
     let k = pair_at ks f.spot.pair in
-    let ns = c.args.notes.now.items in
+    let ns = c.args.notes.now in
     let st = c.requires.stands in
     let same = same-reversed A G ks c.requires.run.distinct k.1 (body_at G k.0) st.notes ns st.noted c.requires.noted in
     record {
@@ -50,7 +50,7 @@ next_term-requires g c =
     let k = pair_at ks f.spot.pair in
     let ls = c.notes.lists.items in
     let small : nodes_in (value_at G k.0) < 2 ^ 63 = subst (λ s. nodes_in (value_at G (pair_at ks s.pair).0) < 2 ^ 63) (sym c.notes.invariant.same) c.requires.small in
-    walk-room A W G ks ls k f.spot.down f.outcome (reverse (take f.left c.args.notes.now.items)) c.notes.marks.top f.here c.notes.invariant.stands small
+    walk-room A W G ks ls k f.spot.down f.outcome (reverse (take f.left c.args.notes.now)) c.notes.marks.top f.here c.notes.invariant.stands small
 
 pub unreachable-requires : goal.unreachable-requires
 unreachable-requires g c =
@@ -61,11 +61,11 @@ unreachable-requires g c =
     let f = c.notes.descent in
     let k = pair_at ks f.spot.pair in
     let ls = c.notes.lists.items in
-    let ns = c.args.notes.now.items in
-    let p = reverse-last ns f.left (f.left - 1) c.index-note.result.now (let t = c.notes-test.true in omega arith) c.notes.invariant.within c.index-note.ensures in
+    let ns = c.args.notes.now in
+    let p = reverse-last ns f.left (f.left - 1) c.index-notes-descent.result (let t = c.notes-test.true in omega arith) c.notes.invariant.within c.index-notes-descent.is in
     let w = rw p at c.notes.invariant.stands in
     let next = rw (no_more c.in_ok-down.field-0 c.in_default.not-Some) at (c.in_ok-down.ensures.next ls w.s w.ms w.telling w.marked) in
-    walk-open A W G ks ls k f.spot.down f.outcome c.index-note.result.now (reverse (take (f.left - 1) ns)) c.notes.marks.top f.here w next.is
+    walk-open A W G ks ls k f.spot.down f.outcome c.index-notes-descent.result (reverse (take (f.left - 1) ns)) c.notes.marks.top f.here w next.is
 
 pub notes-preserved-in-Bottom-1 : goal.notes-preserved-in-Bottom-1
 notes-preserved-in-Bottom-1 g c =
@@ -76,8 +76,8 @@ notes-preserved-in-Bottom-1 g c =
     let f = c.notes.descent in
     let k = pair_at ks f.spot.pair in
     let ls = c.notes.lists.items in
-    let ns = c.args.notes.now.items in
-    let p = reverse-last ns f.left (f.left - 1) c.index-note.result.now (let t = c.notes-test.true in omega arith) c.notes.invariant.within c.index-note.ensures in
+    let ns = c.args.notes.now in
+    let p = reverse-last ns f.left (f.left - 1) c.index-notes-descent.result (let t = c.notes-test.true in omega arith) c.notes.invariant.within c.index-notes-descent.is in
     let d = c.in-Some.down in
     let w = walk-next A W G ks ls k f.spot.down f.outcome _ c.notes.marks.top c.next_term.new.marks.top f.here c.next_term.new.here d c.in_ok-down.field-0 (rw (p, c.in-Bottom.is) at c.notes.invariant.stands) c.in-Some.is (c.in_ok-down.ensures.next ls) in
     record {
@@ -99,8 +99,8 @@ notes-preserved-in-Continue-branch-4 g c =
     let f = c.notes.descent in
     let k = pair_at ks f.spot.pair in
     let ls = c.notes.lists.items in
-    let ns = c.args.notes.now.items in
-    let p = reverse-last ns f.left (f.left - 1) c.index-note.result.now (let t = c.notes-test.true in omega arith) c.notes.invariant.within c.index-note.ensures in
+    let ns = c.args.notes.now in
+    let p = reverse-last ns f.left (f.left - 1) c.index-notes-descent.result (let t = c.notes-test.true in omega arith) c.notes.invariant.within c.index-notes-descent.is in
     let d = c.in-Some.down in
     let w = walk-next A W G ks ls k f.spot.down f.outcome _ c.notes.marks.top c.next_term.new.marks.top f.here c.next_term.new.here d c.in_ok-down.field-0 (rw (p, c.in-Param.is) at c.notes.invariant.stands) c.in-Some.is (c.in_ok-down.ensures.next ls) in
     let ended = c.in_ok-before-in-Param.ensures in
@@ -134,8 +134,8 @@ enter_symbol-requires g c =
     let k = pair_at ks f.spot.pair in
     let ls = c.notes.lists.items in
     let small : nodes_in (value_at G k.0) < 2 ^ 63 = subst (λ s. nodes_in (value_at G (pair_at ks s.pair).0) < 2 ^ 63) (sym c.notes.invariant.same) c.requires.small in
-    let ns = c.args.notes.now.items in
-    let p = reverse-last ns f.left (f.left - 1) c.index-note.result.now (let t = c.notes-test.true in omega arith) c.notes.invariant.within c.index-note.ensures in
+    let ns = c.args.notes.now in
+    let p = reverse-last ns f.left (f.left - 1) c.index-notes-descent.result (let t = c.notes-test.true in omega arith) c.notes.invariant.within c.index-notes-descent.is in
     let d = c.in-Some.down in
     let w = walk-next A W G ks ls k f.spot.down f.outcome _ c.notes.marks.top c.next_term.new.marks.top f.here c.next_term.new.here d c.in_ok-down.field-0 (rw (p, c.in-Symbol.is) at c.notes.invariant.stands) c.in-Some.is (c.in_ok-down.ensures.next ls) in
     let room = walk-room-one A W G ks ls k f.spot.down f.outcome _ _ c.next_term.new.here w small in
@@ -150,8 +150,8 @@ notes-preserved-in-Symbol-1 g c =
     let f = c.notes.descent in
     let k = pair_at ks f.spot.pair in
     let ls = c.notes.lists.items in
-    let ns = c.args.notes.now.items in
-    let p = reverse-last ns f.left (f.left - 1) c.index-note.result.now (let t = c.notes-test.true in omega arith) c.notes.invariant.within c.index-note.ensures in
+    let ns = c.args.notes.now in
+    let p = reverse-last ns f.left (f.left - 1) c.index-notes-descent.result (let t = c.notes-test.true in omega arith) c.notes.invariant.within c.index-notes-descent.is in
     let d = c.in-Some.down in
     let w = walk-next A W G ks ls k f.spot.down f.outcome _ c.notes.marks.top c.next_term.new.marks.top f.here c.next_term.new.here d c.in_ok-down.field-0 (rw (p, c.in-Symbol.is) at c.notes.invariant.stands) c.in-Some.is (c.in_ok-down.ensures.next ls) in
     let entered = c.in_ok-enter_symbol-in-Symbol.ensures in
@@ -175,8 +175,8 @@ enter_call-requires g c =
     let k = pair_at ks f.spot.pair in
     let ls = c.notes.lists.items in
     let small : nodes_in (value_at G k.0) < 2 ^ 63 = subst (λ s. nodes_in (value_at G (pair_at ks s.pair).0) < 2 ^ 63) (sym c.notes.invariant.same) c.requires.small in
-    let ns = c.args.notes.now.items in
-    let p = reverse-last ns f.left (f.left - 1) c.index-note.result.now (let t = c.notes-test.true in omega arith) c.notes.invariant.within c.index-note.ensures in
+    let ns = c.args.notes.now in
+    let p = reverse-last ns f.left (f.left - 1) c.index-notes-descent.result (let t = c.notes-test.true in omega arith) c.notes.invariant.within c.index-notes-descent.is in
     let d = c.in-Some.down in
     let w = walk-next A W G ks ls k f.spot.down f.outcome _ c.notes.marks.top c.next_term.new.marks.top f.here c.next_term.new.here d c.in_ok-down.field-0 (rw (p, c.in-Call.is) at c.notes.invariant.stands) c.in-Some.is (c.in_ok-down.ensures.next ls) in
     let i = c.in-Call.pair in
@@ -197,8 +197,8 @@ notes-preserved g c =
     let f = c.notes.descent in
     let k = pair_at ks f.spot.pair in
     let ls = c.notes.lists.items in
-    let ns = c.args.notes.now.items in
-    let p = reverse-last ns f.left (f.left - 1) c.index-note.result.now (let t = c.notes-test.true in omega arith) c.notes.invariant.within c.index-note.ensures in
+    let ns = c.args.notes.now in
+    let p = reverse-last ns f.left (f.left - 1) c.index-notes-descent.result (let t = c.notes-test.true in omega arith) c.notes.invariant.within c.index-notes-descent.is in
     let d = c.in-Some.down in
     let w = walk-next A W G ks ls k f.spot.down f.outcome _ c.notes.marks.top c.next_term.new.marks.top f.here c.next_term.new.here d c.in_ok-down.field-0 (rw (p, c.in-Call.is) at c.notes.invariant.stands) c.in-Some.is (c.in_ok-down.ensures.next ls) in
     let i = c.in-Call.pair in
@@ -228,8 +228,8 @@ returns-in-None-clause-waits g c =
     let f = c.notes.descent in
     let k = pair_at ks f.spot.pair in
     let ls = c.notes.lists.items in
-    let ns = c.args.notes.now.items in
-    let p = reverse-last ns f.left (f.left - 1) c.index-note.result.now (let t = c.notes-test.true in omega arith) c.notes.invariant.within c.index-note.ensures in
+    let ns = c.args.notes.now in
+    let p = reverse-last ns f.left (f.left - 1) c.index-notes-descent.result (let t = c.notes-test.true in omega arith) c.notes.invariant.within c.index-notes-descent.is in
     let d = c.in-Some.down in
     let w = walk-next A W G ks ls k f.spot.down f.outcome _ c.notes.marks.top c.next_term.new.marks.top f.here c.next_term.new.here d c.in_ok-down.field-0 (rw (p, c.in-Call.is) at c.notes.invariant.stands) c.in-Some.is (c.in_ok-down.ensures.next ls) in
     let m = walk-meets A W G ks ls k f.spot.down f.outcome c.in-Call.pair (reverse (take (f.left - 1) ns)) c.next_term.new.marks.top c.next_term.new.here d w in
@@ -256,7 +256,7 @@ next_term-requires-2 g c =
     let k = pair_at ks f.spot.pair in
     let ls = c.notes.lists.items in
     let small : nodes_in (value_at G k.0) < 2 ^ 63 = subst (λ s. nodes_in (value_at G (pair_at ks s.pair).0) < 2 ^ 63) (sym c.notes.invariant.same) c.requires.small in
-    walk-room A W G ks ls k f.spot.down f.outcome (reverse (take f.left c.args.notes.now.items)) c.notes.marks.top f.here c.notes.invariant.stands small
+    walk-room A W G ks ls k f.spot.down f.outcome (reverse (take f.left c.args.notes.now)) c.notes.marks.top f.here c.notes.invariant.stands small
 
 pub returns-clause-more : goal.returns-clause-more
 returns-clause-more g c =

@@ -20,7 +20,7 @@ returns-in_err-start-clause-steps g c = ([], falls-none (g.A.Rising.algebra c.ar
 
 pub unreachable-requires : goal.unreachable-requires
 unreachable-requires g c =
-    let none : HasBody c.bodies.bodies.kept.items c.bodies.frame.spot.pair → ⊥ = rw (no_more c.notes.result c.in_default.not-Some) at c.notes.ensures.none in
+    let none : HasBody c.bodies.bodies c.bodies.frame.spot.pair → ⊥ = rw (no_more c.notes.result c.in_default.not-Some) at c.notes.ensures.none in
     none c.bodies.invariant.read
 
 pub descend-requires-clause-noted : goal.descend-requires-clause-noted
@@ -57,7 +57,7 @@ returns-in_err-frame-clause-steps g c =
 pub returns-in_err-frame-clause-reads : goal.returns-in_err-frame-clause-reads
 returns-in_err-frame-clause-reads g c =
     let h = c.begin.ensures.reads in
-    omega (arith, unread-most (rules_of c.args.grammar.now.rules) (keys c.args.risen.now.known) c.in_ok-bodies.bodies.kept.items)
+    omega (arith, unread-most (rules_of c.args.grammar.now.rules) (keys c.args.risen.now.known) c.in_ok-bodies.bodies)
 
 pub bodies-init : goal.bodies-init
 bodies-init g c =
@@ -76,14 +76,14 @@ bodies-init g c =
       outcomes = rw c.in_ok-known.ensures (All-nil (λ e. HasOutcome A W G (keys es) c.new-lists.result.items e.0 e.1));
       kept = c.begin.ensures.kept;
       read = rw s c.in_ok-frame.ensures.read;
-      outer = rw c.new-frames.ensures.items (All-nil (λ f. HasBody c.begin.new.bodies.kept.items f.spot.pair));
+      outer = rw c.new-frames.ensures.items (All-nil (λ f. HasBody c.begin.new.bodies f.spot.pair));
       earlier = rw c.new-lists.ensures.items (λ i lt. absurd (omega arith));
       there = omega (arith, p, n, last.1);
       stands = c.in_ok-frame.ensures.stands c.new-lists.result.items;
       waiting = rw c.new-frames.ensures.items (s ∙ ap (λ x. record { pair = x; down = c.in_ok-start.field-0 }) n ∙ ap (λ d. record { pair = length (keys es) - 1; down = d }) c.in_ok-start.ensures);
       reads = rw (c.in_ok-known.ensures, c.new-frames.ensures.items, s) r;
       counted = c.begin.ensures.counted;
-      few = (let h = c.in_ok-frame.ensures.once in omega (arith, unread-most G (keys es) c.in_ok-bodies.bodies.kept.items));
+      few = (let h = c.in_ok-frame.ensures.once in omega (arith, unread-most G (keys es) c.in_ok-bodies.bodies));
     }
 
 pub returns-in_err-frame-in-None-2-clause-steps : goal.returns-in_err-frame-in-None-2-clause-steps
@@ -138,7 +138,7 @@ bodies-preserved-in-None-2 g c =
       outcomes = subst (λ x. All (λ e. HasOutcome A W G ks x e.0 e.1) c.bodies.known) (sym m.1) (outcomes-more A W G ks ls m.0 c.bodies.known c.bodies.invariant.outcomes);
       kept = c.begin-in-None-2.ensures.kept;
       read = rw spot c.in_ok-frame-in-None-2.ensures.read;
-      outer = rw e (All-weaker (λ f. HasBody c.bodies.bodies.kept.items f.spot.pair) (λ f. HasBody c.begin-in-None-2.new.bodies.kept.items f.spot.pair) (λ f h. c.begin-in-None-2.ensures.stays f.spot.pair h) (f' ∷ gs) (All-cons (λ f. HasBody c.bodies.bodies.kept.items f.spot.pair) f' gs (rw same c.bodies.invariant.read) c.bodies.invariant.outer));
+      outer = rw e (All-weaker (λ f. HasBody c.bodies.bodies f.spot.pair) (λ f. HasBody c.begin-in-None-2.new.bodies f.spot.pair) (λ f h. c.begin-in-None-2.ensures.stays f.spot.pair h) (f' ∷ gs) (All-cons (λ f. HasBody c.bodies.bodies f.spot.pair) f' gs (rw same c.bodies.invariant.read) c.bodies.invariant.outer));
       earlier = c.in_ok-spot.ensures.earlier;
       there = rw spot a.there;
       stands = c.in_ok-frame-in-None-2.ensures.stands c.descend.new.lists.items;
@@ -242,14 +242,14 @@ bodies-preserved g c =
     let w3 : AreWaiting A W G ks ls' f'.spot (below ∷ gs) mss = subst (λ x. AreWaiting A W G ks ls' x (below ∷ gs) mss) (sym same) w2 in
     let k = c.in_ok-note-in-Some-pop.ensures.ok in
     let top : c.close.new.self.top ≡ get_or mss 0 [] = c.close.ensures.top ∙ ap (λ x. get_or x 0 []) c.in_ok-spot.ensures.below in
-    let outer : All (λ f. HasBody c.bodies.bodies.kept.items f.spot.pair) (below ∷ gs) = rw e at c.bodies.invariant.outer in
+    let outer : All (λ f. HasBody c.bodies.bodies f.spot.pair) (below ∷ gs) = rw e at c.bodies.invariant.outer in
     let pair = pair-of A W G es c.requires.run below.spot.pair w3.2 in
     let r : FallsOnce A W G (known_triples A W G ks c.bodies.known ++ (triple_at ks f.spot ∷ open_triples A W G ks (below ∷ gs))) (c.bodies.steps - c.args.steps.now) = rw e at c.bodies.invariant.reads in
     record {
       outcomes = rw k (All-append (λ e. HasOutcome A W G ks ls' e.0 e.1) c.bodies.known _ (subst (λ x. All (λ e. HasOutcome A W G ks x e.0 e.1) c.bodies.known) (sym m.1) (outcomes-more A W G ks ls m.0 c.bodies.known c.bodies.invariant.outcomes)) (all-one (λ e. HasOutcome A W G ks ls' e.0 e.1) (f'.spot, f'.outcome) h));
       kept = c.bodies.invariant.kept;
-      read = All-head (λ f. HasBody c.bodies.bodies.kept.items f.spot.pair) below gs outer;
-      outer = All-tail (λ f. HasBody c.bodies.bodies.kept.items f.spot.pair) below gs outer;
+      read = All-head (λ f. HasBody c.bodies.bodies f.spot.pair) below gs outer;
+      outer = All-tail (λ f. HasBody c.bodies.bodies f.spot.pair) below gs outer;
       earlier = c.in_ok-spot.ensures.earlier;
       there = w3.2;
       stands = stands-again A W G ks c.rules-rules.ensures.grammar ls' below f'.spot f'.outcome (get_or mss 0 []) c.enter_call-in-Some-pop.new.marks.top c.enter_call-in-Some-pop.new.here pair w3.0 h (λ s ms ss. rw top at (c.in_ok-enter_call-in-Some-pop.ensures.entered ls' s ms ss));

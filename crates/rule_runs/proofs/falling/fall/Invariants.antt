@@ -20,14 +20,14 @@ invariant-bodies g l =
     let ks = keys l.risen.known in
     record {
       outcomes : All (λ e. HasOutcome A W G ks l.lists.items e.0 e.1) l.known;
-      kept : AreKept A G ks l.bodies.kept.items;
-      read : HasBody l.bodies.kept.items l.frame.spot.pair;
-      outer : All (λ f. HasBody l.bodies.kept.items f.spot.pair) (reverse l.frames.items);
+      kept : AreKept A G ks l.bodies;
+      read : HasBody l.bodies l.frame.spot.pair;
+      outer : All (λ f. HasBody l.bodies f.spot.pair) (reverse l.frames.items);
       earlier : AreEarlier l.lists.items;
       there : l.frame.spot.pair < length ks;
       stands : Standing A W G ks l.lists.items l.frame l.marks.top;
       waiting : AreWaiting A W G ks l.lists.items l.frame.spot (reverse l.frames.items) l.marks.below;
       reads : FallsOnce A W G (known_triples A W G ks l.known ++ (triple_at ks l.frame.spot ∷ open_triples A W G ks (reverse l.frames.items))) (l.steps - l.fn.steps);
       counted : l.fn.steps ≤ l.steps;
-      few : l.steps + 2 * unread G ks l.bodies.kept.items ≤ l.fn.steps + 2 * sum_by (λ k. length (body_at G k.0)) ks;
+      few : l.steps + 2 * unread G ks l.bodies ≤ l.fn.steps + 2 * sum_by (λ k. length (body_at G k.0)) ks;
     }

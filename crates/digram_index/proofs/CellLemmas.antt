@@ -139,12 +139,8 @@ knowns-spots n n' e e' K q m = record {
   small = λ k s h. K.small k s (sym (q k) ∙ h);
 }
 
-pub by-result : {X E : Type 0} (A B : Type 0) (r : Result X E) → OnOk r A → OnErr r B → A ⊎ B
-by-result A B (Ok x) a b = inl a
-by-result A B (Err x) a b = inr b
-
--- one occurrence more, or none more
-pub knowns-added : (n : Numbering) (e e' : Entered) (j u : ℕ) (p : Pattern) → AreKnown n e → (spot_at e' j ≡ Some (record { pattern = p; upper = u })) ⊎ (spot_at e' j ≡ None) → ((k : ℕ) → k ≢ j → spot_at e' k ≡ spot_at e k)
+-- one occurrence more
+pub knowns-added : (n : Numbering) (e e' : Entered) (j u : ℕ) (p : Pattern) → AreKnown n e → spot_at e' j ≡ Some (record { pattern = p; upper = u }) → ((k : ℕ) → k ≢ j → spot_at e' k ≡ spot_at e k)
     → IsKnown n.numbers p.upper → IsKnown n.numbers p.lower → p.rank < 16 → AreKnown n e'
 knowns-added n e e' j u p K here others ku kl kr = record {
   upper = λ k s h. (all k s h (cases_eq k j)).0;
@@ -152,16 +148,15 @@ knowns-added n e e' j u p K here others ku kl kr = record {
   small = λ k s h. (all k s h (cases_eq k j)).2;
 }
   where
-    new : (k : ℕ) (s : Spot) → spot_at e' k ≡ Some s → k ≡ j → (spot_at e' j ≡ Some (record { pattern = p; upper = u })) ⊎ (spot_at e' j ≡ None) → s.pattern ≡ p
-    new k s h x (inl y) = ap (λ (t : Spot). t.pattern) (same-spot s (record { pattern = p; upper = u }) (sym h ∙ ap (spot_at e') x ∙ y))
-      where
-        same-spot : (a b : Spot) → Some a ≡ Some b → a ≡ b
-        same-spot a b q = cc
-    new k s h x (inr y) = absurd (let z : None ≡ Some s = sym y ∙ ap (spot_at e') (sym x) ∙ h in cc)
+    same-spot : (a b : Spot) → Some a ≡ Some b → a ≡ b
+    same-spot a b q = cc
+
+    new : (k : ℕ) (s : Spot) → spot_at e' k ≡ Some s → k ≡ j → s.pattern ≡ p
+    new k s h x = ap (λ (t : Spot). t.pattern) (same-spot s (record { pattern = p; upper = u }) (sym h ∙ ap (spot_at e') x ∙ here))
 
     all : (k : ℕ) (s : Spot) → spot_at e' k ≡ Some s → (k ≡ j) ⊎ (k ≡ j → ⊥) → IsKnown n.numbers s.pattern.upper × IsKnown n.numbers s.pattern.lower × (s.pattern.rank < 16)
     all k s h (inl x) =
-        let q = new k s h x here in
+        let q = new k s h x in
         (subst (λ (r : Pattern). IsKnown n.numbers r.upper) (sym q) ku, subst (λ (r : Pattern). IsKnown n.numbers r.lower) (sym q) kl, subst (λ (r : Pattern). r.rank < 16) (sym q) kr)
     all k s h (inr x) = let o = sym (others k x) ∙ h in (K.upper k s o, K.lower k s o, K.small k s o)
 

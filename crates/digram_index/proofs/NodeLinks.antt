@@ -1,5 +1,5 @@
 -- Occurrences of nodes that are taken away and linked one after another.
-use Rattle.std.proofs.Common.{◌≡◌, ◌≢◌, ◌⊎◌, inl, inr, ℕ, ◌+◌, ◌<◌, List, length, Some, None, Result, Ok, Err, IsOk, OnOk, slice_get, sym, ap, ◌∙◌, subst, arith}
+use Rattle.std.proofs.Common.{◌≡◌, ◌≢◌, ◌⊎◌, inl, inr, ℕ, ◌+◌, ◌<◌, List, length, Some, None, slice_get, sym, ap, ◌∙◌, subst, arith}
 use Rattle.std.proofs.lemmas.Bool.{cases_eq}
 use Rattle.rule_arena.specs.Terms.{Apart}
 use Rattle.rule_arena.specs.declared.key.Key.{Key}
@@ -11,11 +11,6 @@ use Rattle.digram_index.specs.Partly.{IsRight, IsAmong, IsPartOf}
 use Rattle.digram_index.proofs.Apartness.{one-key}
 use Rattle.digram_index.proofs.BuildLemmas.{linked-told}
 use Rattle.digram_index.proofs.LevelLemmas.{same_some}
-
--- what is said of an Ok that is one
-pub given : {A E : Type 0} (P : Type 0) (r : Result A E) → IsOk r → OnOk r P → P
-given {A} {E} P (Ok a) s h = h
-given {A} {E} P (Err e) s h = absurd (let z : IsOk {T = A} {E = E} (Err e) = s in cc)
 
 -- the first so many of these nodes are not linked, and nothing else changed
 pub record AreUnlinked (keys : List Key) (old new : Linked) (count : ℕ) : Type 0 where

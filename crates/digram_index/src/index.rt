@@ -93,10 +93,28 @@ impl Index {
         ensures succeeds { 0 < self.old.spare_links → lower.number < length self.old.cells → IsOk result }
     {
         let _limit = grammar.limit();
+        self.extend(grammar, lower.number())?;
+        self.reserve_link()?;
+        self.link_reserved(grammar, lower);
+        Ok(())
+    }
+
+    /// Adds one occurrence of the grammar, named by its lower node, where there is room for it. It takes no memory.
+    pub fn link_reserved(&mut self, grammar: &Grammar, lower: Key)
+        requires rules { self.old.rules ≡ length grammar.now.rules }
+        requires occurs { (o : Cell) × OccursAt grammar.now.rules lower o }
+        requires free { cell self.old lower.number ≡ None }
+        requires room { 0 < self.old.spare_links }
+        requires cells { lower.number < length self.old.cells }
+        ensures linked { (o : Cell) → OccursAt grammar.now.rules lower o → cell self.new lower.number ≡ Some o }
+        ensures rules { self.new.rules ≡ self.old.rules }
+        ensures others { (k : ℕ) → k ≢ lower.number → cell self.new k ≡ cell self.old k }
+        ensures room { length self.new.cells ≡ length self.old.cells }
+        ensures spare { (self.old.spare_links ≤ self.new.spare_links + 1) × (self.new.spare_rules ≡ self.old.spare_rules) }
+    {
+        let _limit = grammar.limit();
         let reading = read::<Brand>(grammar, lower, Blank::new(1));
-        let number = lower.number();
-        self.extend(grammar, number)?;
-        self.add(number, reading.upper, reading.digram, reading.rank)
+        self.enter(lower.number(), reading.upper, reading.digram, reading.rank);
     }
 
     /// Whether a node is the lower node of a linked occurrence.
@@ -230,27 +248,32 @@ impl Index {
         self.entries.take(lower.number());
     }
 
-    // Adds an occurrence whose labels were read.
-    fn add(
-        &mut self,
-        lower: usize,
-        upper: Key,
-        digram: Digram,
-        rank: usize,
-    ) -> Result<(), AllocError>
+    // Makes room for one occurrence.
+    fn reserve_link(&mut self) -> Result<(), AllocError>
+        ensures rules { self.new.rules ≡ self.old.rules }
+        ensures cells { (k : ℕ) → cell self.new k ≡ cell self.old k }
+        ensures stays { length self.new.cells ≡ length self.old.cells }
+        ensures room { OnOk result (0 < self.new.spare_links) }
+        ensures spares { (self.old.spare_links ≤ self.new.spare_links) × (self.new.spare_rules ≡ self.old.spare_rules) }
+        ensures succeeds { 0 < self.old.spare_links → IsOk result }
+    {
+        self.entries.reserve(1)
+    }
+
+    // Adds an occurrence whose labels were read, where there is room for it.
+    fn enter(&mut self, lower: usize, upper: Key, digram: Digram, rank: usize)
         requires room { lower < length self.old.cells }
         requires free { cell self.old lower ≡ None }
         requires upper { (q : ℕ) → digram.upper ≡ Call q → q < self.old.rules }
         requires lower { (q : ℕ) → digram.lower ≡ Call q → q < self.old.rules }
         requires small { rank < 16 }
         requires place { digram.place ≤ 8 }
-        ensures ok { OnOk result (cell self.new lower ≡ Some (record { digram = digram; rank = rank; upper = upper.number })) }
-        ensures err { OnErr result (cell self.new lower ≡ None) }
+        requires spare { 0 < self.old.spare_links }
+        ensures here { cell self.new lower ≡ Some (record { digram = digram; rank = rank; upper = upper.number }) }
         ensures rules { self.new.rules ≡ self.old.rules }
         ensures others { (k : ℕ) → k ≢ lower → cell self.new k ≡ cell self.old k }
         ensures room { length self.new.cells ≡ length self.old.cells }
         ensures spare { (self.old.spare_links ≤ self.new.spare_links + 1) × (self.new.spare_rules ≡ self.old.spare_rules) }
-        ensures succeeds { 0 < self.old.spare_links → IsOk result }
     {
         let pattern = Pattern {
             upper: mark_of(&self.numbers, digram.upper),
@@ -258,7 +281,7 @@ impl Index {
             lower: mark_of(&self.numbers, digram.lower),
             rank,
         };
-        self.entries.add(lower, upper, pattern)
+        self.entries.add(lower, upper, pattern);
     }
 
     /// Gives a number to a rule that is put before the rule at a place.

@@ -130,7 +130,7 @@ pub fn link_node(index: &mut Index, grammar: &Grammar, key: Key)
         return;
     }
     if is_lower(grammar, key) {
-        index.link(grammar, key).unwrap();
+        index.link_reserved(grammar, key);
     }
 }
 

@@ -3,8 +3,11 @@ ghost use Rattle.std.specs.Prelude.{◌≡◌, ◌+◌, ◌≤◌, vec_len, vec_
 
 use std::alloc::AllocError;
 
-/// Makes room for more items, and for an eighth of those that there are at least: so many small calls copy each item some nine times in all,
-/// and no more than an eighth stays empty.
+// A list doubles up to so many items. From then on it grows by these, or by an eighth.
+const STEP: usize = 1024;
+
+/// Makes room for more items, and for some beyond them: so many small calls copy an item a few times in all, and little of a long list stays
+/// empty.
 pub fn make_room<T: Drop>(items: &mut Vec<T>, more: usize) -> Result<(), AllocError>
     ensures items { items.new.items ≡ items.old.items }
     ensures room { OnOk result (vec_len items.old + more ≤ vec_capacity items.new) }
@@ -15,5 +18,5 @@ pub fn make_room<T: Drop>(items: &mut Vec<T>, more: usize) -> Result<(), AllocEr
     if more <= items.capacity() - count {
         return Ok(());
     }
-    items.reserve_exact(more.max(count / 8))
+    items.reserve_exact(more.max(count.min(STEP)).max(count / 8))
 }

@@ -1,7 +1,7 @@
 use Rattle.std.proofs.Common.{ap, sym, ◌∙◌}
 use Rattle.digram_index.specs.Linked.{cell_of}
-use Rattle.digram_index.proofs.CellLemmas.{by-result, knowns-added, cell-at}
-use Rattle.digram_index.proofs.index.Index.add.Goals as goal
+use Rattle.digram_index.proofs.CellLemmas.{knowns-added, cell-at}
+use Rattle.digram_index.proofs.index.Index.enter.Goals as goal
 
 pub returns-clause-others : goal.returns-clause-others
 returns-clause-others c = rw (← c.self.view_is) (λ k n.
@@ -10,4 +10,4 @@ returns-clause-others c = rw (← c.self.view_is) (λ k n.
 pub invariant_of-self : goal.invariant_of-self
 invariant_of-self c =
     knowns-added c.self.inside.numbers c.self.inside.entries c.add.new.self c.args.lower c.args.upper.number (record { upper = c.mark_of.result; place = c.args.digram.place; lower = c.mark_of-2.result; rank = c.args.rank }) c.self.invariant
-    (by-result _ _ c.add.result c.add.ensures.ok c.add.ensures.err) c.add.ensures.others c.mark_of.ensures.known c.mark_of-2.ensures.known c.requires.small
+    c.add.ensures.here c.add.ensures.others c.mark_of.ensures.known c.mark_of-2.ensures.known c.requires.small

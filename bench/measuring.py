@@ -27,10 +27,10 @@ def limit_time():
     resource.setrlimit(resource.RLIMIT_CPU, (LIMIT, LIMIT))
 
 
-def run(words, script=b"", folder="."):
+def run(words, script=b"", folder=".", errors=None):
     """Runs a program, and answers its wait status, its output, its processor seconds and its peak of memory in MiB."""
     child = subprocess.Popen(
-        words, stdin=subprocess.PIPE, stdout=subprocess.PIPE, cwd=folder, preexec_fn=limit_time
+        words, stdin=subprocess.PIPE, stdout=subprocess.PIPE, stderr=errors, cwd=folder, preexec_fn=limit_time
     )
     child.stdin.write(script)
     child.stdin.close()

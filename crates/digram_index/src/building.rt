@@ -15,13 +15,17 @@ use std::alloc::{AllocError, Global};
 use std::marker::Brand;
 use std::sync::ledger::{Blank, Ledger};
 
+// How many digrams an index has room for when it is begun, or for one for each node where these are fewer. Lists that grow from nothing leave
+// holes behind, which weigh in a small store.
+const FIRST_ROOM: usize = 1024;
+
 /// The index of a grammar.
 pub fn build(alloc: Global, grammar: &Grammar) -> Result<Index, AllocError>
     ensures { IfOk result (λ a. IsIndexOf grammar.now a) }
 {
     let _limit = grammar.limit();
     let mut index = Index::new(alloc, grammar.rules())?;
-    index.reserve(grammar, 0, 0)?;
+    index.reserve(grammar, grammar.limit().min(FIRST_ROOM), 0)?;
     link_all(&mut index, grammar)?;
     Ok(index)
 }

@@ -27,6 +27,10 @@ length-spots ps [] us = refl
 length-spots ps (None ∷ hs) us = ap suc (length-spots ps hs (drop 1 us))
 length-spots ps (Some e ∷ hs) us = ap suc (length-spots ps hs (drop 1 us))
 
+-- and so as many as before, where no item came or went
+pub same-length : (ps ps' : List Pattern) (hs hs' : List (Option ℕ)) (us us' : List ℕ) → length hs' ≡ length hs → length (spots_of ps' hs' us') ≡ length (spots_of ps hs us)
+same-length ps ps' hs hs' us us' e = length-spots ps' hs' us' ∙ e ∙ sym (length-spots ps hs us)
+
 pub pattern-there : (ps : List Pattern) (e : ℕ) → e < length ps → slice_get ps e ≡ Some (pattern_at ps e)
 pattern-there [] e h = absurd (omega arith)
 pattern-there (p ∷ ps) zero h = refl

@@ -27,7 +27,7 @@ use Rattle.rule_runs.specs.declared.told.Here.{Here}
 use Rattle.rule_runs.specs.Cuts.{Stretch, nothing, one, beside, before, joined, cut}
 use Rattle.rule_runs.specs.Notes.{AreNotes}
 use Rattle.rule_runs.specs.Risen.{IsPair, pair_at}
-use Rattle.rule_runs.specs.Tellings.{IsTelling, AreTold}
+use Rattle.rule_runs.specs.Tellings.{Listed, extended, IsTelling, AreTold}
 use Rattle.rule_runs.specs.Walks.{Open, Place, absorbed, after, down_at, downs_of, woven_marks, told, param_downs, woven}
 use Rattle.rule_runs.specs.Descents.{AreOpen, IsNext, CallsMeet, Walks, HasOutcome, Waiting, AreWaiting, befores, downs_handed, tolds}
 use Rattle.rule_runs.proofs.Cutting.{before-nothing, beside-nothing, length-joined, length-cut, cut-some}
@@ -100,7 +100,7 @@ module _ {S D : Type 0} (A : Algebra S) (W : Downward S D) (G : List Rule) (g : 
   pub length-handed-value : (down : D) → length (handed A W (value_at G key.0) key.1 down) ≡ rank_at G key.0
   length-handed-value down = length-handed A W (value_at G key.0) key.1 down ∙ ap length (value_at-linear G key.0 g pair.there) ∙ length-holes 0 (rank_at G key.0)
 
-  module _ (ks : List (RuleStates S)) (lists : List (Vec Part Global)) where
+  module _ (ks : List (RuleStates S)) (lists : Listed) where
     -- a body that is not read yet
     pub walk-start : (down : D) (notes : List (Note S)) (here : Here) (outcome : Outcome D) → Falls S D A W G key.0 key.1 down → AreNotes A G ks key.1 (body_at G key.0) notes → outcome.handed.items ≡ [] → IsTelling lists here nothing
         → Walks A W G ks lists key down notes (MarkTerm down ∷ []) here outcome
@@ -122,8 +122,8 @@ module _ {S D : Type 0} (A : Algebra S) (W : Downward S D) (G : List Rule) (g : 
     }
 
 module _ {S D : Type 0} (A : Algebra S) (W : Downward S D) (G : List Rule) (ks : List (RuleStates S)) where
-  pub walk-more : (lists more : List (Vec Part Global)) (key : RuleStates S) (down : D) (notes : List (Note S)) (marks : List (Mark D)) (here : Here) (outcome : Outcome D)
-      → Walks A W G ks lists key down notes marks here outcome → Walks A W G ks (lists ++ more) key down notes marks here outcome
+  pub walk-more : (lists : Listed) (more : List (Vec Part Global)) (key : RuleStates S) (down : D) (notes : List (Note S)) (marks : List (Mark D)) (here : Here) (outcome : Outcome D)
+      → Walks A W G ks lists key down notes marks here outcome → Walks A W G ks (extended lists more) key down notes marks here outcome
   walk-more lists more key down notes marks here outcome w = record {
     args = w.args;
     ls = w.ls;
@@ -141,10 +141,10 @@ module _ {S D : Type 0} (A : Algebra S) (W : Downward S D) (G : List Rule) (ks :
     earlier = w.earlier;
   }
 
-  pub outcome-more : (lists more : List (Vec Part Global)) (spot : Spot D) (outcome : Outcome D) → HasOutcome A W G ks lists spot outcome → HasOutcome A W G ks (lists ++ more) spot outcome
+  pub outcome-more : (lists : Listed) (more : List (Vec Part Global)) (spot : Spot D) (outcome : Outcome D) → HasOutcome A W G ks lists spot outcome → HasOutcome A W G ks (extended lists more) spot outcome
   outcome-more lists more spot outcome h = record { there = h.there; finished = told-more lists more (tolds outcome) _ h.finished; hands = h.hands }
 
-  waits-more : (lists more : List (Vec Part Global)) (f : Descent D) (marks : List (Mark D)) (spot : Spot D) → Waiting A W G ks lists f marks spot → Waiting A W G ks (lists ++ more) f marks spot
+  waits-more : (lists : Listed) (more : List (Vec Part Global)) (f : Descent D) (marks : List (Mark D)) (spot : Spot D) → Waiting A W G ks lists f marks spot → Waiting A W G ks (extended lists more) f marks spot
   waits-more lists more f marks spot h = record {
     notes = h.notes;
     noted = h.noted;
@@ -152,12 +152,12 @@ module _ {S D : Type 0} (A : Algebra S) (W : Downward S D) (G : List Rule) (ks :
     walks = walk-more lists more (pair_at ks f.spot.pair) f.spot.down (NoteCall spot.pair ∷ reverse (take f.left h.notes)) (MarkTerm spot.down ∷ marks) f.here f.outcome h.walks;
   }
 
-  pub waiting-more : (lists more : List (Vec Part Global)) (spot : Spot D) (gs : List (Descent D)) (mss : List (List (Mark D))) → AreWaiting A W G ks lists spot gs mss → AreWaiting A W G ks (lists ++ more) spot gs mss
+  pub waiting-more : (lists : Listed) (more : List (Vec Part Global)) (spot : Spot D) (gs : List (Descent D)) (mss : List (List (Mark D))) → AreWaiting A W G ks lists spot gs mss → AreWaiting A W G ks (extended lists more) spot gs mss
   waiting-more lists more spot [] mss h = h
   waiting-more lists more spot (f ∷ gs) mss h =
       (waits-more lists more f (get_or mss 0 []) spot h.0, h.1, h.2, waiting-more lists more f.spot gs (drop 1 mss) h.3)
 
-  module _ (lists : List (Vec Part Global)) (key : RuleStates S) (down : D) (outcome : Outcome D) where
+  module _ (lists : Listed) (key : RuleStates S) (down : D) (outcome : Outcome D) where
     -- the next term's place is open
     pub walk-placed : (notes : List (Note S)) (marks marks' : List (Mark D)) (here here' : Here) (d : D) (w : Walks A W G ks lists key down notes marks here outcome)
         → IsNext lists (Some d) w.s w.ms marks' here' → Walks A W G ks lists key down notes (MarkTerm d ∷ marks') here' outcome
@@ -285,8 +285,8 @@ module _ {S D : Type 0} (A : Algebra S) (W : Downward S D) (G : List Rule) (ks :
 
     -- a parameter ends a stretch
     pub walk-param : (more : List (Vec Part Global)) (notes : List (Note S)) (marks : List (Mark D)) (here here' : Here) (d : D) (new : Outcome D) (w : Walks A W G ks lists key down (NoteParam ∷ notes) (MarkTerm d ∷ marks) here outcome)
-        → AreTold (lists ++ more) (befores new) (w.done ++ w.s ∷ []) → IsTelling (lists ++ more) here' nothing → downs_handed new ≡ downs_handed outcome ++ d ∷ []
-        → Walks A W G ks (lists ++ more) key down notes marks here' new
+        → AreTold (extended lists more) (befores new) (w.done ++ w.s ∷ []) → IsTelling (extended lists more) here' nothing → downs_handed new ≡ downs_handed outcome ++ d ∷ []
+        → Walks A W G ks (extended lists more) key down notes marks here' new
     walk-param more notes marks here here' d new w finished telling handed_is =
         let m = open-term lists d marks w.ms w.marked in
         let n = note-param A G ks w.args w.ls notes w.noted in
@@ -310,7 +310,7 @@ module _ {S D : Type 0} (A : Algebra S) (W : Downward S D) (G : List Rule) (ks :
         }
 
     -- the end of a body ends the last stretch
-    pub walk-end : (after_lists : List (Vec Part Global)) (marks : List (Mark D)) (here : Here) (new : Outcome D) (w : Walks A W G ks lists key down [] marks here outcome)
+    pub walk-end : (after_lists : Listed) (marks : List (Mark D)) (here : Here) (new : Outcome D) (w : Walks A W G ks lists key down [] marks here outcome)
         → AreTold after_lists (tolds new) (w.done ++ absorbed w.s w.ms ∷ []) → downs_handed new ≡ downs_handed outcome
         → AreTold after_lists (tolds new) (cut A W (value_at G key.0) key.1 down) × (downs_handed new ≡ handed A W (value_at G key.0) key.1 down)
     walk-end after_lists marks here new w finished handed_is =

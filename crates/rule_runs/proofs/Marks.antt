@@ -9,7 +9,7 @@ use Rattle.rule_runs.specs.declared.spots.Outcome.{Outcome}
 use Rattle.rule_runs.specs.declared.told.Here.{Here}
 use Rattle.rule_runs.specs.declared.told.Told.{Told}
 use Rattle.rule_runs.specs.Cuts.{Stretch, nothing, beside}
-use Rattle.rule_runs.specs.Tellings.{Tells, IsTelling, AreTold}
+use Rattle.rule_runs.specs.Tellings.{Listed, extended, Tells, IsTelling, AreTold}
 use Rattle.rule_runs.specs.Walks.{Open, Place, Piece, absorbed, after, down_at, places, downs_of, woven_marks}
 use Rattle.rule_runs.specs.Descents.{AreOpen, IsNext, IsAbsorbing, befores, downs_handed, tolds}
 use Rattle.rule_runs.proofs.Tellings.{tells-more, told-at, length-told}
@@ -30,21 +30,21 @@ downs-woven [] ss ms = refl
 downs-woven (d ∷ ds) [] ms = ap (λ x. d ∷ x) (downs-woven ds [] ms)
 downs-woven (d ∷ ds) (s ∷ ss) ms = ap (λ x. d ∷ x) (downs-woven ds ss ms)
 
-pub open-term : {D : Type 0} (lists : List (Vec Part Global)) (d : D) (marks : List (Mark D)) (ms : List (Open D)) → AreOpen lists (MarkTerm d ∷ marks) ms → (rest : List (Open D)) × (ms ≡ Place d ∷ rest) × AreOpen lists marks rest
+pub open-term : {D : Type 0} (lists : Listed) (d : D) (marks : List (Mark D)) (ms : List (Open D)) → AreOpen lists (MarkTerm d ∷ marks) ms → (rest : List (Open D)) × (ms ≡ Place d ∷ rest) × AreOpen lists marks rest
 open-term lists d marks [] o = absurd o
 open-term lists d marks (Piece s ∷ ms) o = absurd o
 open-term lists d marks (Place e ∷ ms) o = (ms, ap (λ x. Place x ∷ ms) (sym o.0), o.1)
 
-pub open-piece : {D : Type 0} (lists : List (Vec Part Global)) (t : Told) (marks : List (Mark D)) (ms : List (Open D)) → AreOpen lists (MarkPiece t ∷ marks) ms → (s : Stretch) × (rest : List (Open D)) × (ms ≡ Piece s ∷ rest) × Tells lists t s × AreOpen lists marks rest
+pub open-piece : {D : Type 0} (lists : Listed) (t : Told) (marks : List (Mark D)) (ms : List (Open D)) → AreOpen lists (MarkPiece t ∷ marks) ms → (s : Stretch) × (rest : List (Open D)) × (ms ≡ Piece s ∷ rest) × Tells lists t s × AreOpen lists marks rest
 open-piece lists t marks [] o = absurd o
 open-piece lists t marks (Place d ∷ ms) o = absurd o
 open-piece lists t marks (Piece s ∷ ms) o = (s, ms, refl, o.0, o.1)
 
-pub open-none : {D : Type 0} (lists : List (Vec Part Global)) (ms : List (Open D)) → AreOpen lists [] ms → ms ≡ []
+pub open-none : {D : Type 0} (lists : Listed) (ms : List (Open D)) → AreOpen lists [] ms → ms ≡ []
 open-none lists [] o = refl
 open-none lists (m ∷ ms) o = absurd o
 
-pub open-more : {D : Type 0} (lists more : List (Vec Part Global)) (marks : List (Mark D)) (ms : List (Open D)) → AreOpen lists marks ms → AreOpen (lists ++ more) marks ms
+pub open-more : {D : Type 0} (lists : Listed) (more : List (Vec Part Global)) (marks : List (Mark D)) (ms : List (Open D)) → AreOpen lists marks ms → AreOpen (extended lists more) marks ms
 open-more lists more [] [] o = tt
 open-more lists more [] (m ∷ ms) o = absurd o
 open-more lists more (MarkTerm d ∷ xs) [] o = absurd o
@@ -55,7 +55,7 @@ open-more lists more (MarkPiece t ∷ xs) (Place d ∷ ms) o = absurd o
 open-more lists more (MarkPiece t ∷ xs) (Piece s ∷ ms) o = (tells-more lists more t s o.0, open-more lists more xs ms o.1)
 
 -- the way to the next term, mark by mark
-module _ {D : Type 0} (lists : List (Vec Part Global)) (s : Stretch) (ms : List (Open D)) where
+module _ {D : Type 0} (lists : Listed) (s : Stretch) (ms : List (Open D)) where
   pub absorbing-start : (marks : List (Mark D)) (here : Here) → IsTelling lists here s → AreOpen lists marks ms → IsAbsorbing lists s ms marks here
   absorbing-start marks here i o = record { now = s; left = ms; telling = i; marked = o; same_stretch = refl; same_rest = refl; same_downs = refl }
 
@@ -92,7 +92,7 @@ module _ {D : Type 0} (lists : List (Vec Part Global)) (s : Stretch) (ms : List 
       }
 
 -- a call's arguments are opened from the last one on
-pub woven-more : {D : Type 0} (lists : List (Vec Part Global)) (told_items : List Told) (hands : List D) (left : ℕ) (marks : List (Mark D)) (ms : List (Open D)) (ss : List Stretch) (d : D) (t : Told)
+pub woven-more : {D : Type 0} (lists : Listed) (told_items : List Told) (hands : List D) (left : ℕ) (marks : List (Mark D)) (ms : List (Open D)) (ss : List Stretch) (d : D) (t : Told)
     → AreTold lists told_items ss → length told_items ≡ length hands + 1 → left < length hands → d ≡ get_or hands left d → t ≡ get_or told_items (left + 1) t
     → AreOpen lists marks (woven_marks (drop (left + 1) hands) (drop (left + 1) (drop 1 ss)) ++ ms)
     → AreOpen lists (MarkTerm d ∷ MarkPiece t ∷ marks) (woven_marks (drop left hands) (drop left (drop 1 ss)) ++ ms)
@@ -123,7 +123,7 @@ module _ {D : Type 0} (o : Outcome D) where
       is ∙ ap (λ (x : Handed D). x.down) e ∙ sym (get_or-map (λ (x : Handed D). x.down) o.handed.items i h d lt)
 
   -- behind the last argument nothing is opened yet
-  pub woven-none : (lists : List (Vec Part Global)) (n : ℕ) (marks : List (Mark D)) (ms : List (Open D)) (ss : List Stretch) → n ≡ length o.handed.items → AreOpen lists marks ms
+  pub woven-none : (lists : Listed) (n : ℕ) (marks : List (Mark D)) (ms : List (Open D)) (ss : List Stretch) → n ≡ length o.handed.items → AreOpen lists marks ms
       → AreOpen lists marks (woven_marks (drop n (downs_handed o)) (drop n (drop 1 ss)) ++ ms)
   woven-none lists n marks ms ss e opened =
       let z : drop n (downs_handed o) ≡ [] = drop_all n (downs_handed o) (omega (arith, length-map o.handed.items (λ h. h.down))) in

@@ -19,7 +19,7 @@ use Rattle.rule_runs.specs.declared.spots.Spot.{Spot}
 use Rattle.rule_runs.specs.Descents.{HasOutcome, tolds}
 use Rattle.rule_runs.specs.Reached.{RuleStates}
 use Rattle.rule_runs.specs.Risen.{IsPair, pair_at}
-use Rattle.rule_runs.specs.Tellings.{AreTold, unhit_told}
+use Rattle.rule_runs.specs.Tellings.{Listed, AreTold, unhit_told}
 use Rattle.rule_runs.specs.Cuts.{Stretch, nothing, beside, before, joined, cut}
 use Rattle.rule_runs.proofs.Cutting.{before-nothing, before-joined, beside-nothing, joined-assoc, length-before, length-cut, length-joined, cut-some}
 
@@ -123,16 +123,16 @@ module _ {D : Type 0} (c : ℕ → ℕ) (d : D) where
   downs-from (h ∷ hs) i = ap (λ ds. d ∷ ds) (downs-from hs (suc i))
 
   -- the words tell as many stretches as they are
-  pub befores-from : (lists : List (Vec Part Global)) (i n : ℕ) (ss : List Stretch) → length ss ≡ n → ((j : ℕ) → get_or ss j nothing ≡ unhit (c (i + j))) → AreTold lists (map (λ h. h.before) (handed_from c d i n)) ss
+  pub befores-from : (lists : Listed) (i n : ℕ) (ss : List Stretch) → length ss ≡ n → ((j : ℕ) → get_or ss j nothing ≡ unhit (c (i + j))) → AreTold lists (map (λ h. h.before) (handed_from c d i n)) ss
   befores-from lists i zero [] e h = tt
   befores-from lists i zero (s ∷ ss) e h = absurd (omega arith)
   befores-from lists i (suc n) [] e h = absurd (omega arith)
   befores-from lists i (suc n) (s ∷ ss) e h =
       let first : s ≡ unhit (c i) = h 0 ∙ ap (λ k. unhit (c k)) (omega arith) in
-      (rw first (record { nodes = refl; hits = refl; list = refl }), befores-from lists (suc i) n ss (omega arith) (λ j. h (suc j) ∙ ap (λ k. unhit (c k)) (omega arith)))
+      (rw first (record { nodes = refl; hits = refl; list = λ kept. refl }), befores-from lists (suc i) n ss (omega arith) (λ j. h (suc j) ∙ ap (λ k. unhit (c k)) (omega arith)))
 
 -- what a pair has at a spent state
-module _ {S D : Type 0} (A : Algebra S) (W : Downward S D) (G : List Rule) (g : IsGrammar G) (ks : List (RuleStates S)) (lists : List (Vec Part Global)) where
+module _ {S D : Type 0} (A : Algebra S) (W : Downward S D) (G : List Rule) (g : IsGrammar G) (ks : List (RuleStates S)) (lists : Listed) where
   pub spent-outcome : (spot : Spot D) (outcome : Outcome D) (rule : ℕ) → spot.pair < length ks → IsPair G (pair_at ks spot.pair) → IsSpent W spot.down → rule ≡ (pair_at ks spot.pair).0
       → outcome.handed.items ≡ handed_from (count node_weight G rule) spot.down 0 (rank_at G rule) → outcome.last ≡ unhit_told (count node_weight G rule (rank_at G rule)) → HasOutcome A W G ks lists spot outcome
   spent-outcome spot outcome rule there pair spent same handed_are last_is =

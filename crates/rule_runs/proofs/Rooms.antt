@@ -22,7 +22,7 @@ use Rattle.rule_runs.specs.Cuts.{Stretch, nothing, one, beside, before, joined, 
 use Rattle.rule_runs.specs.Descents.{AreOpen, HasRoomAhead, Walks, HasOutcome, ahead, befores, tolds}
 use Rattle.rule_runs.specs.Hits.{raised}
 use Rattle.rule_runs.specs.Risen.{pair_at}
-use Rattle.rule_runs.specs.Tellings.{HasRoom, Tells}
+use Rattle.rule_runs.specs.Tellings.{Listed, HasRoom, Tells}
 use Rattle.rule_runs.specs.Walks.{Open, Place, Piece, absorbed, after, down_at, woven_marks, kids_of, told}
 use Rattle.rule_runs.proofs.Marks.{open-term}
 use Rattle.rule_runs.proofs.NoteLemmas.{note-call}
@@ -102,7 +102,7 @@ module _ (f : Stretch → ℕ) (k : Counts f) where
         omega (arith, told-more G args next ns ls, absorbed-more next ns, k.both (absorbed s ms) (get_or ss 0 nothing))
 
   -- the words of the pieces before the next term are those of what is absorbed
-  pub ahead-is : {D : Type 0} (word : Told → ℕ) (lists : List (Vec Part Global)) → ((t : Told) (u : Stretch) → Tells lists t u → word t ≡ f u)
+  pub ahead-is : {D : Type 0} (word : Told → ℕ) (lists : Listed) → ((t : Told) (u : Stretch) → Tells lists t u → word t ≡ f u)
       → (s : Stretch) (marks : List (Mark D)) (ms : List (Open D)) → AreOpen lists marks ms → f s + ahead word marks ≡ f (absorbed s ms)
   ahead-is word lists h s [] [] o = omega arith
   ahead-is word lists h s [] (m ∷ ms) o = absurd o
@@ -113,7 +113,7 @@ module _ (f : Stretch → ℕ) (k : Counts f) where
   ahead-is word lists h s (MarkPiece t ∷ xs) (Place d ∷ ms) o = absurd o
   ahead-is word lists h s (MarkPiece t ∷ xs) (Piece u ∷ ms) o = omega (arith, ahead-is word lists h (beside s u) xs ms o.1, k.both s u, h t u o.0)
 
-module _ {S D : Type 0} (A : Algebra S) (W : Downward S D) (G : List Rule) (ks : List (RuleStates S)) (lists : List (Vec Part Global)) (key : RuleStates S) (down : D) (outcome : Outcome D) where
+module _ {S D : Type 0} (A : Algebra S) (W : Downward S D) (G : List Rule) (ks : List (RuleStates S)) (lists : Listed) (key : RuleStates S) (down : D) (outcome : Outcome D) where
   module _ (notes : List (Note S)) (marks : List (Mark D)) (here : Here) (w : Walks A W G ks lists key down notes marks here outcome) where
     walk-within : (f : Stretch → ℕ) (k : Counts f) → f (absorbed w.s w.ms) ≤ nodes_in (value_at G key.0)
     walk-within f k =

@@ -1,5 +1,5 @@
 -- The triples that a run downward reads: each is met, and no two are the same; and what the run has at its end.
-use Rattle.std.proofs.Common.{◌≡◌, ◌≢◌, ℕ, ◌+◌, ◌-◌, ◌*◌, ◌^◌, ◌<◌, ◌≤◌, List, [], ◌∷◌, ◌++◌, length, get_or, take, drop, map, reverse, sum_by, Option, Some, None, Vec, Global, refl, sym, ap, ◌∙◌, arith, append_assoc, subst, All, AllPairs}
+use Rattle.std.proofs.Common.{IsTrue, ◌≡◌, ◌≢◌, ℕ, ◌+◌, ◌-◌, ◌*◌, ◌^◌, ◌<◌, ◌≤◌, List, [], ◌∷◌, ◌++◌, length, get_or, take, drop, map, reverse, sum_by, Option, Some, None, Vec, Global, refl, sym, ap, ◌∙◌, arith, append_assoc, subst, All, AllPairs}
 use Rattle.std.proofs.lemmas.List.Elements.{All-append, All-cons, All-get_or, All-head, All-nil, All-tail, All-weaker}
 use Rattle.std.proofs.lemmas.List.{map-append, get_or_push, length_push}
 use Rattle.std.proofs.lemmas.List.Sums.{get_or-le-sum_by, sum_by-append}
@@ -23,7 +23,7 @@ use Rattle.rule_runs.specs.Descents.{AreOpen, HasOutcome, Standing, Waiting, Ask
 use Rattle.rule_runs.specs.Frames.{base}
 use Rattle.rule_runs.specs.Listing.{AreEarlier}
 use Rattle.rule_runs.specs.Risen.{IsPair, IsRun, pair_at, keys}
-use Rattle.rule_runs.specs.Tellings.{Lists, Tells, IsTelling, AreTold}
+use Rattle.rule_runs.specs.Tellings.{Listed, extended, Lists, Tells, IsTelling, AreTold}
 use Rattle.rule_runs.specs.Walks.{Open, woven_marks}
 use Rattle.rule_runs.proofs.Cutting.{cut-whole}
 use Rattle.rule_runs.proofs.Found.{found}
@@ -45,7 +45,7 @@ module _ {S D : Type 0} (A : Algebra S) (W : Downward S D) (G : List Rule) (ks :
   open_triples = map (λ f. triple_at ks f.spot)
 
   -- the rules of the outer bodies are later ones
-  pub outer-later : (r : ℕ) (lists : List (Vec Part Global)) (spot : Spot D) (gs : List (Descent D)) (mss : List (List (Mark D))) → r ≤ (pair_at ks spot.pair).0 → AreWaiting A W G ks lists spot gs mss → All (λ g. r < (pair_at ks g.spot.pair).0) gs
+  pub outer-later : (r : ℕ) (lists : Listed) (spot : Spot D) (gs : List (Descent D)) (mss : List (List (Mark D))) → r ≤ (pair_at ks spot.pair).0 → AreWaiting A W G ks lists spot gs mss → All (λ g. r < (pair_at ks g.spot.pair).0) gs
   outer-later r lists spot [] mss h a = All-nil (λ (g : Descent D). r < (pair_at ks g.spot.pair).0)
   outer-later r lists spot (g ∷ gs) mss h a = let k = a.1 in All-cons (λ (g : Descent D). r < (pair_at ks g.spot.pair).0) g gs (omega arith) (outer-later r lists g.spot gs (drop 1 mss) (omega arith) a.3)
 
@@ -56,7 +56,7 @@ module _ {S D : Type 0} (A : Algebra S) (W : Downward S D) (G : List Rule) (ks :
       let l = All-head P g gs e in
       All-cons (λ (t : RuleStates S × D). t ≢ triple_at ks spot) (triple_at ks g.spot) (open_triples gs) (λ h. let k : (pair_at ks g.spot.pair).0 ≡ (pair_at ks spot.pair).0 = ap (λ (t : RuleStates S × D). t.0.0) h in absurd (omega arith)) (others-apart spot gs (All-tail P g gs e))
 
-  known-apart : AllPairs (λ p q. p ≢ q) ks → (lists : List (Vec Part Global)) (spot : Spot D) → spot.pair < length ks → (known : List (Spot D × Outcome D)) → All (λ e. HasOutcome A W G ks lists e.0 e.1) known → All (λ e. e.0 ≢ spot) known
+  known-apart : AllPairs (λ p q. p ≢ q) ks → (lists : Listed) (spot : Spot D) → spot.pair < length ks → (known : List (Spot D × Outcome D)) → All (λ e. HasOutcome A W G ks lists e.0 e.1) known → All (λ e. e.0 ≢ spot) known
       → All (λ t. t ≢ triple_at ks spot) (known_triples known)
   known-apart dk lists spot there [] h n = All-nil (λ (t : RuleStates S × D). t ≢ triple_at ks spot)
   known-apart dk lists spot there (e ∷ es) h n =
@@ -71,7 +71,7 @@ module _ {S D : Type 0} (A : Algebra S) (W : Downward S D) (G : List Rule) (ks :
       (known-apart dk lists spot there es (All-tail P e es h) (All-tail N e es n))
 
   -- a spot that is not known is read too
-  pub falls-more : AllPairs (λ p q. p ≢ q) ks → (lists : List (Vec Part Global)) (known : List (Spot D × Outcome D)) (f f' : Descent D) (gs : List (Descent D)) (mss : List (List (Mark D))) (ms : List (Mark D)) (spot : Spot D) (n m : ℕ) (lists' : List (Vec Part Global))
+  pub falls-more : AllPairs (λ p q. p ≢ q) ks → (lists : Listed) (known : List (Spot D × Outcome D)) (f f' : Descent D) (gs : List (Descent D)) (mss : List (List (Mark D))) (ms : List (Mark D)) (spot : Spot D) (n m : ℕ) (lists' : Listed)
       → FallsOnce A W G (known_triples known ++ (triple_at ks f.spot ∷ open_triples gs)) n → AreWaiting A W G ks lists f.spot gs mss → Asks A W G ks lists' f spot f' ms
       → All (λ e. HasOutcome A W G ks lists e.0 e.1) known → All (λ e. e.0 ≢ spot) known → m ≤ n + 2 * length (body_at G (pair_at ks spot.pair).0)
       → FallsOnce A W G (known_triples known ++ (triple_at ks spot ∷ triple_at ks f.spot ∷ open_triples gs)) m
@@ -90,7 +90,7 @@ module _ {S D : Type 0} (A : Algebra S) (W : Downward S D) (G : List Rule) (ks :
       }
 
   -- the bodies with the one that waits for a new spot
-  pub waiting-begin : (lists more : List (Vec Part Global)) (f f' : Descent D) (gs : List (Descent D)) (mss : List (List (Mark D))) (ms : List (Mark D)) (spot : Spot D) → AreWaiting A W G ks lists f.spot gs mss → f.spot.pair < length ks → Asks A W G ks (lists ++ more) f spot f' ms → f'.spot ≡ f.spot → AreWaiting A W G ks (lists ++ more) spot (f' ∷ gs) (ms ∷ mss)
+  pub waiting-begin : (lists : Listed) (more : List (Vec Part Global)) (f f' : Descent D) (gs : List (Descent D)) (mss : List (List (Mark D))) (ms : List (Mark D)) (spot : Spot D) → AreWaiting A W G ks lists f.spot gs mss → f.spot.pair < length ks → Asks A W G ks (extended lists more) f spot f' ms → f'.spot ≡ f.spot → AreWaiting A W G ks (extended lists more) spot (f' ∷ gs) (ms ∷ mss)
   waiting-begin lists more f f' gs mss ms spot waiting there asks e =
       (asks.waits, rw e asks.earlier, rw e there, rw e (waiting-more A W G ks lists more f.spot gs mss waiting))
 
@@ -99,7 +99,7 @@ module _ {S D : Type 0} (A : Algebra S) (W : Downward S D) (G : List Rule) (ks :
   triples-return known spot outcome gs = rw (map-append (λ (e : Spot D × Outcome D). triple_at ks e.0) known ((spot, outcome) ∷ [])) (append_assoc (known_triples known) (triple_at ks spot ∷ []) (open_triples gs))
 
   -- a body goes on behind a call that has its outcome
-  pub stands-again : IsGrammar G → (lists : List (Vec Part Global)) (f : Descent D) (spot : Spot D) (outcome : Outcome D) (before marks : List (Mark D)) (here : Here) → IsPair G (pair_at ks f.spot.pair) → Waiting A W G ks lists f before spot → HasOutcome A W G ks lists spot outcome
+  pub stands-again : IsGrammar G → (lists : Listed) (f : Descent D) (spot : Spot D) (outcome : Outcome D) (before marks : List (Mark D)) (here : Here) → IsPair G (pair_at ks f.spot.pair) → Waiting A W G ks lists f before spot → HasOutcome A W G ks lists spot outcome
       → ((s : Stretch) (ms : List (Open D)) (ss : List Stretch) → IsTelling lists f.here s → AreOpen lists before ms → AreTold lists (tolds outcome) ss → IsTelling lists here (beside s (get_or ss 0 nothing)) × AreOpen lists marks (woven_marks (downs_handed outcome) (drop 1 ss) ++ ms))
       → Standing A W G ks lists (record { spot = f.spot; left = f.left; here = here; outcome = f.outcome }) marks
   stands-again g lists f spot outcome before marks here pair h ends entered =
@@ -156,7 +156,7 @@ module _ {S D : Type 0} (A : Algebra S) (W : Downward S D) (G : List Rule) (know
   pair-of i lt = All-get_or (IsPair G) (keys known) i (0, []) lt run.pairs
 
   -- the outcome of the start is one stretch: the whole's nodes and hits
-  pub outcome-whole : IsGrammar G → (lists : List (Vec Part Global)) (spot : Spot D) (outcome : Outcome D) → HasOutcome A W G (keys known) lists spot outcome → spot ≡ record { pair = length (keys known) - 1; down = W.start }
+  pub outcome-whole : IsGrammar G → (lists : Listed) (spot : Spot D) (outcome : Outcome D) → HasOutcome A W G (keys known) lists spot outcome → spot ≡ record { pair = length (keys known) - 1; down = W.start }
       → AreTold lists (tolds outcome) (record { nodes = nodes_in (value G); hits = found A W (value G) } ∷ [])
   outcome-whole g lists spot outcome h e =
       let some = g.some in
@@ -167,7 +167,7 @@ module _ {S D : Type 0} (A : Algebra S) (W : Downward S D) (G : List Rule) (know
       rw (c, cut-whole A W (value G) [] W.start none) at h.finished
 
   -- what is told of the outermost body, on which no other waits, is told of the whole
-  pub whole-told : IsGrammar G → (earlier lists : List (Vec Part Global)) (first spot : Spot D) (frames : List (Descent D)) (mss : List (List (Mark D))) (outcome : Outcome D) → length frames ≡ 0 → AreWaiting A W G (keys known) earlier first (reverse frames) mss
+  pub whole-told : IsGrammar G → (earlier lists : Listed) (first spot : Spot D) (frames : List (Descent D)) (mss : List (List (Mark D))) (outcome : Outcome D) → length frames ≡ 0 → AreWaiting A W G (keys known) earlier first (reverse frames) mss
       → spot ≡ first → HasOutcome A W G (keys known) lists spot outcome → Tells lists outcome.last (record { nodes = nodes_in (value G); hits = found A W (value G) })
   whole-told g earlier lists first spot frames mss outcome none waiting same h =
       let w : AreWaiting A W G (keys known) earlier first [] mss = rw (empty_reverse frames none) at waiting in
@@ -176,22 +176,22 @@ module _ {S D : Type 0} (A : Algebra S) (W : Downward S D) (G : List Rule) (know
       told-only lists (befores outcome) outcome.last whole o
 
 -- the answers that a stretch's words have
-pub told-answers : (lists : List (Vec Part Global)) (t : Told) (s : Stretch) → Tells lists t s → all_of lists t.list ≡ s.hits
-told-answers lists t s h = by_list t.list h.list
+pub told-answers : (lists : Listed) (t : Told) (s : Stretch) → IsTrue lists.kept → Tells lists t s → all_of lists.lists t.list ≡ s.hits
+told-answers lists t s kept h = by_list t.list h.list
   where
-    by_list : (list : Option ℕ) → Lists lists list s.hits → all_of lists list ≡ s.hits
-    by_list None l = sym l
-    by_list (Some i) l = l.1
+    by_list : (list : Option ℕ) → Lists lists list s.hits → all_of lists.lists list ≡ s.hits
+    by_list None l = sym (l kept)
+    by_list (Some i) l = l.1 kept
 
-pub told-answered : (lists : List (Vec Part Global)) (t : Told) (s : Stretch) → Tells lists t s → AreEarlier lists → All (λ h. h.number < 2 ^ 64) s.hits → IsAnswered lists t
-told-answered lists t s h a small = record {
+pub told-answered : (lists : Listed) (t : Told) (s : Stretch) → IsTrue lists.kept → Tells lists t s → AreEarlier lists.lists → All (λ h. h.number < 2 ^ 64) s.hits → IsAnswered lists.lists t
+told-answered lists t s kept h a small = record {
   earlier = a;
   there = by_list t.list h.list;
-  counted = h.hits ∙ ap length (sym (told-answers lists t s h));
-  small = subst (λ hs. All (λ h. h.number < 2 ^ 64) hs) (sym (told-answers lists t s h)) small;
+  counted = h.hits ∙ ap length (sym (told-answers lists t s kept h));
+  small = subst (λ hs. All (λ h. h.number < 2 ^ 64) hs) (sym (told-answers lists t s kept h)) small;
 }
   where
-    by_list : (list : Option ℕ) → Lists lists list s.hits → IsThere lists list
+    by_list : (list : Option ℕ) → Lists lists list s.hits → IsThere lists.lists list
     by_list None l = tt
     by_list (Some i) l = l.0
 
@@ -210,8 +210,8 @@ module _ {S D : Type 0} (A : Algebra S) (W : Downward S D) (G : List Rule) (ks :
       met-small (triple_at ks spot) (All-head P (triple_at ks spot) rest later)
 
 module _ {S D : Type 0} (A : Algebra S) (W : Downward S D) (G : List Rule) (ks : List (RuleStates S)) where
-  pub outcomes-more : (lists more : List (Vec Part Global)) (known : List (Spot D × Outcome D)) → All (λ e. HasOutcome A W G ks lists e.0 e.1) known → All (λ e. HasOutcome A W G ks (lists ++ more) e.0 e.1) known
-  outcomes-more lists more known h = All-weaker (λ (e : Spot D × Outcome D). HasOutcome A W G ks lists e.0 e.1) (λ (e : Spot D × Outcome D). HasOutcome A W G ks (lists ++ more) e.0 e.1) (λ e k. outcome-more A W G ks lists more e.0 e.1 k) known h
+  pub outcomes-more : (lists : Listed) (more : List (Vec Part Global)) (known : List (Spot D × Outcome D)) → All (λ e. HasOutcome A W G ks lists e.0 e.1) known → All (λ e. HasOutcome A W G ks (extended lists more) e.0 e.1) known
+  outcomes-more lists more known h = All-weaker (λ (e : Spot D × Outcome D). HasOutcome A W G ks lists e.0 e.1) (λ (e : Spot D × Outcome D). HasOutcome A W G ks (extended lists more) e.0 e.1) (λ e k. outcome-more A W G ks lists more e.0 e.1 k) known h
 
   -- a spot among the bodies is not known
   pub spot-apart : (known : List (Spot D × Outcome D)) (spot : Spot D) (rest : List (RuleStates S × D)) → AllPairs (λ t u. t ≢ u) (known_triples A W G ks known ++ triple_at ks spot ∷ rest) → All (λ e. e.0 ≢ spot) known

@@ -1,6 +1,5 @@
 -- Bodies that a run downward is in the middle of.
 use Rattle.std.specs.Prelude.{◌≡◌, ◌<◌, ◌≤◌, ℕ, ◌+◌, ◌-◌, ◌*◌, ◌^◌, List, [], ◌∷◌, ◌++◌, length, get_or, take, drop, map, reverse, Option, Some, None, Vec}
-use Rattle.std.specs.Global.{Global}
 use Rattle.rule_arena.specs.Preorder.{AreTerms}
 use Rattle.rule_arena.specs.declared.label.Label.{Label}
 use Rattle.rule_arena.specs.declared.label.Label.TheVariants.{Bottom, Symbol, Call, Param}
@@ -13,7 +12,6 @@ use Rattle.slt_grammar.specs.declared.rules.Rule.{Rule}
 use Rattle.rule_runs.specs.declared.descent.Mark.{Mark}
 use Rattle.rule_runs.specs.declared.descent.Mark.TheVariants.{Term as MarkTerm, Piece as MarkPiece}
 use Rattle.rule_runs.specs.declared.descent.Descent.{Descent}
-use Rattle.rule_runs.specs.declared.listing.Part.{Part}
 use Rattle.rule_runs.specs.declared.notes.Note.{Note}
 use Rattle.rule_runs.specs.declared.notes.Note.TheVariants.{Call as NoteCall}
 use Rattle.rule_runs.specs.declared.spots.Handed.{Handed}
@@ -25,7 +23,7 @@ use Rattle.rule_runs.specs.Cuts.{Stretch, cut}
 use Rattle.rule_runs.specs.Frames.{base}
 use Rattle.rule_runs.specs.Notes.{AreNotes}
 use Rattle.rule_runs.specs.Risen.{pair_at}
-use Rattle.rule_runs.specs.Tellings.{Tells, IsTelling, AreTold}
+use Rattle.rule_runs.specs.Tellings.{Listed, Tells, IsTelling, AreTold}
 use Rattle.rule_runs.specs.Walks.{Open, Place, Piece, absorbed, after, downs_of, kids_of, told, param_downs}
 
 -- the stretches before the parameters and their down states, and all stretches
@@ -39,7 +37,7 @@ abbrev pub tolds : {D : Type 0} → Outcome D → List Told
 tolds o = befores o ++ o.last ∷ []
 
 -- the marks, the next one first, as what is open
-abbrev pub AreOpen : {D : Type 0} → List (Vec Part Global) → List (Mark D) → List (Open D) → Type 0
+abbrev pub AreOpen : {D : Type 0} → Listed → List (Mark D) → List (Open D) → Type 0
 AreOpen lists [] [] = Unit {0}
 AreOpen lists (MarkTerm d ∷ xs) (Place e ∷ ms) = (d ≡ e) × AreOpen lists xs ms
 AreOpen lists (MarkPiece t ∷ xs) (Piece s ∷ ms) = Tells lists t s × AreOpen lists xs ms
@@ -62,13 +60,13 @@ IsFound None ms = downs_of ms ≡ []
 IsFound (Some d) ms = downs_of ms ≡ d ∷ downs_of (after ms)
 
 -- the way to the next term
-pub record IsNext {D : Type 0} (lists : List (Vec Part Global)) (found : Option D) (s : Stretch) (ms : List (Open D)) (marks : List (Mark D)) (here : Here) : Type 0 where
+pub record IsNext {D : Type 0} (lists : Listed) (found : Option D) (s : Stretch) (ms : List (Open D)) (marks : List (Mark D)) (here : Here) : Type 0 where
   pub telling : IsTelling lists here (absorbed s ms)
   pub marked : AreOpen lists marks (after ms)
   pub is : IsFound found ms
 
 -- on the way there: what is absorbed and what is open lead to the same next term
-pub record IsAbsorbing {D : Type 0} (lists : List (Vec Part Global)) (s : Stretch) (ms : List (Open D)) (marks : List (Mark D)) (here : Here) : Type 0 where
+pub record IsAbsorbing {D : Type 0} (lists : Listed) (s : Stretch) (ms : List (Open D)) (marks : List (Mark D)) (here : Here) : Type 0 where
   pub now : Stretch
   pub left : List (Open D)
   pub telling : IsTelling lists here now
@@ -92,7 +90,7 @@ module _ {S D : Type 0} (A : Algebra S) (W : Downward S D) (G : List Rule) where
       let d = get_or ds 0 W.start in
       P q kids d × CallsMeet P args (handed A W (value_at G q) kids d ++ drop 1 ds) ls
 
-  module _ (ks : List (RuleStates S)) (lists : List (Vec Part Global)) where
+  module _ (ks : List (RuleStates S)) (lists : Listed) where
     -- a body that is read down to a place: what was told and what is still to be told are the stretches of the rule's value
     pub record Walks (key : RuleStates S) (down : D) (notes : List (Note S)) (marks : List (Mark D)) (here : Here) (outcome : Outcome D) : Type 0 where
       pub args : List S

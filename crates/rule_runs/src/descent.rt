@@ -1,6 +1,5 @@
 // Rule bodies that a run downward reads, node by node from their root.
-ghost use Rattle.std.specs.Prelude.{◌≡◌, ◌≢◌, ◌+◌, ◌*◌, ◌^◌, ◌<◌, ◌≤◌, ◌++◌, ◌∷◌, ℕ, List, [], Vec, length, get_or, drop, reverse, IfOk, OnOk, IfSome, IfNone, All};
-ghost use Rattle.std.specs.Global.{Global as TheGlobal};
+ghost use Rattle.std.specs.Prelude.{◌≡◌, ◌≢◌, ◌+◌, ◌*◌, ◌^◌, ◌<◌, ◌≤◌, ◌++◌, ◌∷◌, ℕ, List, [], length, get_or, drop, reverse, IfOk, OnOk, IfSome, IfNone, All};
 ghost use Rattle.slt_grammar.specs.Automata.{nodes_in};
 ghost use Rattle.slt_grammar.specs.Grammars.{body_at, value_at};
 ghost use Rattle.slt_grammar.specs.Keyed.{rules_of};
@@ -9,13 +8,13 @@ ghost use Rattle.rule_runs.specs.Cuts.{Stretch, nothing, one, beside};
 ghost use Rattle.rule_runs.specs.Listing.{AreEarlier};
 ghost use Rattle.rule_runs.specs.Notes.{AreNotes, AreKept, HasBody, unread};
 ghost use Rattle.rule_runs.specs.Risen.{IsRun, keys, pair_at};
-ghost use Rattle.rule_runs.specs.Tellings.{HasRoom, IsTelling, AreTold};
+ghost use Rattle.rule_runs.specs.Tellings.{Listed, Extends, HasRoom, IsTelling, AreTold};
 ghost use Rattle.rule_runs.specs.Walks.{Open, woven_marks};
 ghost use Rattle.rule_runs.specs.Descents.{AreOpen, HasRoomAhead, IsNext, HasOutcome, Standing, Asks, tolds, downs_handed};
 
 use crate::kept::{Bodies, read};
 use crate::layers::Layers;
-use crate::listing::Part;
+use crate::listing::HitLists;
 use crate::notes::Note;
 use crate::rising::RiseTable;
 use crate::spots::{Handed, Outcome, Spot, Spots};
@@ -62,7 +61,7 @@ pub(crate) fn begin<A: Falling, L: Ledger>(
     ensures stays { (i : ℕ) → HasBody bodies.old i → HasBody bodies.new i }
     ensures read { OnOk result (HasBody bodies.new spot.pair) }
     ensures spot { IfOk result (λ descent. descent.spot ≡ spot) }
-    ensures stands { IfOk result (λ descent. (lists : List (Vec Part TheGlobal)) → Standing (A.algebra automaton.now) (A.downward automaton.now) (rules_of grammar.now.rules) (keys risen.now.known) lists descent marks.new.top) }
+    ensures stands { IfOk result (λ descent. (lists : Listed) → Standing (A.algebra automaton.now) (A.downward automaton.now) (rules_of grammar.now.rules) (keys risen.now.known) lists descent marks.new.top) }
     ensures below { OnOk result (marks.new.below ≡ marks.old.below) }
     ensures cost { IfOk result (λ descent. descent.left ≡ length (body_at (rules_of grammar.now.rules) (pair_at (keys risen.now.known) spot.pair).0)) }
     ensures steps { steps.new ≤ steps.old + 2 * length (body_at (rules_of grammar.now.rules) (pair_at (keys risen.now.known) spot.pair).0) }
@@ -98,22 +97,22 @@ pub(crate) fn descend<A: Falling>(
     risen: &RiseTable<A>,
     notes: &[Note<A::State>],
     known: &Spots<A::Down>,
-    lists: &mut Vec<Vec<Part>>,
+    lists: &mut HitLists,
     marks: &mut Layers<Mark<A::Down>>,
     descent: &mut Descent<A::Down>,
 ) -> Result<Option<Spot<A::Down>>, AllocError>
     requires run { IsRun (A.algebra automaton.now) (rules_of grammar.now.rules) risen.now.known }
     requires noted { AreNotes (A.algebra automaton.now) (rules_of grammar.now.rules) (keys risen.now.known) (pair_at (keys risen.now.known) descent.old.spot.pair).1 (body_at (rules_of grammar.now.rules) (pair_at (keys risen.now.known) descent.old.spot.pair).0) (reverse notes.now) }
-    requires known { All (λ e. HasOutcome (A.algebra automaton.now) (A.downward automaton.now) (rules_of grammar.now.rules) (keys risen.now.known) lists.old.items e.0 e.1) known.now }
-    requires earlier { AreEarlier lists.old.items }
+    requires known { All (λ e. HasOutcome (A.algebra automaton.now) (A.downward automaton.now) (rules_of grammar.now.rules) (keys risen.now.known) lists.old e.0 e.1) known.now }
+    requires earlier { AreEarlier lists.old.lists }
     requires there { descent.old.spot.pair < length (keys risen.now.known) }
     requires small { nodes_in (value_at (rules_of grammar.now.rules) (pair_at (keys risen.now.known) descent.old.spot.pair).0) < 2 ^ 63 }
-    requires stands { Standing (A.algebra automaton.now) (A.downward automaton.now) (rules_of grammar.now.rules) (keys risen.now.known) lists.old.items descent.old marks.old.top }
+    requires stands { Standing (A.algebra automaton.now) (A.downward automaton.now) (rules_of grammar.now.rules) (keys risen.now.known) lists.old descent.old marks.old.top }
     ensures same { descent.new.spot ≡ descent.old.spot }
-    ensures more { OnOk result ((more : List (Vec Part TheGlobal)) × (lists.new.items ≡ lists.old.items ++ more)) }
-    ensures earlier { OnOk result (AreEarlier lists.new.items) }
-    ensures done { IfOk result (λ next. IfNone next (HasOutcome (A.algebra automaton.now) (A.downward automaton.now) (rules_of grammar.now.rules) (keys risen.now.known) lists.new.items descent.new.spot descent.new.outcome)) }
-    ensures waits { IfOk result (λ next. IfSome next (λ spot. Asks (A.algebra automaton.now) (A.downward automaton.now) (rules_of grammar.now.rules) (keys risen.now.known) lists.new.items descent.old spot descent.new marks.new.top)) }
+    ensures more { OnOk result (Extends lists.old lists.new) }
+    ensures earlier { OnOk result (AreEarlier lists.new.lists) }
+    ensures done { IfOk result (λ next. IfNone next (HasOutcome (A.algebra automaton.now) (A.downward automaton.now) (rules_of grammar.now.rules) (keys risen.now.known) lists.new descent.new.spot descent.new.outcome)) }
+    ensures waits { IfOk result (λ next. IfSome next (λ spot. Asks (A.algebra automaton.now) (A.downward automaton.now) (rules_of grammar.now.rules) (keys risen.now.known) lists.new descent.old spot descent.new marks.new.top)) }
     ensures below { OnOk result (marks.new.below ≡ marks.old.below) }
     ensures new { IfOk result (λ next. IfSome next (λ spot. All (λ e. e.0 ≢ spot) known.now)) }
 {
@@ -133,7 +132,7 @@ pub(crate) fn descend<A: Falling>(
             }
             Note::Symbol(symbol, kids, rest) => {
                 let fell = automaton.step(*symbol, &down, kids, rest)?;
-                enter_symbol(marks, &mut descent.here, *symbol, fell)?;
+                enter_symbol(marks, &mut descent.here, *symbol, fell, lists.are_kept())?;
             }
             Note::Call(pair) => {
                 let spot = Spot { pair: *pair, down };
@@ -153,7 +152,7 @@ pub(crate) fn descend<A: Falling>(
 // Goes to the next term, and answers its down state; none where nothing is open any more.
 fn next_term<D: Drop>(marks: &mut Layers<Mark<D>>, here: &mut Here) -> Result<Option<D>, AllocError>
     requires { HasRoomAhead here.old marks.old.top }
-    ensures next { IfOk result (λ found. (lists : List (Vec Part TheGlobal)) (s : Stretch) (ms : List (Open D)) → IsTelling lists here.old s → AreOpen lists marks.old.top ms → IsNext lists found s ms marks.new.top here.new) }
+    ensures next { IfOk result (λ found. (lists : Listed) (s : Stretch) (ms : List (Open D)) → IsTelling lists here.old s → AreOpen lists marks.old.top ms → IsNext lists found s ms marks.new.top here.new) }
     ensures below { marks.new.below ≡ marks.old.below }
 {
     'marks: while let Some(mark) = marks.pop() {
@@ -171,14 +170,15 @@ fn enter_symbol<D: Drop>(
     here: &mut Here,
     symbol: usize,
     fell: Fell<D>,
+    kept: bool,
 ) -> Result<(), AllocError>
     requires nodes { here.old.nodes + 1 < 2 ^ 64 }
     requires hits { here.old.hits + 1 < 2 ^ 64 }
-    ensures telling { OnOk result ((lists : List (Vec Part TheGlobal)) (s : Stretch) → IsTelling lists here.old s → IsTelling lists here.new (beside s (one fell.hit symbol))) }
+    ensures telling { OnOk result ((lists : Listed) (s : Stretch) → lists.kept ≡ kept → IsTelling lists here.old s → IsTelling lists here.new (beside s (one fell.hit symbol))) }
     ensures marks { OnOk result (marks.new.top ≡ Mark.Term fell.left ∷ Mark.Term fell.right ∷ marks.old.top) }
     ensures below { OnOk result (marks.new.below ≡ marks.old.below) }
 {
-    here.add(fell.hit, symbol)?;
+    here.add(fell.hit, symbol, kept)?;
     marks.push(Mark::Term(fell.right))?;
     marks.push(Mark::Term(fell.left))?;
     Ok(())
@@ -191,7 +191,7 @@ pub(crate) fn enter_call<D: RunState>(
     outcome: &Outcome<D>,
 ) -> Result<(), AllocError>
     requires room { (told : Told) → told ≡ get_or (tolds outcome.now) 0 told → HasRoom here.old told }
-    ensures entered { (lists : List (Vec Part TheGlobal)) (s : Stretch) (ms : List (Open D)) (ss : List Stretch) → IsTelling lists here.old s → AreOpen lists marks.old.top ms → AreTold lists (tolds outcome.now) ss → OnOk result (IsTelling lists here.new (beside s (get_or ss 0 nothing)) × AreOpen lists marks.new.top (woven_marks (downs_handed outcome.now) (drop 1 ss) ++ ms)) }
+    ensures entered { (lists : Listed) (s : Stretch) (ms : List (Open D)) (ss : List Stretch) → IsTelling lists here.old s → AreOpen lists marks.old.top ms → AreTold lists (tolds outcome.now) ss → OnOk result (IsTelling lists here.new (beside s (get_or ss 0 nothing)) × AreOpen lists marks.new.top (woven_marks (downs_handed outcome.now) (drop 1 ss) ++ ms)) }
     ensures below { OnOk result (marks.new.below ≡ marks.old.below) }
 {
     let mut behind = outcome.last;

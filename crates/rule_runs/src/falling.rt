@@ -6,6 +6,7 @@ ghost use Rattle.segment_counts.specs.Counting.{AreCounts};
 ghost use Rattle.slt_grammar.specs.Automata.{IsSpent, hits, nodes_in};
 ghost use Rattle.slt_grammar.specs.Grammars.{body_at, value};
 ghost use Rattle.slt_grammar.specs.Keyed.{rules_of};
+ghost use Rattle.rule_runs.specs.Answering.{HasFallen};
 ghost use Rattle.rule_runs.specs.Hits.{numbers, symbols_in};
 ghost use Rattle.rule_runs.specs.Reached.{RuleStates, FallsOnce};
 ghost use Rattle.rule_runs.specs.Risen.{IsRun, keys};
@@ -13,7 +14,7 @@ ghost use Rattle.rule_runs.specs.Risen.{IsRun, keys};
 use crate::descent::{begin, descend, enter_call};
 use crate::kept::Bodies;
 use crate::layers::Layers;
-use crate::listing::Part;
+use crate::listing::{HitLists, Part};
 use crate::rising::RiseTable;
 use crate::spent::{Spent, spent_outcome};
 use crate::spots::{Spot, Spots};
@@ -76,12 +77,70 @@ pub fn fall<A: Falling, L: Ledger>(
     ensures reads { steps.new ≤ steps.old + 2 * sum_by (λ k. length (body_at (rules_of grammar.now.rules) k.0)) (keys risen.now.known) }
     ensures counted { steps.old ≤ steps.new }
 {
+    let fallen = run_down(alloc, grammar, automaton, risen, spent, true, steps)?;
+    Ok(FallTable {
+        lists: fallen.lists.into_lists(),
+        whole: fallen.whole,
+    })
+}
+
+/// How many nodes the automaton hits of all that the grammar stands for: what the table of `fall` counts, without making the table's lists.
+///
+/// It reads what `fall` reads, and needs the same. It fails where memory is refused.
+pub fn count_hits<A: Falling, L: Ledger>(
+    alloc: Global,
+    grammar: &Grammar,
+    automaton: &A,
+    risen: &RiseTable<A>,
+    spent: Option<&Spent<'_, A::Down>>,
+    steps: &mut Steps<L>,
+) -> Result<u64, AllocError>
+    requires run { IsRun (A.algebra automaton.now) (rules_of grammar.now.rules) risen.now.known }
+    requires small { nodes_in (value (rules_of grammar.now.rules)) < 2 ^ 63 }
+    requires spent { IfSome spent (λ s. IsSpent (A.downward automaton.now) s.now.down) }
+    requires counts { IfSome spent (λ s. (names : List (Kind × List ℕ)) × AreCounts names (rules_of grammar.now.rules) s.now.counts.now) }
+    ensures count { IfOk result (λ count. count ≡ length (hits (A.algebra automaton.now) (A.downward automaton.now) (value (rules_of grammar.now.rules)))) }
+    ensures steps { (triples : List (RuleStates A.State × A.Down)) × FallsOnce (A.algebra automaton.now) (A.downward automaton.now) (rules_of grammar.now.rules) triples (steps.new - steps.old) }
+    ensures reads { steps.new ≤ steps.old + 2 * sum_by (λ k. length (body_at (rules_of grammar.now.rules) k.0)) (keys risen.now.known) }
+    ensures counted { steps.old ≤ steps.new }
+{
+    let fallen = run_down(alloc, grammar, automaton, risen, spent, false, steps)?;
+    Ok(fallen.whole.hits)
+}
+
+// What a run downward has found of the whole.
+#[derive(Drop)]
+struct Fallen {
+    lists: HitLists,
+    whole: Told,
+}
+
+// Runs downward, and lists the hits where lists are kept.
+fn run_down<A: Falling, L: Ledger>(
+    alloc: Global,
+    grammar: &Grammar,
+    automaton: &A,
+    risen: &RiseTable<A>,
+    spent: Option<&Spent<'_, A::Down>>,
+    kept: bool,
+    steps: &mut Steps<L>,
+) -> Result<Fallen, AllocError>
+    requires run { IsRun (A.algebra automaton.now) (rules_of grammar.now.rules) risen.now.known }
+    requires small { nodes_in (value (rules_of grammar.now.rules)) < 2 ^ 63 }
+    requires spent { IfSome spent (λ s. IsSpent (A.downward automaton.now) s.now.down) }
+    requires counts { IfSome spent (λ s. (names : List (Kind × List ℕ)) × AreCounts names (rules_of grammar.now.rules) s.now.counts.now) }
+    ensures fallen { IfOk result (λ fallen. HasFallen (A.algebra automaton.now) (A.downward automaton.now) (value (rules_of grammar.now.rules)) fallen.lists fallen.whole) }
+    ensures kept { IfOk result (λ fallen. fallen.lists.kept ≡ kept) }
+    ensures steps { (triples : List (RuleStates A.State × A.Down)) × FallsOnce (A.algebra automaton.now) (A.downward automaton.now) (rules_of grammar.now.rules) triples (steps.new - steps.old) }
+    ensures reads { steps.new ≤ steps.old + 2 * sum_by (λ k. length (body_at (rules_of grammar.now.rules) k.0)) (keys risen.now.known) }
+    ensures counted { steps.old ≤ steps.new }
+{
     // The call tells that the rules are a grammar.
     let _rules = grammar.rules();
     let pairs = risen.known.len();
     let mut bodies = Bodies::new(alloc, pairs)?;
     let mut known = Spots::with_room(alloc, pairs)?;
-    let mut lists = Vec::new(alloc);
+    let mut lists = HitLists::new(alloc, kept);
     let mut frames = Vec::new(alloc);
     let start = Spot {
         pair: pairs - 1,
@@ -127,7 +186,7 @@ pub fn fall<A: Falling, L: Ledger>(
             },
             None => match frames.pop() {
                 None => {
-                    return Ok(FallTable {
+                    return Ok(Fallen {
                         lists,
                         whole: frame.outcome.last,
                     });

@@ -1,6 +1,5 @@
 // Down states from which nothing is hit: what a rule has at one of them is known by counts, without reading it.
-ghost use Rattle.std.specs.Prelude.{◌≡◌, ◌<◌, ℕ, List, Vec, length, IfOk, IfSome};
-ghost use Rattle.std.specs.Global.{Global as TheGlobal};
+ghost use Rattle.std.specs.Prelude.{◌≡◌, ◌<◌, ℕ, List, length, IfOk, IfSome};
 ghost use Rattle.plain_tree.specs.declared.kind.Kind.{Kind};
 ghost use Rattle.segment_counts.specs.Counting.{AreCounts};
 ghost use Rattle.segment_counts.specs.Weights.{count, node_weight};
@@ -9,9 +8,8 @@ ghost use Rattle.slt_grammar.specs.Keyed.{rules_of};
 ghost use Rattle.slt_grammar.specs.declared.rules.Rule.{Rule};
 ghost use Rattle.rule_runs.specs.Descents.{HasOutcome};
 ghost use Rattle.rule_runs.specs.Risen.{IsRun, keys};
-ghost use Rattle.rule_runs.specs.Tellings.{unhit_told};
+ghost use Rattle.rule_runs.specs.Tellings.{Listed, unhit_told};
 
-use crate::listing::Part;
 use crate::rising::RiseTable;
 use crate::spots::{Handed, Outcome, Spot};
 use crate::told::Told;
@@ -52,7 +50,7 @@ pub(crate) fn spent_outcome<A: Falling>(
     requires there { spot.now.pair < length (keys risen.now.known) }
     requires spent { IfSome spent (λ s. IsSpent (A.downward automaton.now) s.now.down) }
     requires counts { IfSome spent (λ s. (names : List (Kind × List ℕ)) × AreCounts names (rules_of grammar.now.rules) s.now.counts.now) }
-    ensures { IfOk result (λ found. IfSome found (λ outcome. (lists : List (Vec Part TheGlobal)) → HasOutcome (A.algebra automaton.now) (A.downward automaton.now) (rules_of grammar.now.rules) (keys risen.now.known) lists spot.now outcome)) }
+    ensures { IfOk result (λ found. IfSome found (λ outcome. (lists : Listed) → HasOutcome (A.algebra automaton.now) (A.downward automaton.now) (rules_of grammar.now.rules) (keys risen.now.known) lists spot.now outcome)) }
 {
     // The call tells that the rules are a grammar.
     let _rules = grammar.rules();

@@ -7,14 +7,14 @@ use Rattle.rule_runs.specs.Cuts.{cut}
 use Rattle.rule_runs.specs.Descents.{Walks, HasOutcome, befores, downs_handed}
 use Rattle.rule_runs.specs.Notes.{AreNotes}
 use Rattle.rule_runs.specs.Risen.{IsPair, keys, pair_at}
-use Rattle.rule_runs.specs.Tellings.{AreTold, Tells}
+use Rattle.rule_runs.specs.Tellings.{extended, AreTold, Tells}
 use Rattle.rule_runs.specs.Walks.{absorbed}
 use Rattle.rule_runs.proofs.Lists.{reverse-last, no_more}
 use Rattle.rule_runs.proofs.NoteLemmas.{same-reversed}
 use Rattle.rule_runs.proofs.Descents.{outcome-more, walk-next, walk-open, walk-bottom, walk-symbol, walk-call, walk-meets, walk-param, walk-end}
 use Rattle.rule_runs.proofs.Marks.{open-term}
 use Rattle.rule_runs.proofs.Rooms.{walk-room, walk-room-one, walk-room-call}
-use Rattle.rule_runs.proofs.Tellings.{told-more, told-push}
+use Rattle.rule_runs.proofs.Tellings.{extended-none, extended-twice, told-more, told-push}
 use Rattle.rule_runs.specs.declared.spots.Outcome.{Outcome}
 use Rattle.std.proofs.lemmas.List.{map-append}
 use Rattle.rule_runs.proofs.descent.descend.Goals as goal
@@ -32,9 +32,9 @@ notes-init g c =
     let same = same-reversed A G ks c.requires.run.distinct k.1 (body_at G k.0) st.notes ns st.noted c.requires.noted in
     record {
       same = refl;
-      more = ([], sym (append-nil c.args.lists.now.items));
+      more = ([], sym (extended-none c.args.lists.now));
       earlier = c.requires.earlier;
-      stands = subst (λ xs. Walks A W G ks c.args.lists.now.items k f.spot.down (reverse (take f.left xs)) c.args.marks.now.top f.here f.outcome) same st.walks;
+      stands = subst (λ xs. Walks A W G ks c.args.lists.now k f.spot.down (reverse (take f.left xs)) c.args.marks.now.top f.here f.outcome) same st.walks;
       below = refl;
       fewer = omega arith;
       within = subst (λ xs. f.left ≤ length xs) same st.within;
@@ -48,7 +48,7 @@ next_term-requires g c =
     let ks = keys c.args.risen.now.known in
     let f = c.notes.descent in
     let k = pair_at ks f.spot.pair in
-    let ls = c.notes.lists.items in
+    let ls = c.notes.lists in
     let small : nodes_in (value_at G k.0) < 2 ^ 63 = subst (λ s. nodes_in (value_at G (pair_at ks s.pair).0) < 2 ^ 63) (sym c.notes.invariant.same) c.requires.small in
     walk-room A W G ks ls k f.spot.down f.outcome (reverse (take f.left c.args.notes.now)) c.notes.marks.top f.here c.notes.invariant.stands small
 
@@ -60,7 +60,7 @@ unreachable-requires g c =
     let ks = keys c.args.risen.now.known in
     let f = c.notes.descent in
     let k = pair_at ks f.spot.pair in
-    let ls = c.notes.lists.items in
+    let ls = c.notes.lists in
     let ns = c.args.notes.now in
     let p = reverse-last ns f.left (f.left - 1) c.index-notes-descent.result (let t = c.notes-test.true in omega arith) c.notes.invariant.within c.index-notes-descent.is in
     let w = rw p at c.notes.invariant.stands in
@@ -75,7 +75,7 @@ notes-preserved-in-Bottom-1 g c =
     let ks = keys c.args.risen.now.known in
     let f = c.notes.descent in
     let k = pair_at ks f.spot.pair in
-    let ls = c.notes.lists.items in
+    let ls = c.notes.lists in
     let ns = c.args.notes.now in
     let p = reverse-last ns f.left (f.left - 1) c.index-notes-descent.result (let t = c.notes-test.true in omega arith) c.notes.invariant.within c.index-notes-descent.is in
     let d = c.in-Some.down in
@@ -98,7 +98,7 @@ notes-preserved-in-Continue-branch-4 g c =
     let ks = keys c.args.risen.now.known in
     let f = c.notes.descent in
     let k = pair_at ks f.spot.pair in
-    let ls = c.notes.lists.items in
+    let ls = c.notes.lists in
     let ns = c.args.notes.now in
     let p = reverse-last ns f.left (f.left - 1) c.index-notes-descent.result (let t = c.notes-test.true in omega arith) c.notes.invariant.within c.index-notes-descent.is in
     let d = c.in-Some.down in
@@ -112,13 +112,13 @@ notes-preserved-in-Continue-branch-4 g c =
     let pushed = c.in_ok-push-in-Param.ensures.items in
     let befores_are : befores new ≡ befores f.outcome ++ h ∷ [] = ap (map (λ x. x.before)) pushed ∙ map-append (λ x. x.before) f.outcome.handed.items (record { before = h; down = d } ∷ []) in
     let downs_are : downs_handed new ≡ downs_handed f.outcome ++ d ∷ [] = ap (map (λ x. x.down)) pushed ∙ map-append (λ x. x.down) f.outcome.handed.items (record { before = h; down = d } ∷ []) in
-    let tells : Tells (ls ++ m.0) h w.s = subst (λ x. Tells x h w.s) m.1 t.0 in
-    let told : AreTold (ls ++ m.0) (befores new) (w.done ++ w.s ∷ []) = subst (λ x. AreTold (ls ++ m.0) x (w.done ++ w.s ∷ [])) (sym befores_are) (told-push (ls ++ m.0) (befores f.outcome) w.done h w.s (told-more ls m.0 (befores f.outcome) w.done w.finished) tells) in
+    let tells : Tells (extended ls m.0) h w.s = subst (λ x. Tells x h w.s) m.1 t.0 in
+    let told : AreTold (extended ls m.0) (befores new) (w.done ++ w.s ∷ []) = subst (λ x. AreTold (extended ls m.0) x (w.done ++ w.s ∷ [])) (sym befores_are) (told-push (extended ls m.0) (befores f.outcome) w.done h w.s (told-more ls m.0 (befores f.outcome) w.done w.finished) tells) in
     record {
       same = c.notes.invariant.same;
-      more = (n.0 ++ m.0, m.1 ∙ ap (λ x. x ++ m.0) n.1 ∙ append_assoc c.args.lists.now.items n.0 m.0);
+      more = (n.0 ++ m.0, m.1 ∙ ap (λ x. extended x m.0) n.1 ∙ extended-twice c.args.lists.now n.0 m.0);
       earlier = t.1;
-      stands = rw m.1 (walk-param A W G ks ls k f.spot.down f.outcome m.0 (reverse (take (f.left - 1) ns)) c.next_term.new.marks.top c.next_term.new.here c.finish.new.self d new w told (ended.empty (ls ++ m.0)) downs_are);
+      stands = rw m.1 (walk-param A W G ks ls k f.spot.down f.outcome m.0 (reverse (take (f.left - 1) ns)) c.next_term.new.marks.top c.next_term.new.here c.finish.new.self d new w told (ended.empty (extended ls m.0)) downs_are);
       below = c.next_term.ensures.below ∙ c.notes.invariant.below;
       fewer = (let h = c.notes.invariant.fewer in omega arith);
       within = (let h = c.notes.invariant.within in omega arith);
@@ -132,7 +132,7 @@ enter_symbol-requires g c =
     let ks = keys c.args.risen.now.known in
     let f = c.notes.descent in
     let k = pair_at ks f.spot.pair in
-    let ls = c.notes.lists.items in
+    let ls = c.notes.lists in
     let small : nodes_in (value_at G k.0) < 2 ^ 63 = subst (λ s. nodes_in (value_at G (pair_at ks s.pair).0) < 2 ^ 63) (sym c.notes.invariant.same) c.requires.small in
     let ns = c.args.notes.now in
     let p = reverse-last ns f.left (f.left - 1) c.index-notes-descent.result (let t = c.notes-test.true in omega arith) c.notes.invariant.within c.index-notes-descent.is in
@@ -149,7 +149,7 @@ notes-preserved-in-Symbol-1 g c =
     let ks = keys c.args.risen.now.known in
     let f = c.notes.descent in
     let k = pair_at ks f.spot.pair in
-    let ls = c.notes.lists.items in
+    let ls = c.notes.lists in
     let ns = c.args.notes.now in
     let p = reverse-last ns f.left (f.left - 1) c.index-notes-descent.result (let t = c.notes-test.true in omega arith) c.notes.invariant.within c.index-notes-descent.is in
     let d = c.in-Some.down in
@@ -160,7 +160,7 @@ notes-preserved-in-Symbol-1 g c =
       same = c.notes.invariant.same;
       more = c.notes.invariant.more;
       earlier = c.notes.invariant.earlier;
-      stands = rw entered.marks (walk-symbol A W G ks ls k f.spot.down f.outcome c.in-Symbol.symbol c.in-Symbol.kids c.in-Symbol.rest (reverse (take (f.left - 1) ns)) c.next_term.new.marks.top c.next_term.new.here c.enter_symbol.new.here d c.in_ok-fell-in-Symbol.fell w c.in_ok-fell-in-Symbol.ensures (entered.telling ls w.s w.telling));
+      stands = rw entered.marks (walk-symbol A W G ks ls k f.spot.down f.outcome c.in-Symbol.symbol c.in-Symbol.kids c.in-Symbol.rest (reverse (take (f.left - 1) ns)) c.next_term.new.marks.top c.next_term.new.here c.enter_symbol.new.here d c.in_ok-fell-in-Symbol.fell w c.in_ok-fell-in-Symbol.ensures (entered.telling ls w.s (sym c.are_kept.ensures) w.telling));
       fewer = (let h = c.notes.invariant.fewer in omega arith);
       within = (let h = c.notes.invariant.within in omega arith);
     }
@@ -173,7 +173,7 @@ enter_call-requires g c =
     let ks = keys c.args.risen.now.known in
     let f = c.notes.descent in
     let k = pair_at ks f.spot.pair in
-    let ls = c.notes.lists.items in
+    let ls = c.notes.lists in
     let small : nodes_in (value_at G k.0) < 2 ^ 63 = subst (λ s. nodes_in (value_at G (pair_at ks s.pair).0) < 2 ^ 63) (sym c.notes.invariant.same) c.requires.small in
     let ns = c.args.notes.now in
     let p = reverse-last ns f.left (f.left - 1) c.index-notes-descent.result (let t = c.notes-test.true in omega arith) c.notes.invariant.within c.index-notes-descent.is in
@@ -182,8 +182,8 @@ enter_call-requires g c =
     let i = c.in-Call.pair in
     let o = c.in-Some-find.outcome.now in
     let n = c.notes.invariant.more in
-    let h0 = All-contains (λ e. HasOutcome A W G ks c.args.lists.now.items e.0 e.1) c.args.known.now _ c.requires.known c.in-Some-find.ensures.found in
-    let h : HasOutcome A W G ks ls (record { pair = i; down = d }) o = rw n.1 (outcome-more A W G ks c.args.lists.now.items n.0 (record { pair = i; down = d }) o h0) in
+    let h0 = All-contains (λ e. HasOutcome A W G ks c.args.lists.now e.0 e.1) c.args.known.now _ c.requires.known c.in-Some-find.ensures.found in
+    let h : HasOutcome A W G ks ls (record { pair = i; down = d }) o = rw n.1 (outcome-more A W G ks c.args.lists.now n.0 (record { pair = i; down = d }) o h0) in
     record {
       room = walk-room-call A W G ks ls k f.spot.down f.outcome i (reverse (take (f.left - 1) ns)) c.next_term.new.marks.top c.next_term.new.here d w o h small;
     }
@@ -196,7 +196,7 @@ notes-preserved g c =
     let ks = keys c.args.risen.now.known in
     let f = c.notes.descent in
     let k = pair_at ks f.spot.pair in
-    let ls = c.notes.lists.items in
+    let ls = c.notes.lists in
     let ns = c.args.notes.now in
     let p = reverse-last ns f.left (f.left - 1) c.index-notes-descent.result (let t = c.notes-test.true in omega arith) c.notes.invariant.within c.index-notes-descent.is in
     let d = c.in-Some.down in
@@ -204,8 +204,8 @@ notes-preserved g c =
     let i = c.in-Call.pair in
     let o = c.in-Some-find.outcome.now in
     let n = c.notes.invariant.more in
-    let h0 = All-contains (λ e. HasOutcome A W G ks c.args.lists.now.items e.0 e.1) c.args.known.now _ c.requires.known c.in-Some-find.ensures.found in
-    let h : HasOutcome A W G ks ls (record { pair = i; down = d }) o = rw n.1 (outcome-more A W G ks c.args.lists.now.items n.0 (record { pair = i; down = d }) o h0) in
+    let h0 = All-contains (λ e. HasOutcome A W G ks c.args.lists.now e.0 e.1) c.args.known.now _ c.requires.known c.in-Some-find.ensures.found in
+    let h : HasOutcome A W G ks ls (record { pair = i; down = d }) o = rw n.1 (outcome-more A W G ks c.args.lists.now n.0 (record { pair = i; down = d }) o h0) in
     let m = open-term ls d c.next_term.new.marks.top w.ms w.marked in
     let e = c.in_ok-enter_call-in-Some-find.ensures.entered ls w.s m.0 (cut A W (value_at G (pair_at ks i).0) (pair_at ks i).1 d) w.telling m.2 h.finished in
     let pair : IsPair G k = rw c.notes.invariant.same (All-get_or (IsPair G) ks c.args.descent.now.spot.pair (0, []) c.requires.there c.requires.run.pairs) in
@@ -227,7 +227,7 @@ returns-in-None-clause-waits g c =
     let ks = keys c.args.risen.now.known in
     let f = c.notes.descent in
     let k = pair_at ks f.spot.pair in
-    let ls = c.notes.lists.items in
+    let ls = c.notes.lists in
     let ns = c.args.notes.now in
     let p = reverse-last ns f.left (f.left - 1) c.index-notes-descent.result (let t = c.notes-test.true in omega arith) c.notes.invariant.within c.index-notes-descent.is in
     let d = c.in-Some.down in
@@ -254,7 +254,7 @@ next_term-requires-2 g c =
     let ks = keys c.args.risen.now.known in
     let f = c.notes.descent in
     let k = pair_at ks f.spot.pair in
-    let ls = c.notes.lists.items in
+    let ls = c.notes.lists in
     let small : nodes_in (value_at G k.0) < 2 ^ 63 = subst (λ s. nodes_in (value_at G (pair_at ks s.pair).0) < 2 ^ 63) (sym c.notes.invariant.same) c.requires.small in
     walk-room A W G ks ls k f.spot.down f.outcome (reverse (take f.left c.args.notes.now)) c.notes.marks.top f.here c.notes.invariant.stands small
 
@@ -262,7 +262,7 @@ pub returns-clause-more : goal.returns-clause-more
 returns-clause-more g c =
     let m = c.in_ok-last.ensures.more in
     let n = c.notes.invariant.more in
-    (n.0 ++ m.0, m.1 ∙ ap (λ x. x ++ m.0) n.1 ∙ append_assoc c.args.lists.now.items n.0 m.0)
+    (n.0 ++ m.0, m.1 ∙ ap (λ x. extended x m.0) n.1 ∙ extended-twice c.args.lists.now n.0 m.0)
 
 pub returns-clause-earlier : goal.returns-clause-earlier
 returns-clause-earlier g c =
@@ -272,7 +272,7 @@ returns-clause-earlier g c =
     let ks = keys c.args.risen.now.known in
     let f = c.notes.descent in
     let k = pair_at ks f.spot.pair in
-    let ls = c.notes.lists.items in
+    let ls = c.notes.lists in
     let z : f.left ≡ 0 = (let t = c.notes-test.false in omega arith) in
     let w : Walks A W G ks ls k f.spot.down [] c.notes.marks.top f.here f.outcome = rw z at c.notes.invariant.stands in
     let i = (c.in_ok-next_term.ensures.next ls w.s w.ms w.telling w.marked).telling in
@@ -286,13 +286,13 @@ returns-clause-done g c =
     let ks = keys c.args.risen.now.known in
     let f = c.notes.descent in
     let k = pair_at ks f.spot.pair in
-    let ls = c.notes.lists.items in
+    let ls = c.notes.lists in
     let z : f.left ≡ 0 = (let t = c.notes-test.false in omega arith) in
     let w : Walks A W G ks ls k f.spot.down [] c.notes.marks.top f.here f.outcome = rw z at c.notes.invariant.stands in
     let i = (c.in_ok-next_term.ensures.next ls w.s w.ms w.telling w.marked).telling in
     let m = c.in_ok-last.ensures.more in
     let t = c.in_ok-last.ensures.tells (absorbed w.s w.ms) i c.notes.invariant.earlier in
-    let ls' = c.finish-2.new.lists.items in
+    let ls' = c.finish-2.new.lists in
     let last = c.in_ok-last.last in
     let before : AreTold ls' (befores f.outcome) w.done = subst (λ x. AreTold x (befores f.outcome) w.done) (sym m.1) (told-more ls m.0 (befores f.outcome) w.done w.finished) in
     let told = told-push ls' (befores f.outcome) w.done last (absorbed w.s w.ms) before t.0 in

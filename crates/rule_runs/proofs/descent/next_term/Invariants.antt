@@ -2,7 +2,7 @@ use Rattle.std.proofs.Common.{◌≡◌, List, Vec, Global, length}
 use Rattle.rule_runs.specs.declared.listing.Part.{Part}
 use Rattle.rule_runs.specs.Cuts.{Stretch}
 use Rattle.rule_runs.specs.Descents.{AreOpen, HasRoomAhead, IsAbsorbing}
-use Rattle.rule_runs.specs.Tellings.{IsTelling}
+use Rattle.rule_runs.specs.Tellings.{Listed, IsTelling}
 use Rattle.rule_runs.specs.Walks.{Open}
 use Rattle.rule_runs.proofs.descent.next_term.Given as goal
 
@@ -11,7 +11,7 @@ decreases-marks g l = length l.marks.top
 
 abbrev pub invariant-marks : goal.invariant-marks
 invariant-marks g l = record {
-  absorbing : (lists : List (Vec Part Global)) (s : Stretch) (ms : List (Open g.row.D.Denot)) → IsTelling lists l.initial.here s → AreOpen lists l.initial.marks.top ms → IsAbsorbing lists s ms l.marks.top l.here;
+  absorbing : (lists : Listed) (s : Stretch) (ms : List (Open g.row.D.Denot)) → IsTelling lists l.initial.here s → AreOpen lists l.initial.marks.top ms → IsAbsorbing lists s ms l.marks.top l.here;
   room : HasRoomAhead l.here l.marks.top;
   below : l.marks.below ≡ l.initial.marks.below;
 }

@@ -1,4 +1,4 @@
-use Rattle.std.proofs.Common.{◌<◌, ◌≤◌, ◌+◌, ◌*◌, ◌-◌, ◌++◌, ◌∷◌, length, reverse, sum_by, All}
+use Rattle.std.proofs.Common.{◌≡◌, ◌<◌, ◌≤◌, ◌+◌, ◌*◌, ◌-◌, ◌++◌, ◌∷◌, length, reverse, sum_by, All}
 use Rattle.slt_grammar.specs.Grammars.{body_at}
 use Rattle.slt_grammar.specs.Keyed.{rules_of}
 use Rattle.rule_runs.specs.Reached.{FallsOnce}
@@ -7,7 +7,7 @@ use Rattle.rule_runs.specs.Listing.{AreEarlier}
 use Rattle.rule_runs.specs.Notes.{AreKept, HasBody, unread}
 use Rattle.rule_runs.specs.Risen.{keys}
 use Rattle.rule_runs.proofs.Triples.{known_triples, open_triples}
-use Rattle.rule_runs.proofs.falling.fall.Given as goal
+use Rattle.rule_runs.proofs.falling.run_down.Given as goal
 
 abbrev pub decreases-bodies : goal.decreases-bodies
 decreases-bodies g l = fall_cost (rules_of l.grammar.rules) (keys l.risen.known) l.frame + sum_by (fall_cost (rules_of l.grammar.rules) (keys l.risen.known)) (reverse l.frames.items)
@@ -19,14 +19,15 @@ invariant-bodies g l =
     let G = rules_of l.grammar.rules in
     let ks = keys l.risen.known in
     record {
-      outcomes : All (λ e. HasOutcome A W G ks l.lists.items e.0 e.1) l.known;
+      outcomes : All (λ e. HasOutcome A W G ks l.lists e.0 e.1) l.known;
       kept : AreKept A G ks l.bodies;
       read : HasBody l.bodies l.frame.spot.pair;
       outer : All (λ f. HasBody l.bodies f.spot.pair) (reverse l.frames.items);
-      earlier : AreEarlier l.lists.items;
+      earlier : AreEarlier l.lists.lists;
+      listed : l.lists.kept ≡ l.fn.kept;
       there : l.frame.spot.pair < length ks;
-      stands : Standing A W G ks l.lists.items l.frame l.marks.top;
-      waiting : AreWaiting A W G ks l.lists.items l.frame.spot (reverse l.frames.items) l.marks.below;
+      stands : Standing A W G ks l.lists l.frame l.marks.top;
+      waiting : AreWaiting A W G ks l.lists l.frame.spot (reverse l.frames.items) l.marks.below;
       reads : FallsOnce A W G (known_triples A W G ks l.known ++ (triple_at ks l.frame.spot ∷ open_triples A W G ks (reverse l.frames.items))) (l.steps - l.fn.steps);
       counted : l.fn.steps ≤ l.steps;
       few : l.steps + 2 * unread G ks l.bodies ≤ l.fn.steps + 2 * sum_by (λ k. length (body_at G k.0)) ks;

@@ -2,18 +2,18 @@ use Rattle.std.proofs.Common.{◌≡◌, ◌-◌, ◌<◌, ◌∙◌, ◌++◌, 
 use Rattle.std.proofs.lemmas.List.Elements.{All-append, All-cons, All-head, All-nil, All-tail, All-weaker}
 use Rattle.slt_grammar.specs.Grammars.{value}
 use Rattle.slt_grammar.specs.Keyed.{rules_of}
-use Rattle.rule_runs.specs.Hits.{numbers, symbols_in}
 use Rattle.rule_runs.specs.Reached.{FallsOnce}
 use Rattle.rule_runs.specs.Descents.{HasOutcome, Asks, AreWaiting, triple_at}
 use Rattle.rule_runs.specs.Notes.{HasBody}
 use Rattle.rule_runs.specs.Risen.{keys, pair_at}
+use Rattle.rule_runs.specs.Tellings.{extended}
 use Rattle.rule_runs.proofs.Lists.{reverse-push, all-one, no_more}
 use Rattle.rule_runs.proofs.Descents.{waiting-more}
-use Rattle.rule_runs.proofs.Triples.{known_triples, open_triples, start-last, start-falls, falls-none, falls-start, falls-more, pair-of, waiting-begin, triples-return, stands-again, frame-small, outer-small, fall-cost-begin, fall-cost-less, whole-told, told-answers, told-answered, outcomes-more, spot-apart}
+use Rattle.rule_runs.proofs.Triples.{known_triples, open_triples, start-last, start-falls, falls-none, falls-start, falls-more, pair-of, waiting-begin, triples-return, stands-again, frame-small, outer-small, fall-cost-begin, fall-cost-less, whole-told, outcomes-more, spot-apart}
 use Rattle.rule_runs.proofs.KeptNotes.{unread-most}
-use Rattle.rule_runs.proofs.Found.{found-hits, found-right, found-small}
+use Rattle.rule_runs.proofs.Found.{found, found-hits, found-right, found-small}
 use Rattle.rule_runs.proofs.Rooms.{walk-room-call}
-use Rattle.rule_runs.proofs.falling.fall.Goals as goal
+use Rattle.rule_runs.proofs.falling.run_down.Goals as goal
 
 pub returns-in_err-start-clause-steps : goal.returns-in_err-start-clause-steps
 returns-in_err-start-clause-steps g c = ([], falls-none (g.A.Rising.algebra c.args.automaton.now) (g.A.Falling.downward c.args.automaton.now) (rules_of c.args.grammar.now.rules) _ (omega arith))
@@ -73,13 +73,14 @@ bodies-init g c =
     let p = ap (λ x. x.pair) s in
     let r = falls-start A W G es c.requires.run c.rules-rules.ensures.grammar (record { pair = c.len-pairs.result - 1; down = c.in_ok-start.field-0 }) (c.begin.new.steps - c.args.steps.now) n c.in_ok-start.ensures (omega arith) in
     record {
-      outcomes = rw c.in_ok-known.ensures (All-nil (λ e. HasOutcome A W G (keys es) c.new-lists.result.items e.0 e.1));
+      outcomes = rw c.in_ok-known.ensures (All-nil (λ e. HasOutcome A W G (keys es) c.new-lists.result e.0 e.1));
       kept = c.begin.ensures.kept;
       read = rw s c.in_ok-frame.ensures.read;
       outer = rw c.new-frames.ensures.items (All-nil (λ f. HasBody c.begin.new.bodies f.spot.pair));
-      earlier = rw c.new-lists.ensures.items (λ i lt. absurd (omega arith));
+      earlier = rw c.new-lists.ensures (λ i lt. absurd (omega arith));
+      listed = ap (λ l. l.kept) c.new-lists.ensures;
       there = omega (arith, p, n, last.1);
-      stands = c.in_ok-frame.ensures.stands c.new-lists.result.items;
+      stands = c.in_ok-frame.ensures.stands c.new-lists.result;
       waiting = rw c.new-frames.ensures.items (s ∙ ap (λ x. record { pair = x; down = c.in_ok-start.field-0 }) n ∙ ap (λ d. record { pair = length (keys es) - 1; down = d }) c.in_ok-start.ensures);
       reads = rw (c.in_ok-known.ensures, c.new-frames.ensures.items, s) r;
       counted = c.begin.ensures.counted;
@@ -96,7 +97,7 @@ returns-in_err-frame-in-None-2-clause-steps g c =
     let n = rw c.in-Some-2.is at c.in_ok-spot.ensures.new in
     let k = c.begin-in-None-2.ensures.steps in
     let o = c.bodies.invariant.counted in
-    (_, falls-more A W G ks c.requires.run.distinct c.bodies.lists.items c.bodies.known c.bodies.frame c.descend.new.descent (reverse c.bodies.frames.items) c.bodies.marks.below c.descend.new.marks.top c.in-Some-2.spot (c.bodies.steps - c.args.steps.now) (c.begin-in-None-2.new.steps - c.args.steps.now) c.descend.new.lists.items c.bodies.invariant.reads c.bodies.invariant.waiting a c.bodies.invariant.outcomes n (omega arith))
+    (_, falls-more A W G ks c.requires.run.distinct c.bodies.lists c.bodies.known c.bodies.frame c.descend.new.descent (reverse c.bodies.frames.items) c.bodies.marks.below c.descend.new.marks.top c.in-Some-2.spot (c.bodies.steps - c.args.steps.now) (c.begin-in-None-2.new.steps - c.args.steps.now) c.descend.new.lists c.bodies.invariant.reads c.bodies.invariant.waiting a c.bodies.invariant.outcomes n (omega arith))
 
 pub bodies-smaller-in-None-2 : goal.bodies-smaller-in-None-2
 bodies-smaller-in-None-2 g c =
@@ -117,7 +118,7 @@ bodies-preserved-in-None-2 g c =
     let W = g.A.Falling.downward c.args.automaton.now in
     let G = rules_of c.args.grammar.now.rules in
     let ks = keys c.args.risen.now.known in
-    let ls = c.bodies.lists.items in
+    let ls = c.bodies.lists in
     let gs = reverse c.bodies.frames.items in
     let f = c.bodies.frame in
     let f' = c.descend.new.descent in
@@ -128,10 +129,10 @@ bodies-preserved-in-None-2 g c =
     let o = c.bodies.invariant.counted in
     let m = c.in_ok-spot.ensures.more in
     let same = c.in_ok-spot.ensures.same in
-    let r = falls-more A W G ks c.requires.run.distinct ls c.bodies.known f f' gs c.bodies.marks.below c.descend.new.marks.top s (c.bodies.steps - c.args.steps.now) (c.begin-in-None-2.new.steps - c.args.steps.now) c.descend.new.lists.items c.bodies.invariant.reads c.bodies.invariant.waiting a c.bodies.invariant.outcomes n (omega arith) in
+    let r = falls-more A W G ks c.requires.run.distinct ls c.bodies.known f f' gs c.bodies.marks.below c.descend.new.marks.top s (c.bodies.steps - c.args.steps.now) (c.begin-in-None-2.new.steps - c.args.steps.now) c.descend.new.lists c.bodies.invariant.reads c.bodies.invariant.waiting a c.bodies.invariant.outcomes n (omega arith) in
     let e = ap reverse c.in_ok-push-in-None-2.ensures.items ∙ reverse-push c.bodies.frames.items f' in
     let mt = c.descend.new.marks.top in
-    let a' : Asks A W G ks (ls ++ m.0) f s f' mt = subst (λ x. Asks A W G ks x f s f' mt) m.1 a in
+    let a' : Asks A W G ks (extended ls m.0) f s f' mt = subst (λ x. Asks A W G ks x f s f' mt) m.1 a in
     let w = waiting-begin A W G ks ls m.0 f f' gs c.bodies.marks.below mt s c.bodies.invariant.waiting c.bodies.invariant.there a' same in
     let spot = c.in_ok-frame-in-None-2.ensures.spot in
     record {
@@ -140,43 +141,31 @@ bodies-preserved-in-None-2 g c =
       read = rw spot c.in_ok-frame-in-None-2.ensures.read;
       outer = rw e (All-weaker (λ f. HasBody c.bodies.bodies f.spot.pair) (λ f. HasBody c.begin-in-None-2.new.bodies f.spot.pair) (λ f h. c.begin-in-None-2.ensures.stays f.spot.pair h) (f' ∷ gs) (All-cons (λ f. HasBody c.bodies.bodies f.spot.pair) f' gs (rw same c.bodies.invariant.read) c.bodies.invariant.outer));
       earlier = c.in_ok-spot.ensures.earlier;
+      listed = ap (λ l. l.kept) m.1 ∙ c.bodies.invariant.listed;
       there = rw spot a.there;
-      stands = c.in_ok-frame-in-None-2.ensures.stands c.descend.new.lists.items;
+      stands = c.in_ok-frame-in-None-2.ensures.stands c.descend.new.lists;
       waiting = rw (e, spot, c.in_ok-frame-in-None-2.ensures.below, c.in_ok-open-in-None-2.ensures.below, c.in_ok-spot.ensures.below) (subst (λ x. AreWaiting A W G ks x s (f' ∷ gs) (mt ∷ c.bodies.marks.below)) (sym m.1) w);
       reads = rw (e, spot, same) r;
       counted = (let h = c.begin-in-None-2.ensures.counted in omega arith);
       few = (let h = c.in_ok-frame-in-None-2.ensures.once in let few = c.bodies.invariant.few in omega arith);
     }
 
-pub invariant_of-result : goal.invariant_of-result
-invariant_of-result g c =
+pub returns-in-None-pop-clause-fallen : goal.returns-in-None-pop-clause-fallen
+returns-in-None-pop-clause-fallen g c =
     let A = g.A.Rising.algebra c.args.automaton.now in
     let W = g.A.Falling.downward c.args.automaton.now in
     let G = rules_of c.args.grammar.now.rules in
     let h = rw c.in-None.is at c.in_ok-spot.ensures.done in
-    let t = whole-told A W G c.args.risen.now.known c.requires.run c.rules-rules.ensures.grammar c.bodies.lists.items c.descend.new.lists.items c.bodies.frame.spot c.descend.new.descent.spot c.bodies.frames.items c.bodies.marks.below c.descend.new.descent.outcome
+    let t = whole-told A W G c.args.risen.now.known c.requires.run c.rules-rules.ensures.grammar c.bodies.lists c.descend.new.lists c.bodies.frame.spot c.descend.new.descent.spot c.bodies.frames.items c.bodies.marks.below c.descend.new.descent.outcome
     (omega (arith, c.in-None-pop.ensures.cases.0, c.bodies.frames.ok.0)) c.bodies.invariant.waiting c.in_ok-spot.ensures.same h in
-    told-answered c.descend.new.lists.items c.descend.new.descent.outcome.last _ t c.in_ok-spot.ensures.earlier (found-small A W (value G) c.requires.small)
-
-pub returns-in-None-pop-clause-hits : goal.returns-in-None-pop-clause-hits
-returns-in-None-pop-clause-hits g c =
-    let A = g.A.Rising.algebra c.args.automaton.now in
-    let W = g.A.Falling.downward c.args.automaton.now in
-    let G = rules_of c.args.grammar.now.rules in
-    let h = rw c.in-None.is at c.in_ok-spot.ensures.done in
-    let t = whole-told A W G c.args.risen.now.known c.requires.run c.rules-rules.ensures.grammar c.bodies.lists.items c.descend.new.lists.items c.bodies.frame.spot c.descend.new.descent.spot c.bodies.frames.items c.bodies.marks.below c.descend.new.descent.outcome
-    (omega (arith, c.in-None-pop.ensures.cases.0, c.bodies.frames.ok.0)) c.bodies.invariant.waiting c.in_ok-spot.ensures.same h in
-    ap numbers (told-answers c.descend.new.lists.items c.descend.new.descent.outcome.last _ t) ∙ found-hits A W (value G)
-
-pub returns-in-None-pop-clause-symbols : goal.returns-in-None-pop-clause-symbols
-returns-in-None-pop-clause-symbols g c =
-    let A = g.A.Rising.algebra c.args.automaton.now in
-    let W = g.A.Falling.downward c.args.automaton.now in
-    let G = rules_of c.args.grammar.now.rules in
-    let h = rw c.in-None.is at c.in_ok-spot.ensures.done in
-    let t = whole-told A W G c.args.risen.now.known c.requires.run c.rules-rules.ensures.grammar c.bodies.lists.items c.descend.new.lists.items c.bodies.frame.spot c.descend.new.descent.spot c.bodies.frames.items c.bodies.marks.below c.descend.new.descent.outcome
-    (omega (arith, c.in-None-pop.ensures.cases.0, c.bodies.frames.ok.0)) c.bodies.invariant.waiting c.in_ok-spot.ensures.same h in
-    subst (λ hs. All (λ h. slice_get (symbols_in (value G)) h.number ≡ Some h.symbol) hs) (sym (told-answers c.descend.new.lists.items c.descend.new.descent.outcome.last _ t)) (found-right A W (value G))
+    record {
+      found = found A W (value G);
+      tells = t;
+      numbered = found-hits A W (value G);
+      symbols = found-right A W (value G);
+      small = found-small A W (value G) c.requires.small;
+      earlier = c.in_ok-spot.ensures.earlier;
+    }
 
 pub descend-requires-clause-small : goal.descend-requires-clause-small
 descend-requires-clause-small g c =
@@ -191,7 +180,7 @@ enter_call-requires-in-Some-pop g c =
     let W = g.A.Falling.downward c.args.automaton.now in
     let G = rules_of c.args.grammar.now.rules in
     let ks = keys c.args.risen.now.known in
-    let ls = c.descend.new.lists.items in
+    let ls = c.descend.new.lists in
     let f = c.bodies.frame in
     let f' = c.descend.new.descent in
     let below = c.in-Some-pop.below in
@@ -200,8 +189,8 @@ enter_call-requires-in-Some-pop g c =
     let m = c.in_ok-spot.ensures.more in
     let e = ap reverse c.in-Some-pop.ensures.items ∙ reverse-push c.pop.new.self.items below in
     let mss = c.bodies.marks.below in
-    let w0 : AreWaiting A W G ks c.bodies.lists.items f.spot (below ∷ gs) mss = rw e at c.bodies.invariant.waiting in
-    let w1 = waiting-more A W G ks c.bodies.lists.items m.0 f.spot (below ∷ gs) mss w0 in
+    let w0 : AreWaiting A W G ks c.bodies.lists f.spot (below ∷ gs) mss = rw e at c.bodies.invariant.waiting in
+    let w1 = waiting-more A W G ks c.bodies.lists m.0 f.spot (below ∷ gs) mss w0 in
     let w2 : AreWaiting A W G ks ls f.spot (below ∷ gs) mss = subst (λ x. AreWaiting A W G ks x f.spot (below ∷ gs) mss) (sym m.1) w1 in
     let w3 : AreWaiting A W G ks ls f'.spot (below ∷ gs) mss = subst (λ x. AreWaiting A W G ks ls x (below ∷ gs) mss) (sym c.in_ok-spot.ensures.same) w2 in
     let r : FallsOnce A W G (known_triples A W G ks c.bodies.known ++ (triple_at ks f.spot ∷ open_triples A W G ks (below ∷ gs))) (c.bodies.steps - c.args.steps.now) = rw e at c.bodies.invariant.reads in
@@ -225,8 +214,8 @@ bodies-preserved g c =
     let G = rules_of c.args.grammar.now.rules in
     let es = c.args.risen.now.known in
     let ks = keys es in
-    let ls = c.bodies.lists.items in
-    let ls' = c.descend.new.lists.items in
+    let ls = c.bodies.lists in
+    let ls' = c.descend.new.lists in
     let f = c.bodies.frame in
     let f' = c.descend.new.descent in
     let below = c.in-Some-pop.below in
@@ -251,6 +240,7 @@ bodies-preserved g c =
       read = All-head (λ f. HasBody c.bodies.bodies f.spot.pair) below gs outer;
       outer = All-tail (λ f. HasBody c.bodies.bodies f.spot.pair) below gs outer;
       earlier = c.in_ok-spot.ensures.earlier;
+      listed = ap (λ l. l.kept) m.1 ∙ c.bodies.invariant.listed;
       there = w3.2;
       stands = stands-again A W G ks c.rules-rules.ensures.grammar ls' below f'.spot f'.outcome (get_or mss 0 []) c.enter_call-in-Some-pop.new.marks.top c.enter_call-in-Some-pop.new.here pair w3.0 h (λ s ms ss. rw top at (c.in_ok-enter_call-in-Some-pop.ensures.entered ls' s ms ss));
       waiting = rw (c.in_ok-enter_call-in-Some-pop.ensures.below, c.close.ensures.below, c.in_ok-spot.ensures.below) w3.3;
@@ -265,7 +255,7 @@ enter_call-requires g c =
     let W = g.A.Falling.downward c.args.automaton.now in
     let G = rules_of c.args.grammar.now.rules in
     let ks = keys c.args.risen.now.known in
-    let ls = c.descend.new.lists.items in
+    let ls = c.descend.new.lists in
     let f = c.bodies.frame in
     let f' = c.descend.new.descent in
     let s = c.in-Some-2.spot in
@@ -293,8 +283,8 @@ bodies-preserved-in_ok-note-in-Some-3 g c =
     let G = rules_of c.args.grammar.now.rules in
     let es = c.args.risen.now.known in
     let ks = keys es in
-    let ls = c.bodies.lists.items in
-    let ls' = c.descend.new.lists.items in
+    let ls = c.bodies.lists in
+    let ls' = c.descend.new.lists in
     let gs = reverse c.bodies.frames.items in
     let mss = c.bodies.marks.below in
     let mt = c.descend.new.marks.top in
@@ -318,6 +308,7 @@ bodies-preserved-in_ok-note-in-Some-3 g c =
       read = rw same c.bodies.invariant.read;
       outer = c.bodies.invariant.outer;
       earlier = c.in_ok-spot.ensures.earlier;
+      listed = ap (λ l. l.kept) m.1 ∙ c.bodies.invariant.listed;
       there = there;
       stands = stands-again A W G ks c.rules-rules.ensures.grammar ls' f' s out mt c.enter_call.new.marks.top c.enter_call.new.here (pair-of A W G es c.requires.run f'.spot.pair there) a.waits h (λ s ms ss. c.in_ok-enter_call-in-Some-3.ensures.entered ls' s ms ss);
       waiting = rw (c.in_ok-enter_call-in-Some-3.ensures.below, c.in_ok-spot.ensures.below, same) w2;

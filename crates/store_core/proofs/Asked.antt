@@ -29,7 +29,7 @@ use Rattle.store_core.specs.Machine.{Queries, Counts, PrintsFirst}
 use Rattle.store_core.specs.Printed.{Gathers, hit_line, hit_lines}
 use Rattle.store_core.specs.Reads.{ReadsFew, most_reads}
 use Rattle.store_core.specs.Refusals.{Cause, IsReady}
-use Rattle.store_core.specs.Selecting.{Selects, SpellsNoQuery, SpellsLarge}
+use Rattle.store_core.specs.Selecting.{Selects, SpellsNoQuery, SpellsLarge, SelectsSoMany}
 use Rattle.store_core.specs.Stopping.{query_refusal}
 use Rattle.store_core.specs.Texts.{answer_line, selected_line}
 use Rattle.store_core.specs.Worlds.{Parts, AreLawfulParts, State, World, Same}
@@ -83,13 +83,13 @@ pub same_world : (w : World) → Same w w
 same_world w = record { state = refl; files = Stays-refl w.files }
 
 -- nodes that were selected were counted
-pub counts_told : (query : List ℕ) (tree : Tree) (hits : List Hit) (count : ℕ) (w : World) → Selects query w tree (numbers hits) → count ≡ length hits → Counts query w (answer_line (ok.Selected count)) w
-counts_told query tree hits count w selects e = record {
+pub counts_told : (query : List ℕ) (tree : Tree) (count : ℕ) (w : World) → SelectsSoMany query w tree count → Counts query w (answer_line (ok.Selected count)) w
+counts_told query tree count w selects = record {
   tree = tree;
-  answer = numbers hits;
-  selects = selects;
+  answer = selects.0;
+  selects = selects.1;
   same = same_world w;
-  printed = ap (λ n. answer_line (ok.Selected n)) (e ∙ sym (length-map hits (λ h. h.number)));
+  printed = ap (λ n. answer_line (ok.Selected n)) selects.2;
 }
 
 abbrev IsLined : Parts → Tree → Hit → Type 0

@@ -1,5 +1,5 @@
 -- What queries select in the document that is held.
-use Rattle.std.specs.Prelude.{◌≡◌, ℕ, List, Some}
+use Rattle.std.specs.Prelude.{◌≡◌, ℕ, List, Some, length}
 use Rattle.plain_tree.specs.Tree.{Tree}
 use Rattle.xpath_parser.specs.Limits.{IsLarge}
 use Rattle.xpath_parser.specs.Meaning.{selected}
@@ -25,3 +25,7 @@ pub record Selects (query : List ℕ) (w : World) (tree : Tree) (numbers : List 
   pub spelled : Spells query paths
   pub within : IsLarge paths → ⊥
   pub answer : numbers ≡ selected tree (meant_paths query paths)
+
+-- it selects so many nodes
+abbrev pub SelectsSoMany : List ℕ → World → Tree → ℕ → Type 0
+SelectsSoMany query w tree count = (numbers : List ℕ) × Selects query w tree numbers × (count ≡ length numbers)

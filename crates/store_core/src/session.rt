@@ -11,6 +11,7 @@ use crate::listing::print_hits;
 use crate::loading::load_document;
 use crate::repairing::repair_store;
 use crate::saving::{save_document, save_grammar};
+use crate::counting::count_selected;
 use crate::selecting::select;
 use crate::showing::walk_to;
 use crate::store::Store;
@@ -281,7 +282,7 @@ impl Session {
         let Some(store) = &self.store else {
             return Err(Refusal::NoDocument);
         };
-        let found = select(alloc, text, store, steps)?;
-        Ok(Answer::Selected(found.count()))
+        let count = count_selected(alloc, text, store, steps)?;
+        Ok(Answer::Selected(count))
     }
 }

@@ -1,0 +1,119 @@
+// Counting what a query selects.
+ghost use Rattle.std.specs.Prelude.{◌≡◌, ◌<◌, ◌≤◌, ◌+◌, ◌*◌, ◌^◌, ℕ, List, Some, IfOk, IfErr, length};
+ghost use Rattle.plain_tree.specs.Tree.{Tree};
+ghost use Rattle.plain_tree.specs.declared.kind.Kind.{Kind};
+ghost use Rattle.segment_counts.specs.Counting.{AreCounts};
+ghost use Rattle.slt_grammar.specs.Automata.{IsSpent, hits, nodes_in};
+ghost use Rattle.slt_grammar.specs.Grammars.{IsSwept, value, whole};
+ghost use Rattle.slt_grammar.specs.Keyed.{rules_of};
+ghost use Rattle.slt_grammar.specs.OneState.{HasOneState};
+ghost use Rattle.selecting_automaton.specs.Bounds.{HasFewStates};
+ghost use Rattle.store_core.specs.Acts.{Act, query_asked};
+ghost use Rattle.store_core.specs.Reads.{ReadsFew, most_reads};
+ghost use Rattle.store_core.specs.Refusals.{Cause};
+ghost use Rattle.store_core.specs.Selecting.{SelectsSoMany};
+ghost use Rattle.store_core.specs.StoreOf.{IsCounted, parts_of};
+ghost use Rattle.store_core.specs.Worlds.{AreLawfulParts, PartsStandFor, World};
+
+use crate::answer::Refusal;
+use crate::store::Store;
+use read_steps::Steps;
+use rule_runs::{Spent, count_hits, rise, rise_in_one_state};
+use segment_counts::Counts;
+use selecting_automaton::{Selector, compile};
+use slt_grammar::{Falling, Grammar, Rising};
+use std::alloc::{AllocError, Global};
+use std::sync::ledger::Ledger;
+use xpath_parser::{parse, spells_one};
+
+/// How many nodes the query selects. It is refused as `select` is and reads what that reads, but lists no nodes.
+pub(crate) fn count_selected<L: Ledger>(
+    alloc: Global,
+    text: &[u8],
+    store: &Store,
+    steps: &mut Steps<L>,
+) -> Result<u64, Refusal>
+    requires held { AreLawfulParts (parts_of store.now) }
+    requires counted { IsCounted store.now }
+    ensures selects { IfOk result (λ count. (tree : Tree) (w : World) → w.state ≡ Some (parts_of store.now) → PartsStandFor (parts_of store.now) tree → SelectsSoMany text.now w tree count) }
+    ensures refused { IfErr result (λ refusal. (act : Act) (old new : World) → query_asked act ≡ Some text.now → old.state ≡ Some (parts_of store.now) → Cause refusal act old new) }
+    ensures reads { ReadsFew text.now (rules_of store.now.grammar.rules) steps.old steps.new }
+{
+    // The call tells that the text spells one query alone.
+    spells_one();
+    let query = parse(alloc, text)?;
+    let selector = compile(alloc, &query, &store.names)?;
+    let count = count_of(alloc, &selector, &store.grammar, &store.counts, steps)?;
+    Ok(count)
+}
+
+// How many nodes the selector hits of all that the grammar stands for. It is refused only for want of memory.
+fn count_of<L: Ledger>(
+    alloc: Global,
+    selector: &Selector,
+    grammar: &Grammar,
+    counts: &Counts,
+    steps: &mut Steps<L>,
+) -> Result<u64, AllocError>
+    requires small { nodes_in (value (rules_of grammar.now.rules)) < 2 ^ 63 }
+    requires swept { IsSwept (rules_of grammar.now.rules) }
+    requires counted { (names : List (Kind × List ℕ)) × AreCounts names (rules_of grammar.now.rules) counts.now }
+    ensures count { IfOk result (λ count. count ≡ length (hits (⟦<Selector as Rising>⟧.algebra selector.now) (⟦<Selector as Falling>⟧.downward selector.now) (value (rules_of grammar.now.rules)))) }
+    ensures reads { (parts steps_outside : ℕ) → HasFewStates (⟦<Selector as Rising>⟧.algebra selector.now) (⟦<Selector as Falling>⟧.downward selector.now) parts steps_outside
+        → steps.new ≤ steps.old + most_reads (rules_of grammar.now.rules) parts steps_outside }
+{
+    match selector.without_filters() {
+        Some(blind) => {
+            let spent = Spent {
+                down: blind.spent(),
+                counts,
+            };
+            count_downward(alloc, &blind, grammar, &spent, steps)
+        }
+        None => count_both_ways(alloc, selector, grammar, counts, steps),
+    }
+}
+
+// How many nodes an automaton hits which tells no nodes apart upward. It is run downward alone, and each body is read once.
+fn count_downward<A: Falling, L: Ledger>(
+    alloc: Global,
+    automaton: &A,
+    grammar: &Grammar,
+    spent: &Spent<'_, A::Down>,
+    steps: &mut Steps<L>,
+) -> Result<u64, AllocError>
+    requires one { HasOneState (A.algebra automaton.now) }
+    requires small { nodes_in (value (rules_of grammar.now.rules)) < 2 ^ 63 }
+    requires swept { IsSwept (rules_of grammar.now.rules) }
+    requires spent { IsSpent (A.downward automaton.now) spent.now.down }
+    requires counts { (names : List (Kind × List ℕ)) × AreCounts names (rules_of grammar.now.rules) spent.now.counts.now }
+    ensures count { IfOk result (λ count. count ≡ length (hits (A.algebra automaton.now) (A.downward automaton.now) (value (rules_of grammar.now.rules)))) }
+    ensures reads { steps.new ≤ steps.old + 2 * whole (rules_of grammar.now.rules) }
+{
+    let risen = rise_in_one_state(alloc, grammar, automaton)?;
+    count_hits(alloc, grammar, automaton, &risen, Some(spent), steps)
+}
+
+// How many nodes the selector hits, by a run upward and one downward over what that found.
+fn count_both_ways<L: Ledger>(
+    alloc: Global,
+    selector: &Selector,
+    grammar: &Grammar,
+    counts: &Counts,
+    steps: &mut Steps<L>,
+) -> Result<u64, AllocError>
+    requires small { nodes_in (value (rules_of grammar.now.rules)) < 2 ^ 63 }
+    requires counted { (names : List (Kind × List ℕ)) × AreCounts names (rules_of grammar.now.rules) counts.now }
+    ensures count { IfOk result (λ count. count ≡ length (hits (⟦<Selector as Rising>⟧.algebra selector.now) (⟦<Selector as Falling>⟧.downward selector.now) (value (rules_of grammar.now.rules)))) }
+    ensures reads { (parts steps_outside : ℕ) → HasFewStates (⟦<Selector as Rising>⟧.algebra selector.now) (⟦<Selector as Falling>⟧.downward selector.now) parts steps_outside
+        → steps.new ≤ steps.old + most_reads (rules_of grammar.now.rules) parts steps_outside }
+{
+    // The call tells that the rules are a grammar.
+    let _rules = grammar.rules();
+    let risen = rise(alloc, grammar, selector, steps)?;
+    let spent = Spent {
+        down: selector.spent(),
+        counts,
+    };
+    count_hits(alloc, grammar, selector, &risen, Some(&spent), steps)
+}

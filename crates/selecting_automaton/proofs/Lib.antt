@@ -3,6 +3,7 @@ pub mod Climbing
 pub mod Descending
 pub mod Packing
 pub mod Spent
+mod Blind
 pub mod Sizing
 pub mod Writing
 pub mod PlacesFound

@@ -3,6 +3,7 @@ pub mod Program
 pub mod Wanting
 pub mod States
 pub mod Words
+pub mod Unfiltered
 pub mod Depths
 pub mod Bounds
 pub mod Judging

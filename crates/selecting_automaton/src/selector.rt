@@ -1,7 +1,8 @@
 // The selector of a query.
-ghost use Rattle.std.specs.Prelude.{◌≡◌, ◌≤◌, ◌<◌, ◌↔◌, IsTrue, false};
+ghost use Rattle.std.specs.Prelude.{◌≡◌, ◌≤◌, ◌<◌, ◌↔◌, IsTrue, IfSome, IfNone, false};
 ghost use Rattle.slt_grammar.specs.Automata.{IsSpent};
 ghost use Rattle.slt_grammar.specs.OneState.{HasOneState};
+ghost use Rattle.selecting_automaton.specs.Unfiltered.{HitsBlindly};
 ghost use Rattle.selecting_automaton.specs.Words.{seeks, word_algebra, word_downward};
 
 use crate::climb::rise;
@@ -9,6 +10,7 @@ use crate::descent::fall;
 use crate::sight::Sight;
 use crate::states::{Down, Up};
 use crate::turns::Turn;
+use crate::unfiltered::BlindSelector;
 use plain_tree::Kind;
 use slt_grammar::{Falling, Fell, Rising};
 use std::alloc::AllocError;
@@ -43,6 +45,19 @@ impl Selector {
         ensures one { result ≡ false → HasOneState (word_algebra self.now) }
     {
         self.parts > 0
+    }
+
+    /// The selector that asks for nothing of the nodes below a node, where the query has no filters with parts that are sought.
+    pub fn without_filters(&self) -> Option<BlindSelector<'_>>
+        ensures same { IfSome result (λ blind. blind ≡ self.now) }
+        ensures hits { IfSome result (λ blind. HitsBlindly blind) }
+        ensures none { IfNone result (0 < seeks self.now.turns) }
+    {
+        if self.has_filters() {
+            return None;
+        }
+        let blind = BlindSelector::new(self);
+        Some(blind)
     }
 
     /// The down state in which no path is on its way: nothing is hit from it on.

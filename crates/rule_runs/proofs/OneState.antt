@@ -1,15 +1,15 @@
 -- Runs upward of automata that give every node the state of bottom.
-use Rattle.std.proofs.Common.{◌≡◌, ◌≢◌, ℕ, zero, suc, ◌+◌, ◌-◌, ◌<◌, ◌≤◌, List, [], ◌∷◌, ◌++◌, length, get_or, take, drop, Some, slice_get, inl, inr, refl, sym, ap, ◌∙◌, arith, subst, All, AllPairs, Bool, true, false, get_or-drop}
+use Rattle.std.proofs.Common.{◌≡◌, ◌≢◌, ℕ, zero, suc, ◌+◌, ◌-◌, ◌<◌, ◌≤◌, List, [], ◌∷◌, ◌++◌, length, get_or, take, drop, Some, slice_get, inl, inr, refl, sym, ap, ◌∙◌, arith, subst, sum_by, All, AllPairs, Bool, true, false, get_or-drop}
 use Rattle.std.specs.Prelude.{replicate, eqb, if◌then◌else◌}
 use Rattle.std.proofs.lemmas.List.Elements.{All-append, All-map, All-nil}
-use Rattle.std.proofs.lemmas.List.Sums.{sum_by-cons}
+use Rattle.std.proofs.lemmas.List.Sums.{sum_by-cons, sum_by_more, sum_by_push}
 use Rattle.std.proofs.lemmas.List.{map-append, append-nil, length-take-le, length-replicate}
 use Rattle.std.proofs.lemmas.Bool.{cases_lt, eqb-true}
 use Rattle.rule_arena.specs.declared.label.Label.{Label}
 use Rattle.rule_arena.specs.declared.label.Label.TheVariants.{Bottom, Symbol, Call, Param}
 use Rattle.slt_grammar.specs.Algebras.{Algebra, apply, meanings, meaning, rule_meanings, ranks_of, all_meanings}
 use Rattle.slt_grammar.specs.Bodies.{params, calls_in}
-use Rattle.slt_grammar.specs.Grammars.{IsGrammar, IsSwept, body_at, rank_at, calls_of}
+use Rattle.slt_grammar.specs.Grammars.{IsGrammar, IsSwept, no_rule, body_at, rank_at, calls_of, whole}
 use Rattle.slt_grammar.specs.OneState.{HasOneState}
 use Rattle.slt_grammar.specs.Terms.{Term, Leaf, Node, Hole, up}
 use Rattle.slt_grammar.specs.declared.rules.Rule.{Rule}
@@ -110,6 +110,15 @@ module _ {S : Type 0} (A : Algebra S) where
     | inl less ↦ known-more (table G n) ((pair G n, A.bottom) ∷ []) (pair G q) (table-knows G n q less)
     | inr other ↦ let e : n ≡ q = omega arith in subst (λ k. IsKnown (table G (suc n)) (pair G k)) e (known-last (table G n) (pair G n) A.bottom)
   ]
+
+  -- the bodies of the pairs have as many nodes as those of the rules
+  pub table-nodes : (G : List Rule) (n : ℕ) → n ≤ length G → sum_by (λ (k : RuleStates S). length (body_at G k.0)) (keys (table G n)) ≡ whole (take n G)
+  table-nodes G zero l = refl
+  table-nodes G (suc n) l =
+      let on : n + 1 ≡ suc n = omega arith in
+      ap (sum_by (λ (k : RuleStates S). length (body_at G k.0))) (keys-more G n) ∙ sum_by_push (λ (k : RuleStates S). length (body_at G k.0)) (keys (table G n)) (pair G n)
+      ∙ ap (λ m. m + length (body_at G n)) (table-nodes G n (omega arith))
+      ∙ sym (ap (λ m. whole (take m G)) (sym on) ∙ sum_by_more (λ (R : Rule). length R.body) G n no_rule (omega arith))
 
   table-distinct : (G : List Rule) (n : ℕ) → AllPairs (λ p q. p ≢ q) (keys (table G n))
   table-distinct G zero = λ i j d lt le. absurd (omega arith)

@@ -1,10 +1,10 @@
 // Runs upward of automata that tell no nodes apart, such as the selectors of queries without filters.
-ghost use Rattle.std.specs.Prelude.{◌≡◌, [], replicate, IfOk};
-ghost use Rattle.slt_grammar.specs.Grammars.{IsSwept, value};
+ghost use Rattle.std.specs.Prelude.{◌≡◌, [], length, replicate, sum_by, IfOk};
+ghost use Rattle.slt_grammar.specs.Grammars.{IsSwept, body_at, value, whole};
 ghost use Rattle.slt_grammar.specs.Keyed.{rules_of};
 ghost use Rattle.slt_grammar.specs.OneState.{HasOneState};
 ghost use Rattle.slt_grammar.specs.Terms.{up};
-ghost use Rattle.rule_runs.specs.Risen.{IsRun};
+ghost use Rattle.rule_runs.specs.Risen.{IsRun, keys};
 
 use crate::memo::{Memo, Pair};
 use crate::rising::RiseTable;
@@ -14,7 +14,8 @@ use std::alloc::{AllocError, Global};
 /// The run upward of an automaton that gives every node the state of bottom, over rules of which each but the start is called. It is
 /// what `rise` answers, with the pairs in another order, and it reads no node.
 ///
-/// Each rule is met with one list of argument states, that of bottoms. It fails where memory is refused.
+/// Each rule is met with one list of argument states, that of bottoms, so the bodies of all pairs have as many nodes as the rules
+/// (`nodes`). It fails where memory is refused.
 pub fn rise_in_one_state<A: Rising>(
     alloc: Global,
     grammar: &Grammar,
@@ -24,6 +25,7 @@ pub fn rise_in_one_state<A: Rising>(
     requires swept { IsSwept (rules_of grammar.now.rules) }
     ensures top { IfOk result (λ table. table.top ≡ up (A.algebra automaton.now) (value (rules_of grammar.now.rules)) []) }
     ensures run { IfOk result (λ table. IsRun (A.algebra automaton.now) (rules_of grammar.now.rules) table.known) }
+    ensures nodes { IfOk result (λ table. sum_by (λ k. length (body_at (rules_of grammar.now.rules) k.0)) (keys table.known) ≡ whole (rules_of grammar.now.rules)) }
 {
     let rules = grammar.rules();
     let mut known = Memo::with_room(alloc, rules)?;

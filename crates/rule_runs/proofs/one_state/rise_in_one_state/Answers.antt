@@ -1,9 +1,9 @@
-use Rattle.std.proofs.Common.{◌≡◌, ◌∙◌, sym, ap, arith, length}
+use Rattle.std.proofs.Common.{◌≡◌, ◌∙◌, sym, ap, arith, length, take_all}
 use Rattle.std.specs.Prelude.{replicate}
-use Rattle.slt_grammar.specs.Grammars.{rank_at, value}
+use Rattle.slt_grammar.specs.Grammars.{rank_at, value, whole}
 use Rattle.slt_grammar.specs.Keyed.{rules_of}
 use Rattle.slt_grammar.proofs.KeyedLemmas.{length-rules_of}
-use Rattle.rule_runs.proofs.OneState.{table, table-new, table-run, up-bottom}
+use Rattle.rule_runs.proofs.OneState.{table, table-new, table-nodes, table-run, up-bottom}
 use Rattle.rule_runs.proofs.one_state.rise_in_one_state.Goals as goal
 
 pub note-requires : goal.note-requires
@@ -26,3 +26,11 @@ returns-clause-run g c =
     let n : c.rules.rule ≡ length G = omega (arith, c.rules-rules.ensures.value, length-rules_of c.args.grammar.now.rules, c.rules-test.false, c.rules.auto.rule-end) in
     let k = c.rules.invariant ∙ ap (table A G) n in
     rw (c.known-2.view_is, k) (table-run A c.requires.one G c.rules-rules.ensures.grammar c.requires.swept)
+
+pub returns-clause-nodes : goal.returns-clause-nodes
+returns-clause-nodes g c =
+    let A = g.A.Rising.algebra c.args.automaton.now in
+    let G = rules_of c.args.grammar.now.rules in
+    let n : c.rules.rule ≡ length G = omega (arith, c.rules-rules.ensures.value, length-rules_of c.args.grammar.now.rules, c.rules-test.false, c.rules.auto.rule-end) in
+    let k = c.rules.invariant ∙ ap (table A G) n in
+    rw (c.known-2.view_is, k) (table-nodes A G (length G) (omega arith) ∙ ap whole (take_all (length G) G (omega arith)))

@@ -29,6 +29,14 @@ power-power n a (suc b) =
 spread : (m n w : ℕ) → 2 * m * n * (1 + w) ≡ 2 * (n * m) + 2 * (w * (n * m))
 spread m n w = grind arith
 
+-- to read each node twice is within them
+pub once-few : (G : List Rule) (parts steps : ℕ) → 2 * whole G ≤ most_reads G parts steps
+once-few G parts steps =
+    let n : ℕ = 4 ^ (greatest_rank G * parts) in
+    let one : 1 ≤ n = one-le-pow (greatest_rank G * parts) 4 (omega arith) in
+    let some : 1 * whole G ≤ n * whole G = mul-le-mul_right (whole G) one in
+    omega (arith, some, spread (whole G) n (8 ^ (steps + 1)))
+
 -- ---- states as numbers, by a base that their words are below
 abbrev IsUpBelow : ℕ → Up → Type 0
 IsUpBelow b u = (u.chain < b) × (u.code < b)

@@ -1,16 +1,14 @@
 // Finding what a query selects.
-ghost use Rattle.std.specs.Prelude.{◌≡◌, ◌<◌, ◌≤◌, ◌+◌, ◌-◌, ◌^◌, ℕ, List, All, Some, IfOk, IfErr, slice_get};
+ghost use Rattle.std.specs.Prelude.{◌≡◌, ◌<◌, ◌≤◌, ◌+◌, ◌*◌, ◌^◌, ℕ, List, All, Some, IfOk, IfErr, slice_get};
 ghost use Rattle.plain_tree.specs.Tree.{Tree};
 ghost use Rattle.plain_tree.specs.declared.kind.Kind.{Kind};
 ghost use Rattle.segment_counts.specs.Counting.{AreCounts};
-ghost use Rattle.slt_grammar.specs.Automata.{hits, nodes_in};
-ghost use Rattle.slt_grammar.specs.Grammars.{IsSwept, value};
+ghost use Rattle.slt_grammar.specs.Automata.{IsSpent, hits, nodes_in};
+ghost use Rattle.slt_grammar.specs.Grammars.{IsSwept, value, whole};
 ghost use Rattle.slt_grammar.specs.Keyed.{rules_of};
+ghost use Rattle.slt_grammar.specs.OneState.{HasOneState};
 ghost use Rattle.rule_runs.specs.Hits.{numbers, symbols_in};
-ghost use Rattle.rule_runs.specs.Reached.{ReadsOnce, RuleStates};
-ghost use Rattle.rule_runs.specs.Risen.{IsRun};
 ghost use Rattle.selecting_automaton.specs.Bounds.{HasFewStates};
-ghost use Rattle.selecting_automaton.specs.declared.states.Up.{Up};
 ghost use Rattle.store_core.specs.Acts.{Act, query_asked};
 ghost use Rattle.store_core.specs.Printed.{hit_line};
 ghost use Rattle.store_core.specs.Reads.{ReadsFew, most_reads};
@@ -23,7 +21,7 @@ ghost use Rattle.store_core.specs.Worlds.{AreLawfulParts, PartsStandFor, World};
 use crate::answer::Refusal;
 use crate::store::Store;
 use read_steps::Steps;
-use rule_runs::{FallTable, RiseTable, Spent, fall, rise, rise_in_one_state};
+use rule_runs::{FallTable, Spent, fall, rise, rise_in_one_state};
 use segment_counts::Counts;
 use selecting_automaton::{Selector, compile};
 use slt_grammar::{Falling, Grammar, Rising};
@@ -73,31 +71,60 @@ fn run<L: Ledger>(
     ensures reads { (parts steps_outside : ℕ) → HasFewStates (⟦<Selector as Rising>⟧.algebra selector.now) (⟦<Selector as Falling>⟧.downward selector.now) parts steps_outside
         → steps.new ≤ steps.old + most_reads (rules_of grammar.now.rules) parts steps_outside }
 {
+    match selector.without_filters() {
+        Some(blind) => {
+            let spent = Spent {
+                down: blind.spent(),
+                counts,
+            };
+            run_downward(alloc, &blind, grammar, &spent, steps)
+        }
+        None => run_both_ways(alloc, selector, grammar, counts, steps),
+    }
+}
+
+// The nodes that an automaton hits which tells no nodes apart upward. It is run downward alone, and each body is read once.
+fn run_downward<A: Falling, L: Ledger>(
+    alloc: Global,
+    automaton: &A,
+    grammar: &Grammar,
+    spent: &Spent<'_, A::Down>,
+    steps: &mut Steps<L>,
+) -> Result<FallTable, AllocError>
+    requires one { HasOneState (A.algebra automaton.now) }
+    requires small { nodes_in (value (rules_of grammar.now.rules)) < 2 ^ 63 }
+    requires swept { IsSwept (rules_of grammar.now.rules) }
+    requires spent { IsSpent (A.downward automaton.now) spent.now.down }
+    requires counts { (names : List (Kind × List ℕ)) × AreCounts names (rules_of grammar.now.rules) spent.now.counts.now }
+    ensures hits { IfOk result (λ found. numbers found ≡ hits (A.algebra automaton.now) (A.downward automaton.now) (value (rules_of grammar.now.rules))) }
+    ensures symbols { IfOk result (λ found. All (λ hit. slice_get (symbols_in (value (rules_of grammar.now.rules))) hit.number ≡ Some hit.symbol) found) }
+    ensures reads { steps.new ≤ steps.old + 2 * whole (rules_of grammar.now.rules) }
+{
+    let risen = rise_in_one_state(alloc, grammar, automaton)?;
+    fall(alloc, grammar, automaton, &risen, Some(spent), steps)
+}
+
+// The nodes that the selector hits, by a run upward and one downward over what that found.
+fn run_both_ways<L: Ledger>(
+    alloc: Global,
+    selector: &Selector,
+    grammar: &Grammar,
+    counts: &Counts,
+    steps: &mut Steps<L>,
+) -> Result<FallTable, AllocError>
+    requires small { nodes_in (value (rules_of grammar.now.rules)) < 2 ^ 63 }
+    requires counted { (names : List (Kind × List ℕ)) × AreCounts names (rules_of grammar.now.rules) counts.now }
+    ensures hits { IfOk result (λ found. numbers found ≡ hits (⟦<Selector as Rising>⟧.algebra selector.now) (⟦<Selector as Falling>⟧.downward selector.now) (value (rules_of grammar.now.rules))) }
+    ensures symbols { IfOk result (λ found. All (λ hit. slice_get (symbols_in (value (rules_of grammar.now.rules))) hit.number ≡ Some hit.symbol) found) }
+    ensures reads { (parts steps_outside : ℕ) → HasFewStates (⟦<Selector as Rising>⟧.algebra selector.now) (⟦<Selector as Falling>⟧.downward selector.now) parts steps_outside
+        → steps.new ≤ steps.old + most_reads (rules_of grammar.now.rules) parts steps_outside }
+{
     // The call tells that the rules are a grammar.
     let _rules = grammar.rules();
-    let risen = run_upward(alloc, selector, grammar, steps)?;
+    let risen = rise(alloc, grammar, selector, steps)?;
     let spent = Spent {
         down: selector.spent(),
         counts,
     };
     fall(alloc, grammar, selector, &risen, Some(&spent), steps)
-}
-
-// The run upward. Where the query has no filters, it reads nothing.
-fn run_upward<L: Ledger>(
-    alloc: Global,
-    selector: &Selector,
-    grammar: &Grammar,
-    steps: &mut Steps<L>,
-) -> Result<RiseTable<Selector>, AllocError>
-    requires { IsSwept (rules_of grammar.now.rules) }
-    ensures run { IfOk result (λ table. IsRun (⟦<Selector as Rising>⟧.algebra selector.now) (rules_of grammar.now.rules) table.known) }
-    ensures steps { (pairs : List (RuleStates Up)) × ReadsOnce (⟦<Selector as Rising>⟧.algebra selector.now) (rules_of grammar.now.rules) pairs (steps.new - steps.old) }
-    ensures counted { steps.old ≤ steps.new }
-{
-    if selector.has_filters() {
-        rise(alloc, grammar, selector, steps)
-    } else {
-        rise_in_one_state(alloc, grammar, selector)
-    }
 }

@@ -1,19 +1,16 @@
-use Rattle.std.proofs.Common.{[], arith}
-use Rattle.rule_runs.proofs.Triples.{falls-none}
+use Rattle.std.proofs.Common.{List, ℕ, ◌≡◌, IfOk, arith, subst}
+use Rattle.slt_grammar.specs.Grammars.{value}
 use Rattle.slt_grammar.specs.Keyed.{rules_of}
-use Rattle.store_core.proofs.StateCounts.{both-few}
+use Rattle.rule_runs.specs.Hits.{numbers}
+use Rattle.selecting_automaton.specs.Unfiltered.{HitsBlindly}
+use Rattle.store_core.proofs.StateCounts.{once-few}
 use Rattle.store_core.proofs.selecting.run.Goals as goal
 
-pub returns-clause-reads : goal.returns-clause-reads
-returns-clause-reads g c = λ parts outer few.
-    let up = c.in_ok-risen.ensures in
-    let down = c.fall.ensures in
-    let all = both-few _ _ (rules_of c.args.grammar.now.rules) c.rules-rules.ensures.grammar parts outer few up.steps.0 down.steps.0 _ _ up.steps.1 down.steps.1 in
-    omega (arith, all, up.counted, down.counted)
+pub returns-in-Some-clause-hits : goal.returns-in-Some-clause-hits
+returns-in-Some-clause-hits g c =
+    let same = subst HitsBlindly c.in-Some.ensures.same c.in-Some.ensures.hits (value (rules_of c.args.grammar.now.rules)) in
+    let blindly = rw c.in-Some.ensures.same at c.run_downward.ensures.hits in
+    subst (λ (hs : List ℕ). IfOk c.run_downward.result (λ found. numbers found ≡ hs)) same blindly
 
-pub returns-in_err-risen-clause-reads : goal.returns-in_err-risen-clause-reads
-returns-in_err-risen-clause-reads g c = λ parts outer few.
-    let up = c.in_err-risen.ensures in
-    let none = falls-none _ _ (rules_of c.args.grammar.now.rules) 0 (omega arith) in
-    let all = both-few _ _ (rules_of c.args.grammar.now.rules) c.rules-rules.ensures.grammar parts outer few up.steps.0 [] _ 0 up.steps.1 none in
-    omega (arith, all, up.counted)
+pub returns-in-Some-clause-reads : goal.returns-in-Some-clause-reads
+returns-in-Some-clause-reads g c = λ parts outer few. omega (arith, once-few (rules_of c.args.grammar.now.rules) parts outer, c.run_downward.ensures.reads)

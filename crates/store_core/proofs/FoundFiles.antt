@@ -1,5 +1,5 @@
 -- What an opened file says of the files.
-use Rattle.std.specs.Prelude.{◌≡◌, ◌≤◌, ◌<◌, ◌^◌, ℕ, List, [], length, replicate, Bool, true, false, Option, Some, None, IfSome, is_some, unwrap_or, refl}
+use Rattle.std.specs.Prelude.{◌≡◌, ◌≤◌, ◌<◌, ◌^◌, ℕ, List, [], length, replicate, true, false, Option, Some, None, IfSome, is_some, unwrap_or, refl}
 use Rattle.std.proofs.Common.{ap, sym, ◌∙◌, subst, arith}
 use Rattle.std.proofs.lemmas.List.{length-replicate}
 use Rattle.std.specs.FinMap.{get}

@@ -9,7 +9,7 @@ use Rattle.grammar_file.specs.declared.error.FileError.{FileError}
 use Rattle.grammar_file.specs.declared.error.FileError.TheVariants as file
 use Rattle.store_core.specs.GrammarStores.{IsNoStore}
 use Rattle.store_core.specs.Acts.{LoadGrammar}
-use Rattle.store_core.specs.Refusals.{Cause, IsInput}
+use Rattle.store_core.specs.Refusals.{Cause}
 use Rattle.store_core.specs.Stopping.{refusal_of_file}
 use Rattle.store_core.specs.Worlds.{World, HasFile}
 use Rattle.store_core.specs.declared.answer.Refusal.{Refusal}

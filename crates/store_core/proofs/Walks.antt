@@ -1,18 +1,15 @@
 -- Where a walk begins, and what is written of a document's.
 use Rattle.std.proofs.Common.{◌≡◌, ℕ, ◌<◌, ◌≤◌, List, [], ◌∷◌, ◌++◌, sum_by, Some, slice_get, ap, sym, ◌∙◌, subst, arith}
 use Rattle.std.proofs.lemmas.List.Sums.{sum_by-cons, sum_by-append}
-use Rattle.plain_tree.specs.declared.kind.Kind.{Kind}
 use Rattle.plain_tree.specs.Numbers.{nodes}
-use Rattle.plain_tree.specs.Tree.{Tree, node, none, more, node_count}
+use Rattle.plain_tree.specs.Tree.{Tree, node, node_count}
 use Rattle.rule_arena.specs.declared.label.Label.{Label}
 use Rattle.rule_arena.specs.declared.label.Label.TheVariants.{Symbol}
 use Rattle.segment_counts.specs.Weights.{node_weight}
 use Rattle.segment_counts.proofs.Coded.{weight-coded}
-use Rattle.slt_grammar.specs.Coding.{Codes}
 use Rattle.slt_grammar.specs.Grammars.{value}
 use Rattle.slt_grammar.specs.Keyed.{KeyedRule, rules_of}
 use Rattle.slt_grammar.specs.Segments.{listed}
-use Rattle.slt_grammar.specs.Terms.{Term}
 use Rattle.value_cursor.specs.Cursors.{BeginsAtNode, left_of, tokens_of}
 use Rattle.value_cursor.specs.Tokens.{Tells, tokens}
 use Rattle.value_cursor.specs.declared.cursor.Cursor.{Cursor}

@@ -1,5 +1,5 @@
 -- Grammar files of documents.
-use Rattle.std.specs.Prelude.{◌≤◌, ◌<◌, ◌^◌, ℕ, List}
+use Rattle.std.specs.Prelude.{◌≤◌, ◌^◌, ℕ, List}
 use Rattle.plain_tree.specs.Tree.{Tree, node_count}
 use Rattle.grammar_file.specs.Files.{IsFileOf}
 use Rattle.store_core.specs.Worlds.{Parts, PartsStandFor}

@@ -1,8 +1,6 @@
 -- Stores that are made of grammar files.
 use Rattle.std.specs.Prelude.{◌<◌, ◌^◌, ℕ, List}
 use Rattle.plain_tree.specs.Tree.{Tree, node_count}
-use Rattle.slt_grammar.specs.Grammars.{IsGrammar, IsSwept}
-use Rattle.slt_grammar.specs.Keyed.{rules_of}
 use Rattle.store_core.specs.GrammarFiles.{IsFileOfDocument, IsNoFile, IsFileOfMany}
 use Rattle.store_core.specs.StoreOf.{IsCounted, parts_of}
 use Rattle.store_core.specs.declared.answer.Refusal.{Refusal}

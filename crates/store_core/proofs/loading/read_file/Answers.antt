@@ -1,4 +1,4 @@
-use Rattle.std.proofs.Common.{refl, arith}
+use Rattle.std.proofs.Common.{arith}
 use Rattle.std.proofs.lemmas.Result.{IfOk-weaker, IfErr-weaker}
 use Rattle.store_core.specs.Acts.{Load}
 use Rattle.store_core.proofs.FoundFiles.{holds_document, read_lawful, stops_loading, load_reads}

@@ -11,7 +11,7 @@ use plain::{hits_of, holds_b, numbers_of, value_of};
 use plain_tree::Names;
 use read_steps::Steps;
 use rows::{Row, random_rows, rules_of};
-use rule_runs::{Answers, FallTable, Hit, fall, rise};
+use rule_runs::{Answers, FallTable, Hit, count_hits, fall, rise};
 use segment_counts::Counts;
 use slt_grammar::Label::{Bottom, Call, Param, Symbol};
 use slt_grammar::{Grammar, check};
@@ -42,9 +42,10 @@ fn find<L: Ledger>(alloc: Global, grammar: &Grammar, blank: Blank) -> Result<Fou
     let mut steps: Steps<L> = Steps::new(blank);
     let risen = rise(alloc, grammar, &Marks, &mut steps)?;
     let fallen = fall(alloc, grammar, &Marks, &risen, None, &mut steps)?;
+    let count = count_hits(alloc, grammar, &Marks, &risen, None, &mut steps)?;
     Ok(Found {
         has_b: risen.top().has_b,
-        count: fallen.count(),
+        count,
         hits: list(alloc, &fallen)?,
         numbers: list_numbers(alloc, &fallen)?,
     })

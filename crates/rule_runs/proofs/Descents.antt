@@ -30,11 +30,11 @@ use Rattle.rule_runs.specs.Risen.{IsPair, pair_at}
 use Rattle.rule_runs.specs.Tellings.{Listed, extended, IsTelling, AreTold}
 use Rattle.rule_runs.specs.Walks.{Open, Place, absorbed, after, down_at, downs_of, woven_marks, told, param_downs, woven}
 use Rattle.rule_runs.specs.Descents.{AreOpen, IsNext, CallsMeet, Walks, HasOutcome, Waiting, AreWaiting, befores, downs_handed, tolds}
-use Rattle.rule_runs.proofs.Cutting.{before-nothing, beside-nothing, length-joined, length-cut, cut-some}
+use Rattle.rule_runs.proofs.Cutting.{before-nothing, beside-nothing, length-joined, cut-some}
 use Rattle.rule_runs.proofs.Handing.{AllHoles, linear, handed_all, length-handed, fall-body}
 use Rattle.rule_runs.proofs.Lists.{slice_get-at}
 use Rattle.rule_runs.proofs.Telling.{told-woven}
-use Rattle.rule_runs.proofs.Tellings.{telling-more, told-more, length-told}
+use Rattle.rule_runs.proofs.Tellings.{telling-more, told-more}
 use Rattle.rule_runs.proofs.Marks.{down-is, downs-woven, open-term, open-more}
 use Rattle.rule_runs.proofs.NoteLemmas.{note-bottom, note-param, note-symbol, note-call, note-some, note-none}
 

@@ -1,5 +1,5 @@
 -- Lists one above another, with an item more or a list less.
-use Rattle.std.proofs.Common.{◌≡◌, ℕ, suc, ◌-◌, ◌≤◌, ◌<◌, List, [], ◌∷◌, ◌++◌, length, take, drop, reverse, Option, Some, None, IfSome, option_to_list, refl, ap, sym, ◌∙◌, arith, append-nil}
+use Rattle.std.proofs.Common.{◌≡◌, ℕ, suc, ◌-◌, ◌≤◌, ◌<◌, List, ◌∷◌, ◌++◌, length, take, drop, reverse, Option, Some, None, IfSome, option_to_list, refl, ap, sym, ◌∙◌, arith, append-nil}
 use Rattle.std.proofs.lemmas.List.{length_push, length-reverse}
 use Rattle.rule_runs.proofs.Lists.{reverse-push}
 

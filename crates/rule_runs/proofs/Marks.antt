@@ -1,5 +1,5 @@
 -- What is open on the way through a body, mark by mark.
-use Rattle.std.proofs.Common.{◌≡◌, ℕ, suc, ◌+◌, ◌<◌, List, [], ◌∷◌, ◌++◌, length, get_or, drop, map, Some, None, Vec, Global, refl, sym, ap, ◌∙◌, arith, get_or-drop, add_comm}
+use Rattle.std.proofs.Common.{◌≡◌, ℕ, suc, ◌+◌, ◌<◌, List, [], ◌∷◌, ◌++◌, length, get_or, drop, Some, None, Vec, Global, refl, sym, ap, ◌∙◌, arith, get_or-drop, add_comm}
 use Rattle.std.proofs.lemmas.List.{drop_more, drop_all, length-drop, length-map, length_push, get_or_push, get_or_append_left, get_or-map}
 use Rattle.rule_runs.specs.declared.descent.Mark.{Mark}
 use Rattle.rule_runs.specs.declared.descent.Mark.TheVariants.{Term as MarkTerm, Piece as MarkPiece}

@@ -1,5 +1,5 @@
 -- Falling from a state from which nothing is hit: only the numbers of nodes are told, and each hole gets the same state.
-use Rattle.std.proofs.Common.{◌≡◌, ℕ, zero, suc, ◌+◌, ◌<◌, List, [], ◌∷◌, ◌++◌, length, get_or, map, sum_by, Vec, Global, refl, sym, ap, ◌∙◌, arith}
+use Rattle.std.proofs.Common.{◌≡◌, ℕ, zero, suc, ◌+◌, ◌<◌, List, [], ◌∷◌, ◌++◌, length, get_or, map, sum_by, refl, sym, ap, ◌∙◌, arith}
 use Rattle.std.proofs.lemmas.List.{map-append}
 use Rattle.std.proofs.lemmas.List.Sums.{sum_by-append}
 use Rattle.rule_arena.specs.declared.label.Label.{Label}
@@ -12,7 +12,6 @@ use Rattle.slt_grammar.specs.Grammars.{IsGrammar, rank_at, value_at}
 use Rattle.slt_grammar.specs.declared.rules.Rule.{Rule}
 use Rattle.slt_grammar.proofs.Linear.{value_at-linear, length-holes}
 use Rattle.segment_counts.specs.Weights.{count, node_weight}
-use Rattle.rule_runs.specs.declared.listing.Part.{Part}
 use Rattle.rule_runs.specs.declared.spots.Handed.{Handed}
 use Rattle.rule_runs.specs.declared.spots.Outcome.{Outcome}
 use Rattle.rule_runs.specs.declared.spots.Spot.{Spot}

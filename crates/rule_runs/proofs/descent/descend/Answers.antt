@@ -1,4 +1,4 @@
-use Rattle.std.proofs.Common.{◌≡◌, ◌<◌, ◌^◌, ◌∙◌, ◌≤◌, ◌-◌, ◌++◌, ◌∷◌, [], refl, sym, ap, subst, arith, reverse, take, map, length, append_assoc, append-nil}
+use Rattle.std.proofs.Common.{◌≡◌, ◌<◌, ◌^◌, ◌∙◌, ◌≤◌, ◌-◌, ◌++◌, ◌∷◌, [], refl, sym, ap, subst, arith, reverse, take, map, length}
 use Rattle.std.proofs.lemmas.List.Elements.{All-contains, All-get_or}
 use Rattle.slt_grammar.specs.Automata.{nodes_in}
 use Rattle.slt_grammar.specs.Keyed.{rules_of}

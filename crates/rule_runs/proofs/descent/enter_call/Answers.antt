@@ -1,4 +1,4 @@
-use Rattle.std.proofs.Common.{◌≡◌, ◌+◌, ◌-◌, ◌∙◌, ◌∷◌, [], ap, sym, refl, arith, length, get_or}
+use Rattle.std.proofs.Common.{◌≡◌, ◌+◌, ◌-◌, ◌∙◌, refl, arith, length, get_or}
 use Rattle.std.proofs.lemmas.List.{length-map}
 use Rattle.rule_runs.proofs.Marks.{woven-more, woven-none, told-last, told-before, down-handed, length-tolds}
 use Rattle.rule_runs.proofs.Tellings.{told-at}

@@ -1,5 +1,4 @@
-use Rattle.std.proofs.Common.{◌≡◌, ◌≤◌, ◌++◌, List, Vec, Global, length, drop, get_or}
-use Rattle.rule_runs.specs.declared.listing.Part.{Part}
+use Rattle.std.proofs.Common.{◌≡◌, ◌≤◌, ◌++◌, List, length, drop, get_or}
 use Rattle.rule_runs.specs.Cuts.{Stretch}
 use Rattle.rule_runs.specs.Descents.{AreOpen, tolds, downs_handed}
 use Rattle.rule_runs.specs.Tellings.{Listed, AreTold}

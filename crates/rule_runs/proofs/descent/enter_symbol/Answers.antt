@@ -1,4 +1,4 @@
-use Rattle.std.proofs.Common.{◌∙◌, ap, refl}
+use Rattle.std.proofs.Common.{refl}
 use Rattle.rule_runs.proofs.descent.enter_symbol.Goals as goal
 
 pub returns-clause-marks : goal.returns-clause-marks

@@ -1,4 +1,4 @@
-use Rattle.std.proofs.Common.{◌≡◌, ◌∙◌, arith, refl}
+use Rattle.std.proofs.Common.{◌∙◌, arith, refl}
 use Rattle.rule_runs.proofs.Lists.{no_more}
 use Rattle.rule_runs.proofs.Marks.{absorbing-start, absorbing-piece, absorbing-term, absorbing-end}
 use Rattle.rule_runs.proofs.descent.next_term.Goals as goal

@@ -1,5 +1,4 @@
-use Rattle.std.proofs.Common.{◌≡◌, List, Vec, Global, length}
-use Rattle.rule_runs.specs.declared.listing.Part.{Part}
+use Rattle.std.proofs.Common.{◌≡◌, List, length}
 use Rattle.rule_runs.specs.Cuts.{Stretch}
 use Rattle.rule_runs.specs.Descents.{AreOpen, HasRoomAhead, IsAbsorbing}
 use Rattle.rule_runs.specs.Tellings.{Listed, IsTelling}

@@ -1,6 +1,5 @@
 use Rattle.std.proofs.Common.{◌≡◌, ◌<◌, ◌∙◌, ◌++◌, ◌∷◌, [], Bool, true, false, not, refl, ap, sym, subst, arith, length, add-one}
 use Rattle.segment_counts.specs.Weights.{count, node_weight}
-use Rattle.slt_grammar.proofs.KeyedLemmas.{length-rules_of}
 use Rattle.slt_grammar.specs.Automata.{IsSpent}
 use Rattle.slt_grammar.specs.Grammars.{rank_at}
 use Rattle.slt_grammar.specs.Keyed.{rules_of}

@@ -6,12 +6,12 @@ ghost use Rattle.tree_outside.specs.Shelf.{Keeps};
 
 use crate::answer::{Answer, Refusal, write_line};
 use crate::command::{Command, Settings};
+use crate::counting::count_selected;
 use crate::grammar_loading::load_grammar;
 use crate::listing::print_hits;
 use crate::loading::load_document;
 use crate::repairing::repair_store;
 use crate::saving::{save_document, save_grammar};
-use crate::counting::count_selected;
 use crate::selecting::select;
 use crate::showing::walk_to;
 use crate::store::Store;

@@ -1,4 +1,4 @@
-use Rattle.std.proofs.Common.{Err, slice_get, Some, ◌≡◌, ap, ◌∙◌}
+use Rattle.std.proofs.Common.{Err, ap, ◌∙◌}
 use Rattle.std.proofs.lemmas.Result.{err_from_is_err_and}
 use Rattle.slt_grammar.specs.Keyed.{rules_of}
 use Rattle.store_core.specs.StoreOf.{parts_of}

@@ -7,3 +7,6 @@ use Rattle.query_tests.proofs.runs.find.Goals as goal
 
 pub fall-requires-clause-small : goal.fall-requires-clause-small
 fall-requires-clause-small g c = rw (nodes-weigh node_weight (λ f. refl) refl refl (value (rules_of c.args.grammar.now.rules))) c.in_ok-_counts.ensures.few
+
+pub count_hits-requires-clause-small : goal.count_hits-requires-clause-small
+count_hits-requires-clause-small g c = rw (nodes-weigh node_weight (λ f. refl) refl refl (value (rules_of c.args.grammar.now.rules))) c.in_ok-_counts.ensures.few

@@ -1,7 +1,7 @@
 // Documents that are folded while their calls come.
 ghost use Rattle.std.specs.Prelude.{◌≡◌, true, IfOk, OnOk};
 
-use fcns_encoding::Folder;
+use fcns_encoding::{Folder, Sharing};
 use plain_tree::Kind;
 use std::alloc::{AllocError, Global};
 use std::test::Fail;
@@ -41,10 +41,28 @@ fn equal_subterms_are_kept_once(rt: HostRuntime) -> Result<(), Fail> {
     assert_eq!(rt; folded.names.len(), 5);
     assert_eq!(rt; folded.grammar.rules(), 2);
     assert_eq!(rt; folded.grammar.size(), 210);
-    let written = rows(rt.alloc())?.finish_with(200)?;
+    let written = rows(rt.alloc())?.finish_with(Sharing::of_uses(200))?;
     assert_eq!(rt; written.names.len(), 5);
     assert_eq!(rt; written.grammar.rules(), 1);
     assert_eq!(rt; written.grammar.size(), 605);
+    Ok(())
+}
+
+// What the rows share is used a hundred times, and its rule has five labels.
+#[test]
+fn large_rules_need_fewer_uses(rt: HostRuntime) -> Result<(), Fail> {
+    let large = rows(rt.alloc())?.finish_with(Sharing {
+        uses: 101,
+        large_uses: 100,
+        large: 5,
+    })?;
+    assert_eq!(rt; large.grammar.rules(), 2);
+    let small = rows(rt.alloc())?.finish_with(Sharing {
+        uses: 101,
+        large_uses: 100,
+        large: 6,
+    })?;
+    assert_eq!(rt; small.grammar.rules(), 1);
     Ok(())
 }
 

@@ -1,5 +1,6 @@
 -- What numbers have in a table of subterms.
-use Rattle.std.proofs.Common.{◌&&◌, ◌||◌, if◌then◌else◌, ◌≡◌, ℕ, zero, suc, ◌+◌, ◌<◌, ◌≤◌, nat_eq, Bool, true, false, List, [], ◌∷◌, ◌++◌, length, get_or, Some, slice_get, refl, ap, sym, ◌∙◌, subst, ◌⊎◌, inl, inr, arith, length-append}
+use Rattle.std.proofs.Common.{◌&&◌, ◌||◌, if◌then◌else◌, ◌≡◌, ℕ, zero, suc, ◌+◌, ◌<◌, ◌≤◌, nat_eq, Bool, true, false, List, [], ◌∷◌, ◌++◌, length, take, get_or, Some, slice_get, slice_set, refl, ap, sym, ◌∙◌, subst, ◌⊎◌, inl, inr, arith, length-append}
+use Rattle.std.proofs.lemmas.List.{take_more}
 use Rattle.std.proofs.lemmas.Bool.{eqb-true, eq-eqb}
 use Rattle.std.specs.List.{list_any}
 use Rattle.slt_grammar.specs.Terms.{Term, Leaf, Node}
@@ -37,6 +38,27 @@ pub got_within : {X : Type 0} (xs : List X) (i : ℕ) (x : X) → slice_get xs i
 got_within [] i x e = cc
 got_within (z ∷ zs) zero x e = omega arith
 got_within (z ∷ zs) (suc i) x e = omega (arith, got_within zs i x e)
+
+-- one item more
+pub take-more : {X : Type 0} (xs : List X) (i : ℕ) (x : X) → slice_get xs i ≡ Some x → take (i + 1) xs ≡ take i xs ++ x ∷ []
+take-more xs i x e = take_more xs i x (got_within xs i x e) ∙ ap (λ y. take i xs ++ y ∷ []) (get_is xs i x x e)
+
+pub get_set : {X : Type 0} (xs : List X) (i k : ℕ) (x : X) → k < length xs → ((i ≡ k) × (slice_get (slice_set xs i x) k ≡ Some x)) ⊎ ((i ≡ k → ⊥) × (slice_get (slice_set xs i x) k ≡ slice_get xs k))
+get_set [] i k x h = absurd (omega (arith, h))
+get_set (z ∷ zs) zero zero x h = inl (refl, refl)
+get_set (z ∷ zs) zero (suc k) x h = inr (λ e. cc, refl)
+get_set (z ∷ zs) (suc i) zero x h = inr (λ e. cc, refl)
+get_set (z ∷ zs) (suc i) (suc k) x h = elim (get_set zs i k x (omega (arith, h))) [ inl w ↦ inl (ap suc w.0, w.1) | inr w ↦ inr (λ e. w.0 cc, w.1) ]
+
+pub set_length : {X : Type 0} (xs : List X) (i : ℕ) (x : X) → length (slice_set xs i x) ≡ length xs
+set_length [] i x = refl
+set_length (z ∷ zs) zero x = refl
+set_length (z ∷ zs) (suc i) x = omega (arith, set_length zs i x)
+
+pub length_take : {X : Type 0} (xs : List X) (i : ℕ) (x : X) → slice_get xs i ≡ Some x → length (take i xs) ≡ i
+length_take [] i x e = cc
+length_take (y ∷ xs) zero x e = refl
+length_take (y ∷ xs) (suc i) x e = ap suc (length_take xs i x e)
 
 -- What all numbers have, made one after another.
 module _ {X : Type 0} (none : X) (make : ℕ → Cell → X → X → X) where
@@ -99,16 +121,20 @@ module _ {X : Type 0} (none : X) (make : ℕ → Cell → X → X → X) where
       subst (λ k. slice_get all k ≡ Some (make k c (get_or all c.first none) (get_or all c.second none))) n
       (numbered_from (none ∷ []) cs i c (λ j x h. (omega (arith, (low j x h).0), omega (arith, (low j x h).1))) e)
 
-  numbered_more : (b : List X) (cs : List Cell) (c : Cell)
-      → (x : X) × (numbered_after none make b (cs ++ c ∷ []) ≡ numbered_after none make b cs ++ x ∷ [])
-  numbered_more b [] c = (make (length b) c (get_or b c.first none) (get_or b c.second none), refl)
-  numbered_more b (d ∷ cs) c = numbered_more (b ++ make (length b) d (get_or b d.first none) (get_or b d.second none) ∷ []) cs c
+  -- what one cell more has
+  numbered_after_push : (b : List X) (cs : List Cell) (c : Cell)
+      → numbered_after none make b (cs ++ c ∷ []) ≡ (let all = numbered_after none make b cs in all ++ make (length all) c (get_or all c.first none) (get_or all c.second none) ∷ [])
+  numbered_after_push b [] c = refl
+  numbered_after_push b (d ∷ cs) c = numbered_after_push (b ++ make (length b) d (get_or b d.first none) (get_or b d.second none) ∷ []) cs c
+
+  pub numbered_push : (cs : List Cell) (c : Cell)
+      → numbered none make (cs ++ c ∷ []) ≡ (let all = numbered none make cs in all ++ make (length all) c (get_or all c.first none) (get_or all c.second none) ∷ [])
+  numbered_push cs c = numbered_after_push (none ∷ []) cs c
 
   -- what numbers have stays when a cell comes
   pub numbered_keeps : (cs : List Cell) (c : Cell) (i : ℕ) (x : X) → slice_get (numbered none make cs) i ≡ Some x → slice_get (numbered none make (cs ++ c ∷ [])) i ≡ Some x
   numbered_keeps cs c i x e =
-      let m = numbered_more (none ∷ []) cs c in
-      subst (λ xs. slice_get xs i ≡ Some x) (sym m.1) (front_get (numbered none make cs) (m.0 ∷ []) i x e)
+      subst (λ xs. slice_get xs i ≡ Some x) (sym (numbered_push cs c)) (front_get (numbered none make cs) (make (length (numbered none make cs)) c (get_or (numbered none make cs) c.first none) (get_or (numbered none make cs) c.second none) ∷ []) i x e)
 
 pub terms_zero : (cs : List Cell) → slice_get (terms_of cs) 0 ≡ Some Leaf
 terms_zero cs = numbered_zero Leaf term_of cs

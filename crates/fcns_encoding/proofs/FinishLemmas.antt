@@ -10,15 +10,18 @@ use Rattle.fcns_encoding.specs.Calls.{started_pairs}
 use Rattle.fcns_encoding.specs.Cells.{Extends, AreUsed, AreEarlier, AreDistinctCells, terms_of, term_at}
 use Rattle.fcns_encoding.specs.Folding.{IsFolding, Taken, Stood, told, waiting}
 use Rattle.fcns_encoding.specs.Interning.{Pair, Interns}
+use Rattle.fcns_encoding.specs.Marks.{SharesTwice, marks_of}
 use Rattle.fcns_encoding.specs.Sharing.{rules_of_cells}
 use Rattle.fcns_encoding.specs.Subterms.{AreSubterms}
 use Rattle.fcns_encoding.specs.declared.part.Part.{Part}
+use Rattle.fcns_encoding.specs.declared.sharing.Sharing.{Sharing}
 use Rattle.fcns_encoding.specs.declared.subterms.Cell.{Cell}
-use Rattle.fcns_encoding.proofs.CellLemmas.{get_is, got_within, terms_zero}
+use Rattle.fcns_encoding.proofs.CellLemmas.{get_is, has_get, got_within, terms_zero}
 use Rattle.fcns_encoding.proofs.InternLemmas.{KeepsPlaces}
+use Rattle.fcns_encoding.proofs.MarkLemmas.{twice-marked}
 use Rattle.fcns_encoding.proofs.NameLemmas.{document_again}
 use Rattle.fcns_encoding.proofs.PartLemmas.{used-others, used-over}
-use Rattle.fcns_encoding.proofs.RuleLemmas.{rules-grammar, rules-value}
+use Rattle.fcns_encoding.proofs.RuleLemmas.{no_cell, rules-grammar, rules-value}
 use Rattle.fcns_encoding.proofs.SizeLemmas.{rules-small}
 use Rattle.fcns_encoding.proofs.StandLemmas.{Folds, folds}
 use Rattle.fcns_encoding.proofs.SubtermLemmas.{few-cells}
@@ -40,19 +43,19 @@ root-last cells root low used some =
     only (suc i) e = cc
 
 -- what the rules are
-pub record Finished (least : ℕ) (G : List Rule) (names : List Pair) (values : List (List ℕ)) (log : List Event) : Type 0 where
+pub record Finished (sharing : Sharing) (G : List Rule) (names : List Pair) (values : List (List ℕ)) (log : List Event) : Type 0 where
   pub grammar : IsGrammar G
   pub swept : IsSwept G
   pub folds : Folds G names values log
-  pub small : least ≤ 2 → (all : List Term) → AreSubterms all (value G) → size G ≤ 3 * length all
+  pub small : SharesTwice sharing → (all : List Term) → AreSubterms all (value G) → size G ≤ 3 * length all
 
-pub finished : (least : ℕ) (names names' : List Pair) (cells before after : List Cell) (values : List (List ℕ)) (stack parts : List Part) (code document root : ℕ) (begun : Option ℕ) (G : List Rule)
+pub finished : (sharing : Sharing) (names names' : List Pair) (cells before after : List Cell) (values : List (List ℕ)) (stack parts : List Part) (code document root : ℕ) (begun : Option ℕ) (G : List Rule)
     → IsFolding names cells values stack → Taken names (terms_of before) parts (told names cells values stack) code begun → begun ≡ None → AreUsed before (code ∷ waiting parts)
     → KeepsPlaces names names' → Interns [] (started_pairs (told names cells values stack) ++ (kind.Document, []) ∷ []) names' → slice_get names' document ≡ Some (kind.Document, [])
     → Extends before (record { symbol = document; first = code; second = 0 }) root after
     → ((a b : Term) → slice_get (terms_of before) code ≡ Some a → slice_get (terms_of before) 0 ≡ Some b → slice_get (terms_of after) root ≡ Some (Node document a b))
-    → AreEarlier after → AreDistinctCells after → G ≡ rules_of_cells least after → Finished least G names' values (told names cells values stack)
-finished least names names' cells before after values stack parts code document root begun G f taken none used keeps named place g term low one is =
+    → AreEarlier after → AreDistinctCells after → G ≡ rules_of_cells (marks_of sharing after) after → Finished sharing G names' values (told names cells values stack)
+finished sharing names names' cells before after values stack parts code document root begun G f taken none used keeps named place g term low one is =
     let empty : parts ≡ [] = nothing begun none taken.stood in
     let others : AreUsed before (0 ∷ code ∷ []) = used-others before (code ∷ waiting parts) (0 ∷ code ∷ []) (λ k w. only k w.0 (subst (λ ps. slice_get (code ∷ waiting ps) w.0 ≡ Some k) empty w.1)) used in
     let top : AreUsed after (root ∷ []) = used-over before after (record { symbol = document; first = code; second = 0 }) root [] g others in
@@ -60,15 +63,16 @@ finished least names names' cells before after values stack parts code document 
     let last : root ≡ length after = root-last after root low top some in
     let all : AreUsed after (length after ∷ []) = subst (λ k. AreUsed after (k ∷ [])) last top in
     let n : length after ≡ suc (length after - 1) = omega (arith, some) in
-    let value_is : value (rules_of_cells least after) ≡ term_at after (length after) = rules-value least after low (length after - 1) n in
+    let marks = marks_of sharing after in
+    let value_is : value (rules_of_cells marks after) ≡ term_at after (length after) = rules-value marks after low (length after - 1) n in
     let here : term_at after (length after) ≡ Node document taken.term Leaf = ap (term_at after) (sym last) ∙ get_is (terms_of after) root _ Leaf (term taken.term Leaf taken.value (terms_zero before)) in
-    subst (λ H. Finished least H names' values (told names cells values stack)) (sym is) (record {
-      grammar = rules-grammar least after low (length after - 1) n;
-      swept = rules-swept least after low (length after - 1) n all;
-      folds = folds (rules_of_cells least after) names names' (terms_of before) values parts (told names cells values stack) code document begun none taken keeps (document_again (told names cells values stack) names' named) place f.tells.texts (value_is ∙ here);
-      small = λ few terms are. omega (
+    subst (λ H. Finished sharing H names' values (told names cells values stack)) (sym is) (record {
+      grammar = rules-grammar marks after low (length after - 1) n;
+      swept = rules-swept marks after low (length after - 1) n all;
+      folds = folds (rules_of_cells marks after) names names' (terms_of before) values parts (told names cells values stack) code document begun none taken keeps (document_again (told names cells values stack) names' named) place f.tells.texts (value_is ∙ here);
+      small = λ shares terms are. omega (
         arith,
-        rules-small least after low few,
+        rules-small marks after low (λ i h twice. twice-marked sharing after i _ low (has_get after i no_cell h) shares twice),
         few-cells after low (length after - 1) n all one terms (subst (AreSubterms terms) value_is are),
       );
     })

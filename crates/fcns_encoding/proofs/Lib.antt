@@ -12,6 +12,7 @@ pub mod BuildLemmas
 pub mod PartLemmas
 pub mod LogLemmas
 pub mod FolderLemmas
+pub mod MarkLemmas
 pub mod SharingLemmas
 pub mod RuleLemmas
 pub mod SweptLemmas

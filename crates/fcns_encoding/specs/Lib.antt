@@ -5,5 +5,6 @@ pub mod Laws
 pub mod Cells
 pub mod Calls
 pub mod Folding
+pub mod Marks
 pub mod Sharing
 pub mod Subterms

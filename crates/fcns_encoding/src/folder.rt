@@ -9,11 +9,13 @@ ghost use Rattle.slt_grammar.specs.Keyed.{rules_of};
 ghost use Rattle.slt_grammar.specs.Standing.{StandsFor};
 ghost use Rattle.slt_grammar.specs.Terms.{Term};
 ghost use Rattle.fcns_encoding.specs.Interning.{Interns, pairs_of_tree};
+ghost use Rattle.fcns_encoding.specs.Marks.{SharesTwice};
 ghost use Rattle.fcns_encoding.specs.Subterms.{AreSubterms};
 
 use crate::kids::take_kids;
 use crate::part::Part;
 use crate::shared_rules::rules_of_table;
+use crate::sharing::Sharing;
 use crate::subterms::Subterms;
 use crate::symbols::symbol;
 use plain_tree::{Kind, Names};
@@ -87,13 +89,13 @@ impl Folder {
         ensures size { IfOk result (λ f. (t : Tree) (term : Term) (terms : List Term) → IsDocument t → self.log ≡ events t []
             → Codes f.names (more t none) term → AreSubterms terms term → size (rules_of f.grammar.rules) ≤ 3 * length terms) }
     {
-        self.folded(2)
+        self.folded(Sharing::of_uses(2))
     }
 
-    /// The same, but a subterm has a rule only where the table uses it `least` times or more, and else is written out where it is
-    /// used. With a greater number there are fewer rules, and more of the document is written out: settling then finds digrams
-    /// that reach into what would be rules. It is refused only for want of memory.
-    pub fn finish_with(self, least: usize) -> Result<Folded, AllocError>
+    /// The same, but a subterm has a rule only where `sharing` says so, and else is written out where it is used. With fewer rules
+    /// more of the document is written out: settling has more to do, and finds digrams that reach into what would be rules. It is
+    /// refused only for want of memory.
+    pub fn finish_with(self, sharing: Sharing) -> Result<Folded, AllocError>
         requires sound { self.sound ≡ true }
         requires depth { self.depth ≡ 0 }
         ensures stand { IfOk result (λ f. (t : Tree) → IsDocument t → self.log ≡ events t [] → StandsFor (rules_of f.grammar.rules) f.names f.texts.texts t) }
@@ -101,18 +103,18 @@ impl Folder {
         ensures grammar { IfOk result (λ f. IsGrammar (rules_of f.grammar.rules)) }
         ensures swept { IfOk result (λ f. IsSwept (rules_of f.grammar.rules)) }
     {
-        self.folded(least)
+        self.folded(sharing)
     }
 
-    // The grammar with a rule for each subterm that is used `least` times or more. It is small where that is two or fewer.
-    fn folded(self, least: usize) -> Result<Folded, AllocError>
+    // The grammar with a rule for each subterm that `sharing` gives one. It is small where two uses are enough.
+    fn folded(self, sharing: Sharing) -> Result<Folded, AllocError>
         requires sound { self.sound ≡ true }
         requires depth { self.depth ≡ 0 }
         ensures stand { IfOk result (λ f. (t : Tree) → IsDocument t → self.log ≡ events t [] → StandsFor (rules_of f.grammar.rules) f.names f.texts.texts t) }
         ensures names { IfOk result (λ f. (t : Tree) → IsDocument t → self.log ≡ events t [] → Interns [] (pairs_of_tree t) f.names) }
         ensures grammar { IfOk result (λ f. IsGrammar (rules_of f.grammar.rules)) }
         ensures swept { IfOk result (λ f. IsSwept (rules_of f.grammar.rules)) }
-        ensures size { least ≤ 2 → IfOk result (λ f. (t : Tree) (term : Term) (terms : List Term) → IsDocument t → self.log ≡ events t []
+        ensures size { SharesTwice sharing → IfOk result (λ f. (t : Tree) (term : Term) (terms : List Term) → IsDocument t → self.log ≡ events t []
             → Codes f.names (more t none) term → AreSubterms terms term → size (rules_of f.grammar.rules) ≤ 3 * length terms) }
     {
         let Folder {
@@ -128,7 +130,7 @@ impl Folder {
         let None = kids.begun else { unreachable!() };
         let document = symbol(alloc, &mut names, Kind::Document, b"")?;
         subterms.node(document, kids.code, 0)?;
-        let rules = rules_of_table(alloc, subterms, least)?;
+        let rules = rules_of_table(alloc, subterms, sharing)?;
         let grammar = grammar_of(alloc, rules)?;
         Ok(Folded {
             grammar,

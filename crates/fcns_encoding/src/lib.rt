@@ -8,17 +8,20 @@
 //!
 //! A `Folder` takes a document as the calls of a `Builder`, without its tree, and keeps each different subterm of the code once:
 //! `subterms` has the table, `part` and `kids` the stack of what waits until its element is closed, `symbols` the names in the
-//! order of their first nodes. `finish` makes a `Folded`: `shared_rules` writes a rule for each subterm that is used twice or more,
-//! and everything else where it is used. The grammar stands for the document, is swept, and is at most three times as large as the
-//! code has different subterms. `finish_with` says how many uses make a rule; its grammar stands for the document and is swept too.
+//! order of their first nodes. `finish` makes a `Folded`: `marks` finds the subterms that get a rule, which are those that are used
+//! twice or more, and `shared_rules` writes the rules, and everything else where it is used. The grammar stands for the document, is
+//! swept, and is at most three times as large as the code has different subterms. For `finish_with` a `Sharing` says how many uses
+//! make a rule, and how many where it is large; its grammar stands for the document and is swept too.
 #![tactic(auto)]
 
 mod coding;
 mod folder;
 mod kids;
 mod laws;
+mod marks;
 mod part;
 mod shared_rules;
+mod sharing;
 mod subterms;
 mod symbols;
 
@@ -29,3 +32,4 @@ pub use laws::{
     names_are_lawful, names_stay_distinct, one_rule_means_its_term,
     one_rule_stands_for_its_document,
 };
+pub use sharing::Sharing;

@@ -7,7 +7,7 @@ ghost use Rattle.store_core.specs.Folding.{FoldsOpen};
 ghost use Rattle.store_core.specs.Stopping.{StopsReading};
 
 use crate::answer::Refusal;
-use fcns_encoding::{Folded, Folder};
+use fcns_encoding::{Folded, Folder, Sharing};
 use std::alloc::Global;
 use tree_outside::{Failed, Shelf};
 use xml_profile::{Reader, XmlError};
@@ -15,8 +15,13 @@ use xml_profile::{Reader, XmlError};
 /// A file must have fewer bytes than this.
 pub(crate) const FILE_LIMIT: usize = 1 << 30;
 
-/// A subterm of the code that is used less often has no rule before settling, which then finds smaller rules.
-const LEAST_USES: usize = 16;
+/// A subterm of the code that is used less often has no rule before settling, which then finds smaller rules. Large ones have one
+/// sooner, since what is written out is work for settling.
+const SHARING: Sharing = Sharing {
+    uses: 16,
+    large_uses: 3,
+    large: 50,
+};
 
 /// How many bytes of a file are read at once.
 pub(crate) const PIECE: usize = 1 << 16;
@@ -33,7 +38,7 @@ pub(crate) fn read_document<F: Shelf>(alloc: Global, shelf: &mut F) -> Result<Fo
     let mut folder = Folder::new(alloc);
     feed_file(alloc, shelf, &mut reader, &mut folder)?;
     reader.finish()?;
-    Ok(folder.finish_with(LEAST_USES)?)
+    Ok(folder.finish_with(SHARING)?)
 }
 
 // Feeds the open file to the reader, to the file's end, to the limit or to a fault. Bytes that go wrong don't end it, since

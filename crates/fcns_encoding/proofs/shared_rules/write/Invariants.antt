@@ -5,9 +5,9 @@ use Rattle.fcns_encoding.proofs.shared_rules.write.Given as goal
 
 abbrev pub invariant-loop-number : goal.invariant-loop-number
 invariant-loop-number l = record {
-  written : (c : Cell) → slice_get l.table.cells.now l.at ≡ Some c → l.body ++ pending l.table.least l.table.cells.now l.stack.items ≡ body_of l.table.least l.table.cells.now c;
+  written : (c : Cell) → slice_get l.table.cells.now l.at ≡ Some c → l.body ++ pending l.table.marks.now l.table.cells.now l.stack.items ≡ body_of l.table.marks.now l.table.cells.now c;
   below : AreBelow l.at l.stack.items;
 }
 
 abbrev pub decreases-loop-number : goal.decreases-loop-number
-decreases-loop-number l = length (pending l.table.least l.table.cells.now l.stack.items)
+decreases-loop-number l = length (pending l.table.marks.now l.table.cells.now l.stack.items)

@@ -14,7 +14,7 @@ node-requires-clause-first c =
 pub grammar_of-requires-clause-grammar : goal.grammar_of-requires-clause-grammar
 grammar_of-requires-clause-grammar c =
     let f = c.self.invariant (ap (λ b. b.sound) c.self.view_is ∙ c.requires.sound) in
-    (finished c.args.least c.self.inside.names c.symbol.new.names c.self.inside.subterms c.take_kids.new.subterms c.node.new.self c.self.inside.texts c.self.inside.stack.items c.take_kids.new.stack.items c.in_ok-kids.kids.code
+    (finished c.args.sharing c.self.inside.names c.symbol.new.names c.self.inside.subterms c.take_kids.new.subterms c.node.new.self c.self.inside.texts c.self.inside.stack.items c.take_kids.new.stack.items c.in_ok-kids.kids.code
     c.in_ok-document.document c.in_ok-node.field-0 c.in_ok-kids.kids.begun c.in_ok-rules.rules f (c.in_ok-kids.ensures.taken c.self.inside.names _ f.tells.built) c.in-None.is (c.in_ok-kids.ensures.used f.used)
     c.in_ok-document.ensures.keeps (c.in_ok-document.ensures.named _ f.tells.named) c.in_ok-document.ensures.place c.in_ok-node.ensures.extends c.in_ok-node.ensures.term c.in_ok-rules.ensures.earlier
     c.in_ok-rules.ensures.distinct c.in_ok-rules.ensures.rules).grammar
@@ -22,7 +22,7 @@ grammar_of-requires-clause-grammar c =
 pub grammar_of-requires-clause-swept : goal.grammar_of-requires-clause-swept
 grammar_of-requires-clause-swept c =
     let f = c.self.invariant (ap (λ b. b.sound) c.self.view_is ∙ c.requires.sound) in
-    (finished c.args.least c.self.inside.names c.symbol.new.names c.self.inside.subterms c.take_kids.new.subterms c.node.new.self c.self.inside.texts c.self.inside.stack.items c.take_kids.new.stack.items c.in_ok-kids.kids.code
+    (finished c.args.sharing c.self.inside.names c.symbol.new.names c.self.inside.subterms c.take_kids.new.subterms c.node.new.self c.self.inside.texts c.self.inside.stack.items c.take_kids.new.stack.items c.in_ok-kids.kids.code
     c.in_ok-document.document c.in_ok-node.field-0 c.in_ok-kids.kids.begun c.in_ok-rules.rules f (c.in_ok-kids.ensures.taken c.self.inside.names _ f.tells.built) c.in-None.is (c.in_ok-kids.ensures.used f.used)
     c.in_ok-document.ensures.keeps (c.in_ok-document.ensures.named _ f.tells.named) c.in_ok-document.ensures.place c.in_ok-node.ensures.extends c.in_ok-node.ensures.term c.in_ok-rules.ensures.earlier
     c.in_ok-rules.ensures.distinct c.in_ok-rules.ensures.rules).swept
@@ -30,7 +30,7 @@ grammar_of-requires-clause-swept c =
 pub returns : goal.returns
 returns c =
     let f = c.self.invariant (ap (λ b. b.sound) c.self.view_is ∙ c.requires.sound) in
-    let w = finished c.args.least c.self.inside.names c.symbol.new.names c.self.inside.subterms c.take_kids.new.subterms c.node.new.self c.self.inside.texts c.self.inside.stack.items c.take_kids.new.stack.items c.in_ok-kids.kids.code
+    let w = finished c.args.sharing c.self.inside.names c.symbol.new.names c.self.inside.subterms c.take_kids.new.subterms c.node.new.self c.self.inside.texts c.self.inside.stack.items c.take_kids.new.stack.items c.in_ok-kids.kids.code
     c.in_ok-document.document c.in_ok-node.field-0 c.in_ok-kids.kids.begun (rules_of c.in_ok-grammar.grammar.rules) f (c.in_ok-kids.ensures.taken c.self.inside.names _ f.tells.built) c.in-None.is (c.in_ok-kids.ensures.used f.used)
     c.in_ok-document.ensures.keeps (c.in_ok-document.ensures.named _ f.tells.named) c.in_ok-document.ensures.place c.in_ok-node.ensures.extends c.in_ok-node.ensures.term c.in_ok-rules.ensures.earlier
     c.in_ok-rules.ensures.distinct (c.in_ok-grammar.ensures ∙ c.in_ok-rules.ensures.rules) in

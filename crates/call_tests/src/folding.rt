@@ -43,12 +43,13 @@ fn equal_subterms_are_kept_once(rt: HostRuntime) -> Result<(), Fail> {
     assert_eq!(rt; folded.grammar.size(), 210);
     let written = rows(rt.alloc())?.finish_with(Sharing::of_uses(200))?;
     assert_eq!(rt; written.names.len(), 5);
-    assert_eq!(rt; written.grammar.rules(), 1);
-    assert_eq!(rt; written.grammar.size(), 605);
+    // Of 605 labels each row has two leaves, which are calls of two rules.
+    assert_eq!(rt; written.grammar.rules(), 3);
+    assert_eq!(rt; written.grammar.size(), 409);
     Ok(())
 }
 
-// What the rows share is used a hundred times, and its rule has five labels.
+// What the rows share is used a hundred times, and its rule has five labels. Where it has none, its two leaves have rules.
 #[test]
 fn large_rules_need_fewer_uses(rt: HostRuntime) -> Result<(), Fail> {
     let large = rows(rt.alloc())?.finish_with(Sharing {
@@ -62,7 +63,7 @@ fn large_rules_need_fewer_uses(rt: HostRuntime) -> Result<(), Fail> {
         large_uses: 100,
         large: 6,
     })?;
-    assert_eq!(rt; small.grammar.rules(), 1);
+    assert_eq!(rt; small.grammar.rules(), 3);
     Ok(())
 }
 

@@ -21,3 +21,6 @@ pub mod SubtermLemmas
 pub mod ShapeLemmas
 pub mod StandLemmas
 pub mod FinishLemmas
+pub mod LeafLemmas
+pub mod LeafShapes
+pub mod LeafSteps

@@ -1,6 +1,7 @@
 -- What a folder that is finished got.
 use Rattle.std.proofs.Common.{◌≡◌, ℕ, ◌*◌, ◌≤◌, false, List, [], ◌∷◌, ◌++◌, map, length, Some, slice_get, refl, ap, sym, ◌∙◌, subst, append-nil}
 use Rattle.std.specs.Prelude.{Option, None}
+use Rattle.std.specs.Prelude.{Result, Ok, Err, IfOk}
 use Rattle.plain_tree.specs.declared.kind.Kind.TheVariants as kind
 use Rattle.plain_tree.specs.Lawful.{IsDocument}
 use Rattle.plain_tree.specs.Numbers.{nodes_all, texts, values_of}
@@ -96,3 +97,8 @@ module _ (G : List Rule) (names : List Pair) (values : List (List ℕ)) (log : L
   pub folded-small : (term : Term) (terms : List Term) → Codes names (more t none) term → AreSubterms terms term → ((all : List Term) → AreSubterms all (value G) → size G ≤ 3 * length all) → size G ≤ 3 * length terms
   folded-small term terms code are small =
       let s = folded-stands in small terms (subst (AreSubterms terms) (code-one names s.distinct (more t none) term (value G) code s.code) are)
+
+-- what two facts of a value come to
+pub follows : {T E : Type 0} (P Q R : T → Type 0) (r : Result T E) → IfOk r P → IfOk r Q → ((x : T) → P x → Q x → R x) → IfOk r R
+follows P Q R (Ok x) p q h = h x p q
+follows P Q R (Err e) p q h = tt

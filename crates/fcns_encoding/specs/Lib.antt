@@ -8,3 +8,4 @@ pub mod Folding
 pub mod Marks
 pub mod Sharing
 pub mod Subterms
+pub mod Leaves

@@ -13,6 +13,7 @@ ghost use Rattle.fcns_encoding.specs.Marks.{SharesTwice};
 ghost use Rattle.fcns_encoding.specs.Subterms.{AreSubterms};
 
 use crate::kids::take_kids;
+use crate::leaf_rules::share_leaves;
 use crate::part::Part;
 use crate::shared_rules::rules_of_table;
 use crate::sharing::Sharing;
@@ -47,6 +48,48 @@ pub struct Folded {
     pub grammar: Grammar,
     pub names: Names,
     pub texts: TextList,
+}
+
+// The same, but for a check of the rules.
+#[derive(Drop)]
+struct Unchecked {
+    rules: RuleList,
+    names: Names,
+    texts: TextList,
+}
+
+// How often a symbol must be a leaf for a rule of its own: a digram that stands less often becomes none.
+const LEAVES: u32 = 3;
+
+impl Unchecked {
+    // The same document with rules for leaves that stand often.
+    fn with_leaves(self, alloc: Global) -> Result<Unchecked, AllocError>
+        requires grammar { IsGrammar self.rules }
+        requires swept { IsSwept self.rules }
+        ensures stand { IfOk result (λ f. (t : Tree) → StandsFor self.rules self.names self.texts.texts t → StandsFor f.rules f.names f.texts.texts t) }
+        ensures names { IfOk result (λ f. f.names ≡ self.names) }
+        ensures grammar { IfOk result (λ f. IsGrammar f.rules) }
+        ensures swept { IfOk result (λ f. IsSwept f.rules) }
+    {
+        let rules = share_leaves(alloc, self.rules, self.names.len(), LEAVES)?;
+        Ok(Unchecked { rules, ..self })
+    }
+
+    // The rules as a grammar.
+    fn checked(self, alloc: Global) -> Result<Folded, AllocError>
+        requires grammar { IsGrammar self.rules }
+        requires swept { IsSwept self.rules }
+        ensures rules { IfOk result (λ f. rules_of f.grammar.rules ≡ self.rules) }
+        ensures names { IfOk result (λ f. f.names ≡ self.names) }
+        ensures texts { IfOk result (λ f. f.texts ≡ self.texts) }
+    {
+        let grammar = grammar_of(alloc, self.rules)?;
+        Ok(Folded {
+            grammar,
+            names: self.names,
+            texts: self.texts,
+        })
+    }
 }
 
 impl Model for Folder {
@@ -89,12 +132,13 @@ impl Folder {
         ensures size { IfOk result (λ f. (t : Tree) (term : Term) (terms : List Term) → IsDocument t → self.log ≡ events t []
             → Codes f.names (more t none) term → AreSubterms terms term → size (rules_of f.grammar.rules) ≤ 3 * length terms) }
     {
-        self.folded(Sharing::of_uses(2))
+        let alloc = self.alloc;
+        self.written(Sharing::of_uses(2))?.checked(alloc)
     }
 
-    /// The same, but a subterm has a rule only where `sharing` says so, and else is written out where it is used. With fewer rules
-    /// more of the document is written out: settling has more to do, and finds digrams that reach into what would be rules. It is
-    /// refused only for want of memory.
+    /// The same, but a subterm has a rule only where `sharing` says so, and else is written out where it is used; and a symbol that
+    /// stands over a bottom three times or more has a rule together with it. With fewer rules more of the document is written out:
+    /// settling has more to do, and finds digrams that reach into what would be rules. It is refused only for want of memory.
     pub fn finish_with(self, sharing: Sharing) -> Result<Folded, AllocError>
         requires sound { self.sound ≡ true }
         requires depth { self.depth ≡ 0 }
@@ -103,19 +147,20 @@ impl Folder {
         ensures grammar { IfOk result (λ f. IsGrammar (rules_of f.grammar.rules)) }
         ensures swept { IfOk result (λ f. IsSwept (rules_of f.grammar.rules)) }
     {
-        self.folded(sharing)
+        let alloc = self.alloc;
+        self.written(sharing)?.with_leaves(alloc)?.checked(alloc)
     }
 
-    // The grammar with a rule for each subterm that `sharing` gives one. It is small where two uses are enough.
-    fn folded(self, sharing: Sharing) -> Result<Folded, AllocError>
+    // The rules with one for each subterm that `sharing` gives one. They are few where two uses are enough.
+    fn written(self, sharing: Sharing) -> Result<Unchecked, AllocError>
         requires sound { self.sound ≡ true }
         requires depth { self.depth ≡ 0 }
-        ensures stand { IfOk result (λ f. (t : Tree) → IsDocument t → self.log ≡ events t [] → StandsFor (rules_of f.grammar.rules) f.names f.texts.texts t) }
+        ensures stand { IfOk result (λ f. (t : Tree) → IsDocument t → self.log ≡ events t [] → StandsFor f.rules f.names f.texts.texts t) }
         ensures names { IfOk result (λ f. (t : Tree) → IsDocument t → self.log ≡ events t [] → Interns [] (pairs_of_tree t) f.names) }
-        ensures grammar { IfOk result (λ f. IsGrammar (rules_of f.grammar.rules)) }
-        ensures swept { IfOk result (λ f. IsSwept (rules_of f.grammar.rules)) }
+        ensures grammar { IfOk result (λ f. IsGrammar f.rules) }
+        ensures swept { IfOk result (λ f. IsSwept f.rules) }
         ensures size { SharesTwice sharing → IfOk result (λ f. (t : Tree) (term : Term) (terms : List Term) → IsDocument t → self.log ≡ events t []
-            → Codes f.names (more t none) term → AreSubterms terms term → size (rules_of f.grammar.rules) ≤ 3 * length terms) }
+            → Codes f.names (more t none) term → AreSubterms terms term → size f.rules ≤ 3 * length terms) }
     {
         let Folder {
             alloc,
@@ -131,9 +176,8 @@ impl Folder {
         let document = symbol(alloc, &mut names, Kind::Document, b"")?;
         subterms.node(document, kids.code, 0)?;
         let rules = rules_of_table(alloc, subterms, sharing)?;
-        let grammar = grammar_of(alloc, rules)?;
-        Ok(Folded {
-            grammar,
+        Ok(Unchecked {
+            rules,
             names,
             texts: TextList::new(texts),
         })

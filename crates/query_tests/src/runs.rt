@@ -1,7 +1,7 @@
 // Runs over shared rules: a worked row, and random grammars beside a plain evaluator on the terms that they stand for.
 ghost use Rattle.slt_grammar.specs.Grammars.{IsSwept};
 ghost use Rattle.slt_grammar.specs.Keyed.{rules_of};
-ghost use Rattle.std.specs.Prelude.{◌≡◌, ◌<◌};
+ghost use Rattle.std.specs.Prelude.{◌≡◌, ◌<◌, IsSome};
 
 mod plain;
 mod rows;
@@ -11,7 +11,7 @@ use plain::{hits_of, holds_b, numbers_of, value_of};
 use plain_tree::Names;
 use read_steps::Steps;
 use rows::{Row, random_rows, rules_of};
-use rule_runs::{Answers, FallTable, Hit, count_hits, fall, rise};
+use rule_runs::{Answers, FallTable, Hit, fall, rise};
 use segment_counts::Counts;
 use slt_grammar::Label::{Bottom, Call, Param, Symbol};
 use slt_grammar::{Grammar, check};
@@ -22,7 +22,7 @@ use std::test::Fail;
 
 const SEEDS: u64 = 300;
 
-// What runs find: whether some node is b, how many nodes are hit, which, and their numbers alone.
+// What runs find: whether some node is b, how many nodes are hit where none is listed, which, and their numbers alone.
 #[derive(Drop)]
 struct Found {
     has_b: bool,
@@ -41,18 +41,20 @@ fn find<L: Ledger>(alloc: Global, grammar: &Grammar, blank: Blank) -> Result<Fou
     let _counts = Counts::new(alloc, grammar, &Names::new(alloc))?;
     let mut steps: Steps<L> = Steps::new(blank);
     let risen = rise(alloc, grammar, &Marks, &mut steps)?;
-    let fallen = fall(alloc, grammar, &Marks, &risen, None, &mut steps)?;
-    let count = count_hits(alloc, grammar, &Marks, &risen, None, &mut steps)?;
+    let fallen = fall(alloc, grammar, &Marks, &risen, None, true, &mut steps)?;
+    let counted = fall(alloc, grammar, &Marks, &risen, None, false, &mut steps)?;
     Ok(Found {
         has_b: risen.top().has_b,
-        count,
+        count: counted.count(),
         hits: list(alloc, &fallen)?,
         numbers: list_numbers(alloc, &fallen)?,
     })
 }
 
 // All answers, which stay at their end.
-fn list(alloc: Global, fallen: &FallTable) -> Result<Vec<Hit>, AllocError> {
+fn list(alloc: Global, fallen: &FallTable) -> Result<Vec<Hit>, AllocError>
+    requires { IsSome fallen.now.hits }
+{
     let mut hits = Vec::new(alloc);
     let mut answers = Answers::new(alloc, fallen)?;
     for _hit in 0..fallen.count() {
@@ -69,7 +71,9 @@ fn list(alloc: Global, fallen: &FallTable) -> Result<Vec<Hit>, AllocError> {
 }
 
 // The numbers of all answers, of which each second one is asked for its number alone.
-pub(crate) fn list_numbers(alloc: Global, fallen: &FallTable) -> Result<Vec<u64>, AllocError> {
+pub(crate) fn list_numbers(alloc: Global, fallen: &FallTable) -> Result<Vec<u64>, AllocError>
+    requires { IsSome fallen.now.hits }
+{
     let mut numbers = Vec::new(alloc);
     let mut answers = Answers::new(alloc, fallen)?;
     for _pair in 0..fallen.count() {

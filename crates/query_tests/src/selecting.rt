@@ -41,7 +41,15 @@ fn hits<L: Ledger>(
     };
     let mut steps: Steps<L> = Steps::new(blank);
     let risen = rise(alloc, grammar, selector, &mut steps)?;
-    let fallen = fall(alloc, grammar, selector, &risen, Some(&spent), &mut steps)?;
+    let fallen = fall(
+        alloc,
+        grammar,
+        selector,
+        &risen,
+        Some(&spent),
+        true,
+        &mut steps,
+    )?;
     Ok(list_numbers(alloc, &fallen)?)
 }
 

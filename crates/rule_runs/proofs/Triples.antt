@@ -1,5 +1,5 @@
 -- The triples that a run downward reads: each is met, and no two are the same; and what the run has at its end.
-use Rattle.std.proofs.Common.{IsTrue, ◌≡◌, ◌≢◌, ℕ, ◌+◌, ◌-◌, ◌*◌, ◌^◌, ◌<◌, ◌≤◌, List, [], ◌∷◌, ◌++◌, length, get_or, take, drop, map, reverse, sum_by, Option, Some, None, Vec, Global, refl, sym, ap, ◌∙◌, arith, append_assoc, subst, All, AllPairs}
+use Rattle.std.proofs.Common.{◌≡◌, ◌≢◌, ℕ, ◌+◌, ◌-◌, ◌*◌, ◌^◌, ◌<◌, ◌≤◌, List, [], ◌∷◌, ◌++◌, length, get_or, take, drop, map, reverse, sum_by, Vec, Global, refl, ap, ◌∙◌, arith, append_assoc, All, AllPairs}
 use Rattle.std.proofs.lemmas.List.Elements.{All-append, All-cons, All-get_or, All-head, All-nil, All-tail, All-weaker}
 use Rattle.std.proofs.lemmas.List.{map-append, get_or_push, length_push}
 use Rattle.std.proofs.lemmas.List.Sums.{get_or-le-sum_by, sum_by-append}
@@ -16,14 +16,11 @@ use Rattle.rule_runs.specs.declared.listing.Part.{Part}
 use Rattle.rule_runs.specs.declared.spots.Outcome.{Outcome}
 use Rattle.rule_runs.specs.declared.spots.Spot.{Spot}
 use Rattle.rule_runs.specs.declared.told.Here.{Here}
-use Rattle.rule_runs.specs.declared.told.Told.{Told}
-use Rattle.rule_runs.specs.Answering.{all_of, IsThere, IsAnswered}
 use Rattle.rule_runs.specs.Cuts.{Stretch, nothing, beside, cut}
 use Rattle.rule_runs.specs.Descents.{AreOpen, HasOutcome, Standing, Waiting, Asks, AreWaiting, triple_at, fall_cost, befores, downs_handed, tolds}
 use Rattle.rule_runs.specs.Frames.{base}
-use Rattle.rule_runs.specs.Listing.{AreEarlier}
 use Rattle.rule_runs.specs.Risen.{IsPair, IsRun, pair_at, keys}
-use Rattle.rule_runs.specs.Tellings.{Listed, extended, Lists, Tells, IsTelling, AreTold}
+use Rattle.rule_runs.specs.Tellings.{Listed, extended, Tells, IsTelling, AreTold}
 use Rattle.rule_runs.specs.Walks.{Open, woven_marks}
 use Rattle.rule_runs.proofs.Cutting.{cut-whole}
 use Rattle.rule_runs.proofs.Found.{found}
@@ -174,26 +171,6 @@ module _ {S D : Type 0} (A : Algebra S) (W : Downward S D) (G : List Rule) (know
       let whole : Stretch = record { nodes = nodes_in (value G); hits = found A W (value G) } in
       let o = outcome-whole g lists spot outcome h (same ∙ w) in
       told-only lists (befores outcome) outcome.last whole o
-
--- the answers that a stretch's words have
-pub told-answers : (lists : Listed) (t : Told) (s : Stretch) → IsTrue lists.kept → Tells lists t s → all_of lists.lists t.list ≡ s.hits
-told-answers lists t s kept h = by_list t.list h.list
-  where
-    by_list : (list : Option ℕ) → Lists lists list s.hits → all_of lists.lists list ≡ s.hits
-    by_list None l = sym (l kept)
-    by_list (Some i) l = l.1 kept
-
-pub told-answered : (lists : Listed) (t : Told) (s : Stretch) → IsTrue lists.kept → Tells lists t s → AreEarlier lists.lists → All (λ h. h.number < 2 ^ 64) s.hits → IsAnswered lists.lists t
-told-answered lists t s kept h a small = record {
-  earlier = a;
-  there = by_list t.list h.list;
-  counted = h.hits ∙ ap length (sym (told-answers lists t s kept h));
-  small = subst (λ hs. All (λ h. h.number < 2 ^ 64) hs) (sym (told-answers lists t s kept h)) small;
-}
-  where
-    by_list : (list : Option ℕ) → Lists lists list s.hits → IsThere lists.lists list
-    by_list None l = tt
-    by_list (Some i) l = l.0
 
 -- what the bodies that are read, the innermost and the next one, stand for is no larger than the whole
 module _ {S D : Type 0} (A : Algebra S) (W : Downward S D) (G : List Rule) (ks : List (RuleStates S)) (g : IsGrammar G) (small : nodes_in (value G) < 2 ^ 63) where

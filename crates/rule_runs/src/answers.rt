@@ -1,5 +1,5 @@
 // The answers of a run downward, one after another.
-ghost use Rattle.std.specs.Prelude.{◌≡◌, ◌++◌, [], None, IfOk, OnErr, drop, option_to_list};
+ghost use Rattle.std.specs.Prelude.{◌≡◌, ◌++◌, [], Some, None, IfOk, OnErr, IsSome, drop, option_to_list};
 ghost use Rattle.rule_runs.specs.Hits.{numbers};
 
 use crate::falling::FallTable;
@@ -27,9 +27,10 @@ impl<'a> Model for Answers<'a> {
 }
 
 impl<'a> Answers<'a> {
-    /// All answers of a table. It fails where memory is refused.
+    /// All answers of a table that lists them. It fails where memory is refused.
     pub fn new(alloc: Global, fallen: &'a FallTable) -> Result<Answers<'a>, AllocError>
-        ensures { IfOk result (λ answers. answers ≡ fallen.now) }
+        requires { IsSome fallen.now.hits }
+        ensures { IfOk result (λ answers. fallen.now.hits ≡ Some answers) }
     {
         let mut levels = Vec::new(alloc);
         if let Some(list) = fallen.whole.list {

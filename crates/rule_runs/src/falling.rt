@@ -1,6 +1,6 @@
 // Runs downward: each rule is read once for each list of argument states, and gone through once for each down state that it is met
 // with.
-ghost use Rattle.std.specs.Prelude.{◌≡◌, ◌-◌, ◌+◌, ◌*◌, ◌^◌, ◌<◌, ◌≤◌, ℕ, List, length, sum_by, slice_get, Some, All, IfOk, IfSome};
+ghost use Rattle.std.specs.Prelude.{◌≡◌, ◌↔◌, ◌-◌, ◌+◌, ◌*◌, ◌^◌, ◌<◌, ◌≤◌, ℕ, List, length, sum_by, slice_get, Some, All, IfOk, IfSome, IsSome, IsTrue};
 ghost use Rattle.plain_tree.specs.declared.kind.Kind.{Kind};
 ghost use Rattle.segment_counts.specs.Counting.{AreCounts};
 ghost use Rattle.slt_grammar.specs.Automata.{IsSpent, hits, nodes_in};
@@ -14,7 +14,7 @@ ghost use Rattle.rule_runs.specs.Risen.{IsRun, keys};
 use crate::descent::{begin, descend, enter_call};
 use crate::kept::Bodies;
 use crate::layers::Layers;
-use crate::listing::{HitLists, Part};
+use crate::listing::HitLists;
 use crate::rising::RiseTable;
 use crate::spent::{Spent, spent_outcome};
 use crate::spots::{Spot, Spots};
@@ -25,36 +25,35 @@ use std::alloc::{AllocError, Global};
 use std::marker::Model;
 use std::sync::ledger::Ledger;
 
-/// What a run downward has found. It is seen as the nodes that are hit, by rising numbers.
+/// What a run downward has found. It is seen as how many nodes are hit and, where they are listed, which, by rising numbers.
 #[derive(Drop)]
 pub struct FallTable {
-    pub(crate) lists: Vec<Vec<Part>>,
+    pub(crate) lists: HitLists,
     pub(crate) whole: Told,
 }
 
 impl Model for FallTable {
-    ghost use Rattle.std.specs.Prelude.{List};
-    ghost use Rattle.rule_runs.specs.declared.listing.Hit.{Hit};
-    ghost use Rattle.rule_runs.specs.Answering.{all_of, IsAnswered};
+    ghost use Rattle.rule_runs.specs.Answering.{Fallen, fallen_of, IsAnswered};
 
-    ghost Value = { List Hit };
+    ghost Value = { Fallen };
 
-    ghost view = { λ t. all_of t.lists.items t.whole.list };
+    ghost view = { λ t. fallen_of t.lists t.whole };
 
-    ghost invariant = { λ t. IsAnswered t.lists.items t.whole };
+    ghost invariant = { λ t. IsAnswered t.lists t.whole };
 }
 
 impl FallTable {
     /// How many nodes are hit.
     pub fn count(&self) -> u64
-        ensures { result ≡ length self.now }
+        ensures count { result ≡ self.now.count }
+        ensures listed { IfSome self.now.hits (λ found. result ≡ length found) }
     {
         self.whole.hits
     }
 }
 
-/// Runs the automaton downward, over what its run upward found in this grammar: which nodes are hit of all that the grammar stands for,
-/// and which symbols they have.
+/// Runs the automaton downward, over what its run upward found in this grammar: how many nodes are hit of all that the grammar stands
+/// for, and where they are to be listed which, with the symbols that they have.
 ///
 /// What the grammar stands for has at most 2^63 - 1 nodes that aren't bottom. Each pair of a rule and states of its arguments that the
 /// run meets is read once for all its down states, with at most two steps a node, whatever is answered; where `spent` tells a down state
@@ -65,57 +64,29 @@ pub fn fall<A: Falling, L: Ledger>(
     automaton: &A,
     risen: &RiseTable<A>,
     spent: Option<&Spent<'_, A::Down>>,
+    listed: bool,
     steps: &mut Steps<L>,
 ) -> Result<FallTable, AllocError>
     requires run { IsRun (A.algebra automaton.now) (rules_of grammar.now.rules) risen.now.known }
     requires small { nodes_in (value (rules_of grammar.now.rules)) < 2 ^ 63 }
     requires spent { IfSome spent (λ s. IsSpent (A.downward automaton.now) s.now.down) }
     requires counts { IfSome spent (λ s. (names : List (Kind × List ℕ)) × AreCounts names (rules_of grammar.now.rules) s.now.counts.now) }
-    ensures hits { IfOk result (λ table. numbers table ≡ hits (A.algebra automaton.now) (A.downward automaton.now) (value (rules_of grammar.now.rules))) }
-    ensures symbols { IfOk result (λ table. All (λ hit. slice_get (symbols_in (value (rules_of grammar.now.rules))) hit.number ≡ Some hit.symbol) table) }
+    ensures count { IfOk result (λ table. table.count ≡ length (hits (A.algebra automaton.now) (A.downward automaton.now) (value (rules_of grammar.now.rules)))) }
+    ensures listed { IfOk result (λ table. IsSome table.hits ↔ IsTrue listed) }
+    ensures hits { IfOk result (λ table. IfSome table.hits (λ found. numbers found ≡ hits (A.algebra automaton.now) (A.downward automaton.now) (value (rules_of grammar.now.rules)))) }
+    ensures symbols { IfOk result (λ table. IfSome table.hits (λ found. All (λ hit. slice_get (symbols_in (value (rules_of grammar.now.rules))) hit.number ≡ Some hit.symbol) found)) }
     ensures steps { (triples : List (RuleStates A.State × A.Down)) × FallsOnce (A.algebra automaton.now) (A.downward automaton.now) (rules_of grammar.now.rules) triples (steps.new - steps.old) }
     ensures reads { steps.new ≤ steps.old + 2 * sum_by (λ k. length (body_at (rules_of grammar.now.rules) k.0)) (keys risen.now.known) }
     ensures counted { steps.old ≤ steps.new }
 {
-    let fallen = run_down(alloc, grammar, automaton, risen, spent, true, steps)?;
+    let fallen = run_down(alloc, grammar, automaton, risen, spent, listed, steps)?;
     Ok(FallTable {
-        lists: fallen.lists.into_lists(),
-        whole: fallen.whole,
+        lists: fallen.0,
+        whole: fallen.1,
     })
 }
 
-/// How many nodes the automaton hits of all that the grammar stands for: what the table of `fall` counts, without making the table's lists.
-///
-/// It reads what `fall` reads, and needs the same. It fails where memory is refused.
-pub fn count_hits<A: Falling, L: Ledger>(
-    alloc: Global,
-    grammar: &Grammar,
-    automaton: &A,
-    risen: &RiseTable<A>,
-    spent: Option<&Spent<'_, A::Down>>,
-    steps: &mut Steps<L>,
-) -> Result<u64, AllocError>
-    requires run { IsRun (A.algebra automaton.now) (rules_of grammar.now.rules) risen.now.known }
-    requires small { nodes_in (value (rules_of grammar.now.rules)) < 2 ^ 63 }
-    requires spent { IfSome spent (λ s. IsSpent (A.downward automaton.now) s.now.down) }
-    requires counts { IfSome spent (λ s. (names : List (Kind × List ℕ)) × AreCounts names (rules_of grammar.now.rules) s.now.counts.now) }
-    ensures count { IfOk result (λ count. count ≡ length (hits (A.algebra automaton.now) (A.downward automaton.now) (value (rules_of grammar.now.rules)))) }
-    ensures steps { (triples : List (RuleStates A.State × A.Down)) × FallsOnce (A.algebra automaton.now) (A.downward automaton.now) (rules_of grammar.now.rules) triples (steps.new - steps.old) }
-    ensures reads { steps.new ≤ steps.old + 2 * sum_by (λ k. length (body_at (rules_of grammar.now.rules) k.0)) (keys risen.now.known) }
-    ensures counted { steps.old ≤ steps.new }
-{
-    let fallen = run_down(alloc, grammar, automaton, risen, spent, false, steps)?;
-    Ok(fallen.whole.hits)
-}
-
-// What a run downward has found of the whole.
-#[derive(Drop)]
-struct Fallen {
-    lists: HitLists,
-    whole: Told,
-}
-
-// Runs downward, and lists the hits where lists are kept.
+// Runs downward: the lists, which have the hits where they are kept, and the stretch of the whole.
 fn run_down<A: Falling, L: Ledger>(
     alloc: Global,
     grammar: &Grammar,
@@ -124,13 +95,13 @@ fn run_down<A: Falling, L: Ledger>(
     spent: Option<&Spent<'_, A::Down>>,
     kept: bool,
     steps: &mut Steps<L>,
-) -> Result<Fallen, AllocError>
+) -> Result<(HitLists, Told), AllocError>
     requires run { IsRun (A.algebra automaton.now) (rules_of grammar.now.rules) risen.now.known }
     requires small { nodes_in (value (rules_of grammar.now.rules)) < 2 ^ 63 }
     requires spent { IfSome spent (λ s. IsSpent (A.downward automaton.now) s.now.down) }
     requires counts { IfSome spent (λ s. (names : List (Kind × List ℕ)) × AreCounts names (rules_of grammar.now.rules) s.now.counts.now) }
-    ensures fallen { IfOk result (λ fallen. HasFallen (A.algebra automaton.now) (A.downward automaton.now) (value (rules_of grammar.now.rules)) fallen.lists fallen.whole) }
-    ensures kept { IfOk result (λ fallen. fallen.lists.kept ≡ kept) }
+    ensures fallen { IfOk result (λ fallen. HasFallen (A.algebra automaton.now) (A.downward automaton.now) (value (rules_of grammar.now.rules)) fallen.0 fallen.1) }
+    ensures kept { IfOk result (λ fallen. fallen.0.kept ≡ kept) }
     ensures steps { (triples : List (RuleStates A.State × A.Down)) × FallsOnce (A.algebra automaton.now) (A.downward automaton.now) (rules_of grammar.now.rules) triples (steps.new - steps.old) }
     ensures reads { steps.new ≤ steps.old + 2 * sum_by (λ k. length (body_at (rules_of grammar.now.rules) k.0)) (keys risen.now.known) }
     ensures counted { steps.old ≤ steps.new }
@@ -185,12 +156,7 @@ fn run_down<A: Falling, L: Ledger>(
                 }
             },
             None => match frames.pop() {
-                None => {
-                    return Ok(Fallen {
-                        lists,
-                        whole: frame.outcome.last,
-                    });
-                }
+                None => return Ok((lists, frame.outcome.last)),
                 Some(below) => {
                     let done = frame;
                     frame = below;

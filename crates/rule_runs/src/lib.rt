@@ -2,7 +2,8 @@
 //!
 //! A run upward reads each rule once for each list of argument states that it meets, however often the value has it. So does a run
 //! downward, and goes through what it read once for each down state. `rise` runs upward, `fall` downward over what that found, and
-//! `Answers` tells the nodes that are hit, by their numbers and symbols, one after another; `count_hits` counts them and lists none.
+//! `Answers` tells the nodes that are hit, by their numbers and symbols, one after another, where `fall` was told to list them and not
+//! only to count them.
 //!
 //! `body` reads a rule's body. Upward: `rising` runs over the bodies of `frame`, with states on a `stack`, and notes them in `memo`.
 //! Where an automaton has one state, `one_state` notes all pairs without reading.
@@ -35,7 +36,7 @@ mod table;
 mod told;
 
 pub use answers::Answers;
-pub use falling::{FallTable, count_hits, fall};
+pub use falling::{FallTable, fall};
 pub use listing::Hit;
 pub use one_state::rise_in_one_state;
 pub use rising::{RiseTable, rise};

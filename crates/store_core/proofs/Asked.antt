@@ -1,6 +1,7 @@
 -- What commands with a query come to.
 use Rattle.std.proofs.Common.{◌≡◌, ◌≤◌, ◌<◌, ◌+◌, ◌^◌, ◌⊎◌, inl, inr, ℕ, List, [], ◌++◌, length, Option, Some, Result, Ok, All, refl, sym, ap, ◌∙◌, subst, arith, append-nil}
 use Rattle.std.specs.List.{flat_map}
+use Rattle.std.specs.Prelude.{IfSome, IsSome}
 use Rattle.std.proofs.lemmas.Bool.{cases_lt}
 use Rattle.std.proofs.lemmas.List.{length-map, map-append}
 use Rattle.std.proofs.lemmas.Option.{same_Some}
@@ -9,8 +10,10 @@ use Rattle.slt_grammar.specs.Automata.{nodes_in}
 use Rattle.slt_grammar.specs.Grammars.{value}
 use Rattle.slt_grammar.specs.declared.rules.Rule.{Rule}
 use Rattle.segment_counts.specs.Weights.{node_weight}
+use Rattle.rule_runs.specs.Answering.{Fallen, listed_hits}
 use Rattle.rule_runs.specs.Hits.{numbers}
 use Rattle.rule_runs.specs.declared.listing.Hit.{Hit}
+use Rattle.rule_runs.proofs.Answering.{of-listed}
 use Rattle.rule_runs.proofs.Lists.{all-split}
 use Rattle.rule_runs.proofs.Sizes.{nodes-weigh}
 use Rattle.selecting_automaton.specs.Sizes.{parts_inside, steps_outside}
@@ -29,7 +32,7 @@ use Rattle.store_core.specs.Machine.{Queries, Counts, PrintsFirst}
 use Rattle.store_core.specs.Printed.{Gathers, hit_line, hit_lines}
 use Rattle.store_core.specs.Reads.{ReadsFew, most_reads}
 use Rattle.store_core.specs.Refusals.{Cause, IsReady}
-use Rattle.store_core.specs.Selecting.{Selects, SpellsNoQuery, SpellsLarge, SelectsSoMany}
+use Rattle.store_core.specs.Selecting.{HasSelected, Selects, SpellsNoQuery, SpellsLarge, SelectsSoMany}
 use Rattle.store_core.specs.Stopping.{query_refusal}
 use Rattle.store_core.specs.Texts.{answer_line, selected_line}
 use Rattle.store_core.specs.Worlds.{Parts, AreLawfulParts, State, World, Same}
@@ -126,6 +129,14 @@ pub record IsFound (query : List ℕ) (parts : Parts) (w : World) (hits : List H
   pub held : w.state ≡ Some parts
   pub selects : Selects query w tree (numbers hits)
   pub lined : All (IsLined parts tree) hits
+
+pub found-listed : (query : List ℕ) (parts : Parts) (w : World) (tree : Tree) (found : Fallen) → w.state ≡ Some parts → HasSelected query w tree found → IsSome found.hits → IfSome found.hits (All (IsLined parts tree)) → IsFound query parts w (listed_hits found.hits)
+found-listed query parts w tree found held h listed lined = record {
+  tree = tree;
+  held = held;
+  selects = subst (Selects query w tree) (sym (of-listed found.hits (λ hs. numbers hs ≡ h.answer) listed h.listed)) h.selects;
+  lined = of-listed found.hits (All (IsLined parts tree)) listed lined;
+}
 
 -- all lines were printed
 pub query_done : {E : Type 0} (query : List ℕ) (parts : Parts) (w : World) (hits : List Hit) (before now : Option (List ℕ)) (count : ℕ) (done : Result (Unit {0}) E) (u : Unit {0}) → IsFound query parts w hits → Gathers before now parts.names hits done [] → done ≡ Ok u

@@ -15,6 +15,7 @@ pub mod Printing
 pub mod Distinct
 pub mod StatesWithin
 pub mod StateCounts
+pub mod Finding
 pub mod HitLines
 pub mod Gathering
 pub mod Asked

@@ -2,13 +2,12 @@
 //!
 //! `Session::command` is one step of the plain tree machine (specs/Machine): what the command prints, what it leaves of the
 //! session and of the shelf's files. The document is held as a `Store`. Commands are in `loading`, `saving`, `showing`,
-//! `repairing`, `selecting` and `counting`, the walk over a node is in `walking`, and what it writes in `writing`; `answer` has the lines
-//! that commands print.
+//! `repairing` and `selecting`, the walk over a node is in `walking`, and what it writes in `writing`; `answer` has the lines that
+//! commands print.
 #![tactic(auto)]
 
 mod answer;
 mod command;
-mod counting;
 mod grammar_loading;
 mod listing;
 mod loading;

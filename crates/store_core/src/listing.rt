@@ -1,5 +1,6 @@
 // Printing the nodes that a query selects.
-ghost use Rattle.std.specs.Prelude.{◌≡◌, ◌++◌, ◌≤◌, [], OnOk, MatchResult, length};
+ghost use Rattle.std.specs.Prelude.{◌≡◌, ◌++◌, ◌≤◌, [], OnOk, MatchResult, IsSome, length};
+ghost use Rattle.rule_runs.specs.Answering.{listed_hits};
 ghost use Rattle.tree_outside.specs.Outside.{GetsFront, HasCause, Writes};
 ghost use Rattle.tree_outside.specs.Shelf.{Keeps};
 ghost use Rattle.store_core.specs.Printed.{Gathers, Passes, hit_line, hit_lines};
@@ -26,7 +27,8 @@ pub(crate) fn print_hits<K: Sink>(
     names: &Names,
     sink: &mut K,
 ) -> Result<Result<(), AllocError>, Failed>
-    ensures prints { MatchResult result (λ done. Gathers (K.got sink.old) (K.got sink.new) names.now found.now done []) (λ _. GetsFront (K.got sink.old) (K.got sink.new) (hit_lines names.now found.now)) }
+    requires listed { IsSome found.now.hits }
+    ensures prints { MatchResult result (λ done. Gathers (K.got sink.old) (K.got sink.new) names.now (listed_hits found.now.hits) done []) (λ _. GetsFront (K.got sink.old) (K.got sink.new) (hit_lines names.now (listed_hits found.now.hits))) }
     ensures kept { Keeps (K.kept sink.old) (K.kept sink.new) }
     ensures cause { HasCause (K.faults sink.old) (K.faults sink.new) result }
 {
@@ -44,8 +46,9 @@ fn gather_hits<K: Sink>(
     held: &mut Held,
     sink: &mut K,
 ) -> Result<Result<(), AllocError>, Failed>
-    requires { held.old.items ≡ [] }
-    ensures gathers { MatchResult result (λ done. Gathers (K.got sink.old) (K.got sink.new) names.now found.now done held.new.items) (λ _. GetsFront (K.got sink.old) (K.got sink.new) (hit_lines names.now found.now)) }
+    requires listed { IsSome found.now.hits }
+    requires fresh { held.old.items ≡ [] }
+    ensures gathers { MatchResult result (λ done. Gathers (K.got sink.old) (K.got sink.new) names.now (listed_hits found.now.hits) done held.new.items) (λ _. GetsFront (K.got sink.old) (K.got sink.new) (hit_lines names.now (listed_hits found.now.hits))) }
     ensures kept { Keeps (K.kept sink.old) (K.kept sink.new) }
     ensures cause { HasCause (K.faults sink.old) (K.faults sink.new) result }
 {

@@ -1,19 +1,18 @@
 // Finding what a query selects.
-ghost use Rattle.std.specs.Prelude.{◌≡◌, ◌<◌, ◌≤◌, ◌+◌, ◌*◌, ◌^◌, ℕ, List, All, Some, IfOk, IfErr, slice_get};
+ghost use Rattle.std.specs.Prelude.{◌≡◌, ◌↔◌, ◌<◌, ◌≤◌, ◌+◌, ◌*◌, ◌^◌, ℕ, List, All, Some, IfOk, IfErr, IfSome, IsSome, IsTrue};
 ghost use Rattle.plain_tree.specs.Tree.{Tree};
 ghost use Rattle.plain_tree.specs.declared.kind.Kind.{Kind};
 ghost use Rattle.segment_counts.specs.Counting.{AreCounts};
-ghost use Rattle.slt_grammar.specs.Automata.{IsSpent, hits, nodes_in};
+ghost use Rattle.slt_grammar.specs.Automata.{IsSpent, nodes_in};
 ghost use Rattle.slt_grammar.specs.Grammars.{IsSwept, value, whole};
 ghost use Rattle.slt_grammar.specs.Keyed.{rules_of};
 ghost use Rattle.slt_grammar.specs.OneState.{HasOneState};
-ghost use Rattle.rule_runs.specs.Hits.{numbers, symbols_in};
 ghost use Rattle.selecting_automaton.specs.Bounds.{HasFewStates};
 ghost use Rattle.store_core.specs.Acts.{Act, query_asked};
 ghost use Rattle.store_core.specs.Printed.{hit_line};
 ghost use Rattle.store_core.specs.Reads.{ReadsFew, most_reads};
 ghost use Rattle.store_core.specs.Refusals.{Cause};
-ghost use Rattle.store_core.specs.Selecting.{Selects};
+ghost use Rattle.store_core.specs.Selecting.{Finds, HasSelected};
 ghost use Rattle.store_core.specs.Texts.{selected_line};
 ghost use Rattle.store_core.specs.StoreOf.{IsCounted, parts_of};
 ghost use Rattle.store_core.specs.Worlds.{AreLawfulParts, PartsStandFor, World};
@@ -29,8 +28,8 @@ use std::alloc::{AllocError, Global};
 use std::sync::ledger::Ledger;
 use xpath_parser::{parse, spells_one};
 
-/// The nodes that the query selects, found over the rules. It is refused with `BadQuery` where the text is no query, with
-/// `LargeQuery` where it is one that passes the limits, and with `Memory` for want of that.
+/// How many nodes the query selects and, where they are to be listed, which, found over the rules. It is refused with `BadQuery` where
+/// the text is no query, with `LargeQuery` where it is one that passes the limits, and with `Memory` for want of that.
 ///
 /// Each rule is read once for each list of states in which runs meet it, whatever is answered; where the query has no filters, only by
 /// the run downward.
@@ -38,12 +37,14 @@ pub(crate) fn select<L: Ledger>(
     alloc: Global,
     text: &[u8],
     store: &Store,
+    listed: bool,
     steps: &mut Steps<L>,
 ) -> Result<FallTable, Refusal>
     requires held { AreLawfulParts (parts_of store.now) }
     requires counted { IsCounted store.now }
-    ensures selects { IfOk result (λ found. (tree : Tree) (w : World) → w.state ≡ Some (parts_of store.now) → PartsStandFor (parts_of store.now) tree → Selects text.now w tree (numbers found)) }
-    ensures lines { IfOk result (λ found. (tree : Tree) → PartsStandFor (parts_of store.now) tree → All (λ hit. hit_line store.now.names hit ≡ selected_line tree hit.number) found) }
+    ensures selects { IfOk result (λ found. (tree : Tree) (w : World) → w.state ≡ Some (parts_of store.now) → PartsStandFor (parts_of store.now) tree → HasSelected text.now w tree found) }
+    ensures listed { IfOk result (λ found. IsSome found.hits ↔ IsTrue listed) }
+    ensures lines { IfOk result (λ found. (tree : Tree) → PartsStandFor (parts_of store.now) tree → IfSome found.hits (All (λ hit. hit_line store.now.names hit ≡ selected_line tree hit.number))) }
     ensures refused { IfErr result (λ refusal. (act : Act) (old new : World) → query_asked act ≡ Some text.now → old.state ≡ Some (parts_of store.now) → Cause refusal act old new) }
     ensures reads { ReadsFew text.now (rules_of store.now.grammar.rules) steps.old steps.new }
 {
@@ -51,23 +52,30 @@ pub(crate) fn select<L: Ledger>(
     spells_one();
     let query = parse(alloc, text)?;
     let selector = compile(alloc, &query, &store.names)?;
-    let found = run(alloc, &selector, &store.grammar, &store.counts, steps)?;
+    let found = run(
+        alloc,
+        &selector,
+        &store.grammar,
+        &store.counts,
+        listed,
+        steps,
+    )?;
     Ok(found)
 }
 
-// The nodes that the selector hits of all that the grammar stands for. It is refused only for want of memory.
+// What the selector hits of all that the grammar stands for. It is refused only for want of memory.
 fn run<L: Ledger>(
     alloc: Global,
     selector: &Selector,
     grammar: &Grammar,
     counts: &Counts,
+    listed: bool,
     steps: &mut Steps<L>,
 ) -> Result<FallTable, AllocError>
     requires small { nodes_in (value (rules_of grammar.now.rules)) < 2 ^ 63 }
     requires swept { IsSwept (rules_of grammar.now.rules) }
     requires counted { (names : List (Kind × List ℕ)) × AreCounts names (rules_of grammar.now.rules) counts.now }
-    ensures hits { IfOk result (λ found. numbers found ≡ hits (⟦<Selector as Rising>⟧.algebra selector.now) (⟦<Selector as Falling>⟧.downward selector.now) (value (rules_of grammar.now.rules))) }
-    ensures symbols { IfOk result (λ found. All (λ hit. slice_get (symbols_in (value (rules_of grammar.now.rules))) hit.number ≡ Some hit.symbol) found) }
+    ensures finds { IfOk result (Finds (⟦<Selector as Rising>⟧.algebra selector.now) (⟦<Selector as Falling>⟧.downward selector.now) (value (rules_of grammar.now.rules)) listed) }
     ensures reads { (parts steps_outside : ℕ) → HasFewStates (⟦<Selector as Rising>⟧.algebra selector.now) (⟦<Selector as Falling>⟧.downward selector.now) parts steps_outside
         → steps.new ≤ steps.old + most_reads (rules_of grammar.now.rules) parts steps_outside }
 {
@@ -77,18 +85,19 @@ fn run<L: Ledger>(
                 down: blind.spent(),
                 counts,
             };
-            run_downward(alloc, &blind, grammar, &spent, steps)
+            run_downward(alloc, &blind, grammar, &spent, listed, steps)
         }
-        None => run_both_ways(alloc, selector, grammar, counts, steps),
+        None => run_both_ways(alloc, selector, grammar, counts, listed, steps),
     }
 }
 
-// The nodes that an automaton hits which tells no nodes apart upward. It is run downward alone, and each body is read once.
+// What an automaton hits which tells no nodes apart upward. It is run downward alone, and each body is read once.
 fn run_downward<A: Falling, L: Ledger>(
     alloc: Global,
     automaton: &A,
     grammar: &Grammar,
     spent: &Spent<'_, A::Down>,
+    listed: bool,
     steps: &mut Steps<L>,
 ) -> Result<FallTable, AllocError>
     requires one { HasOneState (A.algebra automaton.now) }
@@ -96,26 +105,33 @@ fn run_downward<A: Falling, L: Ledger>(
     requires swept { IsSwept (rules_of grammar.now.rules) }
     requires spent { IsSpent (A.downward automaton.now) spent.now.down }
     requires counts { (names : List (Kind × List ℕ)) × AreCounts names (rules_of grammar.now.rules) spent.now.counts.now }
-    ensures hits { IfOk result (λ found. numbers found ≡ hits (A.algebra automaton.now) (A.downward automaton.now) (value (rules_of grammar.now.rules))) }
-    ensures symbols { IfOk result (λ found. All (λ hit. slice_get (symbols_in (value (rules_of grammar.now.rules))) hit.number ≡ Some hit.symbol) found) }
+    ensures finds { IfOk result (Finds (A.algebra automaton.now) (A.downward automaton.now) (value (rules_of grammar.now.rules)) listed) }
     ensures reads { steps.new ≤ steps.old + 2 * whole (rules_of grammar.now.rules) }
 {
     let risen = rise_in_one_state(alloc, grammar, automaton)?;
-    fall(alloc, grammar, automaton, &risen, Some(spent), steps)
+    fall(
+        alloc,
+        grammar,
+        automaton,
+        &risen,
+        Some(spent),
+        listed,
+        steps,
+    )
 }
 
-// The nodes that the selector hits, by a run upward and one downward over what that found.
+// What the selector hits, by a run upward and one downward over what that found.
 fn run_both_ways<L: Ledger>(
     alloc: Global,
     selector: &Selector,
     grammar: &Grammar,
     counts: &Counts,
+    listed: bool,
     steps: &mut Steps<L>,
 ) -> Result<FallTable, AllocError>
     requires small { nodes_in (value (rules_of grammar.now.rules)) < 2 ^ 63 }
     requires counted { (names : List (Kind × List ℕ)) × AreCounts names (rules_of grammar.now.rules) counts.now }
-    ensures hits { IfOk result (λ found. numbers found ≡ hits (⟦<Selector as Rising>⟧.algebra selector.now) (⟦<Selector as Falling>⟧.downward selector.now) (value (rules_of grammar.now.rules))) }
-    ensures symbols { IfOk result (λ found. All (λ hit. slice_get (symbols_in (value (rules_of grammar.now.rules))) hit.number ≡ Some hit.symbol) found) }
+    ensures finds { IfOk result (Finds (⟦<Selector as Rising>⟧.algebra selector.now) (⟦<Selector as Falling>⟧.downward selector.now) (value (rules_of grammar.now.rules)) listed) }
     ensures reads { (parts steps_outside : ℕ) → HasFewStates (⟦<Selector as Rising>⟧.algebra selector.now) (⟦<Selector as Falling>⟧.downward selector.now) parts steps_outside
         → steps.new ≤ steps.old + most_reads (rules_of grammar.now.rules) parts steps_outside }
 {
@@ -126,5 +142,13 @@ fn run_both_ways<L: Ledger>(
         down: selector.spent(),
         counts,
     };
-    fall(alloc, grammar, selector, &risen, Some(&spent), steps)
+    fall(
+        alloc,
+        grammar,
+        selector,
+        &risen,
+        Some(&spent),
+        listed,
+        steps,
+    )
 }

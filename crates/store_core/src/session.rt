@@ -6,7 +6,6 @@ ghost use Rattle.tree_outside.specs.Shelf.{Keeps};
 
 use crate::answer::{Answer, Refusal, write_line};
 use crate::command::{Command, Settings};
-use crate::counting::count_selected;
 use crate::grammar_loading::load_grammar;
 use crate::listing::print_hits;
 use crate::loading::load_document;
@@ -258,7 +257,7 @@ impl Session {
         let Some(store) = &self.store else {
             return Ok(Err(Refusal::NoDocument));
         };
-        let found = match select(alloc, text, store, steps) {
+        let found = match select(alloc, text, store, true, steps) {
             Ok(found) => found,
             Err(refusal) => return Ok(Err(refusal)),
         };
@@ -282,7 +281,7 @@ impl Session {
         let Some(store) = &self.store else {
             return Err(Refusal::NoDocument);
         };
-        let count = count_selected(alloc, text, store, steps)?;
-        Ok(Answer::Selected(count))
+        let counted = select(alloc, text, store, false, steps)?;
+        Ok(Answer::Selected(counted.count()))
     }
 }

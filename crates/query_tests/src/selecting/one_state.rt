@@ -48,9 +48,17 @@ fn find_both<L: Ledger>(
     };
     let mut steps: Steps<L> = Steps::new(blank);
     let unread = rise_in_one_state(alloc, grammar, selector)?;
-    let first = fall(alloc, grammar, selector, &unread, Some(&spent), &mut steps)?;
+    let first = fall(
+        alloc,
+        grammar,
+        selector,
+        &unread,
+        Some(&spent),
+        true,
+        &mut steps,
+    )?;
     let read = rise(alloc, grammar, selector, &mut steps)?;
-    let second = fall(alloc, grammar, selector, &read, None, &mut steps)?;
+    let second = fall(alloc, grammar, selector, &read, None, true, &mut steps)?;
     Ok(Some(Both {
         same_top: *unread.top() == *read.top(),
         unread: list_numbers(alloc, &first)?,

@@ -5,5 +5,8 @@ use Rattle.segment_counts.specs.Weights.{node_weight}
 use Rattle.rule_runs.proofs.Sizes.{nodes-weigh}
 use Rattle.query_tests.proofs.selecting.hits.Goals as goal
 
+pub list_numbers-requires : goal.list_numbers-requires
+list_numbers-requires g c = c.in_ok-fallen.ensures.listed.1 refl
+
 pub fall-requires-clause-small : goal.fall-requires-clause-small
 fall-requires-clause-small g c = rw (nodes-weigh node_weight (λ f. refl) refl refl (value (rules_of c.args.grammar.now.rules))) c.in_ok-counts.ensures.few

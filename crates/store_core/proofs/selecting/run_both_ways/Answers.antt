@@ -1,8 +1,15 @@
 use Rattle.std.proofs.Common.{[], arith}
 use Rattle.rule_runs.proofs.Triples.{falls-none}
+use Rattle.slt_grammar.specs.Grammars.{value}
 use Rattle.slt_grammar.specs.Keyed.{rules_of}
+use Rattle.store_core.proofs.Finding.{finds-all}
 use Rattle.store_core.proofs.StateCounts.{both-few}
 use Rattle.store_core.proofs.selecting.run_both_ways.Goals as goal
+
+pub returns-clause-finds : goal.returns-clause-finds
+returns-clause-finds g c =
+    let e = c.fall.ensures in
+    finds-all _ _ (value (rules_of c.args.grammar.now.rules)) c.args.listed c.fall.result e.count e.listed e.hits e.symbols
 
 pub returns-clause-reads : goal.returns-clause-reads
 returns-clause-reads g c = λ parts outer few.

@@ -1,14 +1,15 @@
 use Rattle.std.proofs.Common.{Err, slice_get, Some, ◌≡◌, ap, ◌∙◌}
-use Rattle.std.proofs.lemmas.List.Elements.{All-weaker}
 use Rattle.std.proofs.lemmas.Result.{err_from_is_err_and}
 use Rattle.slt_grammar.specs.Grammars.{value}
 use Rattle.slt_grammar.specs.Keyed.{rules_of}
 use Rattle.rule_runs.specs.Hits.{symbols_in}
 use Rattle.rule_runs.specs.declared.listing.Hit.{Hit}
+use Rattle.xpath_parser.specs.Meaning.{selected}
 use Rattle.store_core.specs.Printed.{hit_line}
 use Rattle.store_core.specs.StoreOf.{parts_of}
 use Rattle.store_core.specs.Texts.{selected_line}
 use Rattle.store_core.proofs.Asked.{few-nodes, query_refused, reads-spelled, within-inside, within-outside}
+use Rattle.store_core.proofs.Finding.{all-if}
 use Rattle.store_core.proofs.HitLines.{line-told}
 use Rattle.store_core.proofs.selecting.select.Goals as goal
 
@@ -26,10 +27,32 @@ compile-requires-clause-short g c = let s = c.in_ok-query.ensures.spelled in wit
 pub run-requires-clause-small : goal.run-requires-clause-small
 run-requires-clause-small g c = few-nodes (parts_of c.args.store.now) c.requires.held
 
+pub returns-clause-selects : goal.returns-clause-selects
+returns-clause-selects g c = λ tree w held stand.
+    let s = c.in_ok-query.ensures.spelled in
+    let f = c.in_ok-found.ensures.finds in
+    record {
+      answer = _;
+      selects = record {
+        parts = parts_of c.args.store.now;
+        held = held;
+        stand = stand;
+        paths = s.0;
+        spelled = s.1;
+        within = s.2;
+        answer = c.in_ok-selector.ensures.selects tree (value (rules_of c.args.store.now.grammar.rules)) stand.code ∙ ap (selected tree) s.3;
+      };
+      count = f.count;
+      listed = f.hit;
+    }
+
+pub returns-clause-listed : goal.returns-clause-listed
+returns-clause-listed g c = c.in_ok-found.ensures.finds.listed_where
+
 pub returns-clause-lines : goal.returns-clause-lines
 returns-clause-lines g c = λ tree stand.
     let parts = parts_of c.args.store.now in
-    All-weaker (λ (hit : Hit). slice_get (symbols_in (value parts.rules)) hit.number ≡ Some hit.symbol) (λ (hit : Hit). hit_line parts.names hit ≡ selected_line tree hit.number) (line-told parts tree stand) c.in_ok-found.found c.in_ok-found.ensures.symbols
+    all-if (λ (hit : Hit). slice_get (symbols_in (value parts.rules)) hit.number ≡ Some hit.symbol) (λ (hit : Hit). hit_line parts.names hit ≡ selected_line tree hit.number) (line-told parts tree stand) c.in_ok-found.found.hits c.in_ok-found.ensures.finds.symbols
 
 pub returns-clause-reads : goal.returns-clause-reads
 returns-clause-reads g c = λ paths spelled.

@@ -5,6 +5,12 @@ use Rattle.segment_counts.specs.Weights.{node_weight}
 use Rattle.rule_runs.proofs.Sizes.{nodes-weigh}
 use Rattle.query_tests.proofs.selecting.one_state.find_both.Goals as goal
 
+pub list_numbers-requires : goal.list_numbers-requires
+list_numbers-requires g c = c.in_ok-first.ensures.listed.1 refl
+
+pub list_numbers-requires-2 : goal.list_numbers-requires-2
+list_numbers-requires-2 g c = c.in_ok-second.ensures.listed.1 refl
+
 pub fall-requires-clause-small : goal.fall-requires-clause-small
 fall-requires-clause-small g c = rw (nodes-weigh node_weight (λ f. refl) refl refl (value (rules_of c.args.grammar.now.rules))) c.in_ok-counts.ensures.few
 

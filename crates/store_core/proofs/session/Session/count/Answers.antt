@@ -11,4 +11,5 @@ returns-clause-comes g c = λ told count.
     let held : c.args.self.now ≡ Some parts = sym c.self.view_is ∙ ap (option_map parts_of) c.in-Some.is in
     let lawful : AreLawfulParts parts = rw c.in-Some.is at c.self.invariant.0 in
     let w = world c.args.self.now told count in
-    counts_told c.args.text.now lawful.tree c.in_ok-count.count w (c.in_ok-count.ensures.selects lawful.tree w held lawful.stand)
+    let h = c.in_ok-counted.ensures.selects lawful.tree w held lawful.stand in
+    counts_told c.args.text.now lawful.tree c.count.result w (h.answer, h.selects, c.count.ensures.count ∙ h.count)

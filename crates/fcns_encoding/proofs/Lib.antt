@@ -24,3 +24,6 @@ pub mod FinishLemmas
 pub mod LeafLemmas
 pub mod LeafShapes
 pub mod LeafSteps
+pub mod PairSteps
+pub mod PairLemmas
+pub mod PairShapes

@@ -9,3 +9,4 @@ pub mod Marks
 pub mod Sharing
 pub mod Subterms
 pub mod Leaves
+pub mod Pairs

@@ -14,6 +14,7 @@ ghost use Rattle.fcns_encoding.specs.Subterms.{AreSubterms};
 
 use crate::kids::take_kids;
 use crate::leaf_rules::share_leaves;
+use crate::pair_rules::{Frequent, share_pairs};
 use crate::part::Part;
 use crate::shared_rules::rules_of_table;
 use crate::sharing::Sharing;
@@ -61,6 +62,13 @@ struct Unchecked {
 // How often a symbol must be a leaf for a rule of its own: a digram that stands less often becomes none.
 const LEAVES: u32 = 3;
 
+// How often a symbol and a call must be a pair for a rule of their own: settling begins with what is so frequent, and a symbol that
+// stands over other children too has digrams that are as frequent, which a rule for one of them would take apart.
+const PAIRS: Frequent = Frequent {
+    times: 1_024,
+    percent: 90,
+};
+
 impl Unchecked {
     // The same document with rules for leaves that stand often.
     fn with_leaves(self, alloc: Global) -> Result<Unchecked, AllocError>
@@ -72,6 +80,19 @@ impl Unchecked {
         ensures swept { IfOk result (λ f. IsSwept f.rules) }
     {
         let rules = share_leaves(alloc, self.rules, self.names.len(), LEAVES)?;
+        Ok(Unchecked { rules, ..self })
+    }
+
+    // The same document with rules for pairs that are frequent in the start rule.
+    fn with_pairs(self, alloc: Global) -> Result<Unchecked, AllocError>
+        requires grammar { IsGrammar self.rules }
+        requires swept { IsSwept self.rules }
+        ensures stand { IfOk result (λ f. (t : Tree) → StandsFor self.rules self.names self.texts.texts t → StandsFor f.rules f.names f.texts.texts t) }
+        ensures names { IfOk result (λ f. f.names ≡ self.names) }
+        ensures grammar { IfOk result (λ f. IsGrammar f.rules) }
+        ensures swept { IfOk result (λ f. IsSwept f.rules) }
+    {
+        let rules = share_pairs(alloc, self.rules, self.names.len(), PAIRS)?;
         Ok(Unchecked { rules, ..self })
     }
 
@@ -148,7 +169,10 @@ impl Folder {
         ensures swept { IfOk result (λ f. IsSwept (rules_of f.grammar.rules)) }
     {
         let alloc = self.alloc;
-        self.written(sharing)?.with_leaves(alloc)?.checked(alloc)
+        self.written(sharing)?
+            .with_leaves(alloc)?
+            .with_pairs(alloc)?
+            .checked(alloc)
     }
 
     // The rules with one for each subterm that `sharing` gives one. They are few where two uses are enough.

@@ -21,6 +21,7 @@ mod kids;
 mod laws;
 mod leaf_rules;
 mod marks;
+mod pair_rules;
 mod part;
 mod shared_rules;
 mod sharing;

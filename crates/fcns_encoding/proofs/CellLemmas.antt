@@ -1,5 +1,5 @@
 -- What numbers have in a table of subterms.
-use Rattle.std.proofs.Common.{◌&&◌, ◌||◌, if◌then◌else◌, ◌≡◌, ℕ, zero, suc, ◌+◌, ◌<◌, ◌≤◌, nat_eq, Bool, true, false, List, [], ◌∷◌, ◌++◌, length, take, get_or, Some, slice_get, slice_set, refl, ap, sym, ◌∙◌, subst, ◌⊎◌, inl, inr, arith, length-append}
+use Rattle.std.proofs.Common.{◌&&◌, ◌||◌, if◌then◌else◌, ◌≡◌, ℕ, zero, suc, ◌+◌, ◌<◌, ◌≤◌, nat_eq, Bool, true, false, List, [], ◌∷◌, ◌++◌, length, map, take, get_or, Some, slice_get, slice_set, refl, ap, sym, ◌∙◌, subst, ◌⊎◌, inl, inr, arith, length-append}
 use Rattle.std.proofs.lemmas.List.{take_more}
 use Rattle.std.proofs.lemmas.Bool.{eqb-true, eq-eqb}
 use Rattle.std.specs.List.{list_any}
@@ -38,6 +38,12 @@ pub got_within : {X : Type 0} (xs : List X) (i : ℕ) (x : X) → slice_get xs i
 got_within [] i x e = cc
 got_within (z ∷ zs) zero x e = omega arith
 got_within (z ∷ zs) (suc i) x e = omega (arith, got_within zs i x e)
+
+-- what a function makes of an item
+pub got_map : {X Y : Type 0} (f : X → Y) (xs : List X) (i : ℕ) (x : X) (d : Y) → slice_get xs i ≡ Some x → get_or (map f xs) i d ≡ f x
+got_map f [] i x d e = cc
+got_map f (z ∷ zs) zero x d e = let same : z ≡ x = cc in ap f same
+got_map f (z ∷ zs) (suc i) x d e = got_map f zs i x d e
 
 -- one item more
 pub take-more : {X : Type 0} (xs : List X) (i : ℕ) (x : X) → slice_get xs i ≡ Some x → take (i + 1) xs ≡ take i xs ++ x ∷ []

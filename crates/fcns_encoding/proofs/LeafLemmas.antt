@@ -11,15 +11,11 @@ use Rattle.slt_grammar.specs.Grammars.{rank_at, value}
 use Rattle.slt_grammar.specs.Terms.{Term, Leaf, term_algebra, holes}
 use Rattle.slt_grammar.specs.declared.rules.Rule.{Rule}
 use Rattle.fcns_encoding.specs.Leaves.{leaf_rule, leaf_before, symbol_before, joined, joined_rule, with_leaves, AreLeaves}
+use Rattle.fcns_encoding.proofs.CellLemmas.{got_map, got_within}
 
 -- what a leaf's rule means
 abbrev pub leaf_meaning : {S : Type 0} → Algebra S → ℕ → List S → S
 leaf_meaning A f args = A.node f A.bottom (get_or args 0 A.bottom)
-
-leaf-at : {S : Type 0} (A : Algebra S) (symbols : List ℕ) (i f : ℕ) → slice_get symbols i ≡ Some f → (args : List S) → get_or (map (leaf_meaning A) symbols) i (λ _. A.bottom) args ≡ leaf_meaning A f args
-leaf-at A [] i f e args = cc
-leaf-at A (g ∷ gs) zero f e args = let same : g ≡ f = cc in ap (λ h. leaf_meaning A h args) same
-leaf-at A (g ∷ gs) (suc i) f e args = leaf-at A gs i f e args
 
 leaves-mean : {S : Type 0} (A : Algebra S) (ranks : List ℕ) (before : List (List S → S)) (symbols : List ℕ) → rule_meanings A ranks before (map leaf_rule symbols) ≡ before ++ map (leaf_meaning A) symbols
 leaves-mean A ranks before [] = sym (append-nil before)
@@ -31,11 +27,6 @@ leaf-rank : (symbols : List ℕ) (i f : ℕ) → slice_get symbols i ≡ Some f 
 leaf-rank [] i f e = cc
 leaf-rank (g ∷ gs) zero f e = refl
 leaf-rank (g ∷ gs) (suc i) f e = leaf-rank gs i f e
-
-got-below : {X : Type 0} (xs : List X) (i : ℕ) (x : X) → slice_get xs i ≡ Some x → i < length xs
-got-below [] i x e = cc
-got-below (y ∷ ys) zero x e = omega arith
-got-below (y ∷ ys) (suc i) x e = omega (arith, got-below ys i x e)
 
 module _ (places : List (Option ℕ)) (symbols : List ℕ) (leaves : AreLeaves places symbols) where
   module _ {S : Type 0} (A : Algebra S) (ranks ranks' : List ℕ) (shifted : (q : ℕ) → get_or ranks' (length symbols + q) 0 ≡ get_or ranks q 0) (single : (i f : ℕ) → slice_get symbols i ≡ Some f → get_or ranks' i 0 ≡ 1) where
@@ -67,7 +58,7 @@ module _ (places : List (Option ℕ)) (symbols : List ℕ) (leaves : AreLeaves p
     rules-mean hs fs (R ∷ G) n own =
         let calls : (q : ℕ) → get_or (hs ++ fs) (length symbols + q) (λ _. A.bottom) ≡ get_or fs q (λ _. A.bottom) = λ q. ap (λ k. get_or (hs ++ fs) (k + q) (λ _. A.bottom)) (sym n) ∙ get_or-append-add hs fs q (λ _. A.bottom) in
         let front : (i f : ℕ) → slice_get symbols i ≡ Some f → (args : List S) → get_or (hs ++ fs) i (λ _. A.bottom) args ≡ leaf_meaning A f args =
-        λ i f e args. ap (λ (h : List S → S). h args) (get_or_append_left hs fs (λ _. A.bottom) i (omega (arith, n, got-below symbols i f e))) ∙ own i f e args in
+        λ i f e args. ap (λ (h : List S → S). h args) (get_or_append_left hs fs (λ _. A.bottom) i (omega (arith, n, got_within symbols i f e))) ∙ own i f e args in
         let m : meaning A ranks' (hs ++ fs) (joined places (length symbols) R.body) ≡ meaning A ranks fs R.body = fun_ext (λ args. ap (λ ms. get_or ms 0 A.bottom) (joined-means fs (hs ++ fs) calls front args R.body [])) in
         let more : rule_meanings A ranks' ((hs ++ fs) ++ meaning A ranks' (hs ++ fs) (joined places (length symbols) R.body) ∷ []) (map (joined_rule places (length symbols)) G) ≡ hs ++ rule_meanings A ranks (fs ++ meaning A ranks fs R.body ∷ []) G =
         rw (m, append_assoc hs fs (meaning A ranks fs R.body ∷ [])) (rules-mean hs (fs ++ meaning A ranks fs R.body ∷ []) G n own) in
@@ -89,7 +80,7 @@ module _ (places : List (Option ℕ)) (symbols : List ℕ) (leaves : AreLeaves p
 
   pub rank-front : (G : List Rule) (i f : ℕ) → slice_get symbols i ≡ Some f → get_or (ranks_of (with_leaves symbols places G)) i 0 ≡ 1
   rank-front G i f e =
-      ap (λ ns. get_or ns i 0) (ranks-with G) ∙ get_or_append_left (ranks_of (map leaf_rule symbols)) (ranks_of G) 0 i (omega (arith, length-leaves, got-below symbols i f e)) ∙ leaf-rank symbols i f e
+      ap (λ ns. get_or ns i 0) (ranks-with G) ∙ get_or_append_left (ranks_of (map leaf_rule symbols)) (ranks_of G) 0 i (omega (arith, length-leaves, got_within symbols i f e)) ∙ leaf-rank symbols i f e
 
   all-mean : {S : Type 0} (A : Algebra S) (G : List Rule) → all_meanings A (with_leaves symbols places G) ≡ map (leaf_meaning A) symbols ++ all_meanings A G
   all-mean {S} A G =
@@ -97,7 +88,7 @@ module _ (places : List (Option ℕ)) (symbols : List ℕ) (leaves : AreLeaves p
       let hs : List (List S → S) = map (leaf_meaning A) symbols in
       rule_meanings-append A ranks' [] (map leaf_rule symbols) (map (joined_rule places (length symbols)) G)
       ∙ ap (λ ms. rule_meanings A ranks' ms (map (joined_rule places (length symbols)) G)) (leaves-mean A ranks' [] symbols ∙ sym (append-nil hs))
-      ∙ rules-mean A (ranks_of G) ranks' (rank-behind G) (rank-front G) hs [] G (length-map symbols (leaf_meaning A)) (leaf-at A symbols)
+      ∙ rules-mean A (ranks_of G) ranks' (rank-behind G) (rank-front G) hs [] G (length-map symbols (leaf_meaning A)) (λ i f e args. ap (λ (h : List S → S). h args) (got_map (leaf_meaning A) symbols i f (λ _. A.bottom) e))
 
   pub length-with : (G : List Rule) → length (with_leaves symbols places G) ≡ length symbols + length G
   length-with G = omega (arith, length-append (map leaf_rule symbols) (map (joined_rule places (length symbols)) G), length-map symbols leaf_rule, length-map G (joined_rule places (length symbols)))

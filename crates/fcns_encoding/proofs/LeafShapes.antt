@@ -15,14 +15,8 @@ use Rattle.slt_grammar.specs.Bodies.{arity, params, CallsBelow, calls_in}
 use Rattle.slt_grammar.specs.Grammars.{IsGrammar, IsLawfulAt, IsSwept, body_at, calls_of, no_rule, value}
 use Rattle.slt_grammar.specs.declared.rules.Rule.{Rule}
 use Rattle.fcns_encoding.specs.Leaves.{leaf_rule, leaf_before, symbol_before, joined, joined_rule, with_leaves, HasLeaf, AreLeaves, AreLeafRules, AreSeen}
-use Rattle.fcns_encoding.proofs.CellLemmas.{got_within, has_get}
+use Rattle.fcns_encoding.proofs.CellLemmas.{got_map, got_within, has_get}
 use Rattle.fcns_encoding.proofs.LeafLemmas.{length-with, rank-behind, rank-front, same-value}
-
--- the rule of a leaf among those of its kind
-leaf-rule-at : (symbols : List ℕ) (i f : ℕ) → slice_get symbols i ≡ Some f → get_or (map leaf_rule symbols) i no_rule ≡ leaf_rule f
-leaf-rule-at [] i f e = cc
-leaf-rule-at (g ∷ gs) zero f e = let same : g ≡ f = cc in ap leaf_rule same
-leaf-rule-at (g ∷ gs) (suc i) f e = leaf-rule-at gs i f e
 
 module _ (places : List (Option ℕ)) (symbols : List ℕ) (leaves : AreLeaves places symbols) where
   module _ (ranks ranks' : List ℕ) (shifted : (q : ℕ) → get_or ranks' (length symbols + q) 0 ≡ get_or ranks q 0) (single : (i f : ℕ) → slice_get symbols i ≡ Some f → get_or ranks' i 0 ≡ 1) where
@@ -151,7 +145,7 @@ module _ (places : List (Option ℕ)) (symbols : List ℕ) (leaves : AreLeaves p
   -- rules by their places
   rule-front : (G : List Rule) (i f : ℕ) → slice_get symbols i ≡ Some f → get_or (with_leaves symbols places G) i no_rule ≡ leaf_rule f
   rule-front G i f e =
-      get_or_append_left (map leaf_rule symbols) (map (joined_rule places (length symbols)) G) no_rule i (omega (arith, length-map symbols leaf_rule, got_within symbols i f e)) ∙ leaf-rule-at symbols i f e
+      get_or_append_left (map leaf_rule symbols) (map (joined_rule places (length symbols)) G) no_rule i (omega (arith, length-map symbols leaf_rule, got_within symbols i f e)) ∙ got_map leaf_rule symbols i f no_rule e
 
   rule-behind : (G : List Rule) (q : ℕ) → get_or (with_leaves symbols places G) (length symbols + q) no_rule ≡ joined_rule places (length symbols) (get_or G q no_rule)
   rule-behind G q =

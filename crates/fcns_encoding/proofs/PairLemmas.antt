@@ -1,5 +1,5 @@
 -- Rules for pairs change no meaning.
-use Rattle.std.proofs.Common.{◌≡◌, ℕ, zero, suc, ◌+◌, ◌-◌, ◌<◌, List, [], ◌∷◌, ◌++◌, length, take, drop, get_or, map, slice_get, Option, Some, None, refl, ap, sym, ◌∙◌, subst, arith, length-append, append_assoc, append-nil, zero-add}
+use Rattle.std.proofs.Common.{◌≡◌, ℕ, suc, ◌+◌, ◌-◌, ◌<◌, List, [], ◌∷◌, ◌++◌, length, take, drop, get_or, map, slice_get, Option, Some, None, refl, ap, sym, ◌∙◌, subst, arith, length-append, append_assoc, append-nil, zero-add}
 use Rattle.std.proofs.Math.Path.{fun_ext}
 use Rattle.std.proofs.lemmas.List.{length-map, get_or_append_left, get_or-append-add, get_or_at}
 use Rattle.rule_arena.specs.declared.label.Label.{Label}
@@ -12,8 +12,8 @@ use Rattle.slt_grammar.specs.Grammars.{IsGrammar, body_at, no_rule, rank_at, val
 use Rattle.slt_grammar.specs.Terms.{Term, Leaf, term_algebra, holes}
 use Rattle.slt_grammar.specs.declared.rules.Rule.{Rule}
 use Rattle.fcns_encoding.specs.declared.pair_rules.Pair.{Pair}
-use Rattle.fcns_encoding.specs.Pairs.{pair_rule, place_of, pair_before, paired, paired_rule, with_pairs, IsFound, AreFound}
-use Rattle.fcns_encoding.proofs.CellLemmas.{get_is, got_within}
+use Rattle.fcns_encoding.specs.Pairs.{pair_rule, place_of, pair_before, paired, paired_rule, with_pairs, AreFound}
+use Rattle.fcns_encoding.proofs.CellLemmas.{get_is, got_map, got_within}
 use Rattle.fcns_encoding.proofs.PairSteps.{place-told}
 
 -- rules mean the same by other ranks of those that they do not call
@@ -28,12 +28,6 @@ rules-same A ranks ranks' place same fs (R ∷ Rs) calls =
 -- what a pair's rule means over the rules before it
 abbrev pub pair_meaning : {S : Type 0} → Algebra S → List (List S → S) → Pair → List S → S
 pair_meaning A fs p args = A.node p.symbol (get_or fs p.rule (λ _. A.bottom) []) (get_or args 0 A.bottom)
-
-pair-meaning-at : {S : Type 0} (A : Algebra S) (fs : List (List S → S)) (pairs : List Pair) (i : ℕ) (p : Pair) → slice_get pairs i ≡ Some p → (args : List S)
-    → get_or (map (pair_meaning A fs) pairs) i (λ _. A.bottom) args ≡ pair_meaning A fs p args
-pair-meaning-at A fs [] i p e args = cc
-pair-meaning-at A fs (q ∷ qs) zero p e args = let same : q ≡ p = cc in ap (λ x. pair_meaning A fs x args) same
-pair-meaning-at A fs (q ∷ qs) (suc i) p e args = pair-meaning-at A fs qs i p e args
 
 -- the rules of pairs mean a symbol over a call and what the rule is given
 module _ {S : Type 0} (A : Algebra S) (ranks : List ℕ) (fs : List (List S → S)) where
@@ -104,11 +98,6 @@ last-value F R =
     ∙ ap (λ k. get_or {A = List Term → Term} ms k (λ _. Leaf) (holes 0 R.rank)) (sym (zero-add (length F)))
     ∙ ap (λ (h : List Term → Term). h (holes 0 R.rank)) (rule_meanings-at term_algebra (ranks_of G) [] F R [])
 
-pub pair-rule-at : (pairs : List Pair) (i : ℕ) (p : Pair) → slice_get pairs i ≡ Some p → get_or (map pair_rule pairs) i no_rule ≡ pair_rule p
-pair-rule-at [] i p e = cc
-pair-rule-at (q ∷ qs) zero p e = let same : q ≡ p = cc in ap pair_rule same
-pair-rule-at (q ∷ qs) (suc i) p e = pair-rule-at qs i p e
-
 module _ (pairs : List Pair) (before : List Rule) (start : Rule) where
   pub length-front : length (before ++ map pair_rule pairs) ≡ length before + length pairs
   length-front = omega (arith, length-append before (map pair_rule pairs), length-map pairs pair_rule)
@@ -128,7 +117,7 @@ module _ (pairs : List Pair) (before : List Rule) (start : Rule) where
   pub rule-pair : (i : ℕ) (p : Pair) → slice_get pairs i ≡ Some p → get_or (with_pairs pairs before start) (length before + i) no_rule ≡ pair_rule p
   rule-pair i p e =
       get_or_append_left (before ++ map pair_rule pairs) (paired_rule pairs (length before) start ∷ []) no_rule (length before + i) (omega (arith, length-front, got_within pairs i p e))
-      ∙ get_or-append-add before (map pair_rule pairs) i no_rule ∙ pair-rule-at pairs i p e
+      ∙ get_or-append-add before (map pair_rule pairs) i no_rule ∙ got_map pair_rule pairs i p no_rule e
 
   pub rule-start : get_or (with_pairs pairs before start) (length before + length pairs) no_rule ≡ paired_rule pairs (length before) start
   rule-start = get_or_at (before ++ map pair_rule pairs) (paired_rule pairs (length before) start) [] no_rule (length before + length pairs) length-front
@@ -180,7 +169,7 @@ module _ (pairs : List Pair) (before : List Rule) (start : Rule) where
           λ q h. get_or_append_left before_meanings hs (λ _. A.bottom) q (omega (arith, h, length-before_meanings)) in
           let own : (i : ℕ) (p : Pair) → slice_get pairs i ≡ Some p → (args : List S) → get_or (before_meanings ++ hs) (length before + i) (λ _. A.bottom) args ≡ pair_meaning A before_meanings p args =
           λ i p e xs. ap (λ k. get_or (before_meanings ++ hs) (k + i) (λ _. A.bottom) xs) (sym length-before_meanings)
-          ∙ ap (λ (h : List S → S). h xs) (get_or-append-add before_meanings hs i (λ _. A.bottom)) ∙ pair-meaning-at A before_meanings pairs i p e xs in
+          ∙ ap (λ (h : List S → S). h xs) (get_or-append-add before_meanings hs i (λ _. A.bottom)) ∙ ap (λ (h : List S → S). h xs) (got_map (pair_meaning A before_meanings) pairs i p (λ _. A.bottom) e) in
           ap (λ ms. meaning A ranks' ms (paired pairs (length before) start.body) args) front-means
           ∙ ap (λ xs. get_or xs 0 A.bottom)
           (paired-means pairs (length before) A (ranks_of (before ++ start ∷ [])) ranks' before_meanings (before_meanings ++ hs) rank-before calls rank-pair rule-plain own args start.body [] start-calls)

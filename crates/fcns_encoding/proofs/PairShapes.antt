@@ -1,6 +1,6 @@
 -- The rules with those of pairs are a swept grammar.
-use Rattle.std.proofs.Common.{◌≡◌, ℕ, zero, suc, ◌+◌, ◌-◌, ◌<◌, ◌≤◌, true, false, List, [], ◌∷◌, ◌++◌, length, get_or, map, slice_get, Option, Some, None, refl, ap, sym, ◌∙◌, subst, ◌⊎◌, inl, inr, arith}
-use Rattle.std.specs.Prelude.{Bool, if◌then◌else◌, eqb}
+use Rattle.std.proofs.Common.{◌≡◌, ℕ, zero, suc, ◌+◌, ◌-◌, ◌<◌, ◌≤◌, List, [], ◌∷◌, ◌++◌, length, get_or, map, slice_get, Option, Some, None, refl, ap, sym, ◌∙◌, subst, ◌⊎◌, inl, inr, arith}
+use Rattle.std.specs.Prelude.{Bool, if◌then◌else◌}
 use Rattle.std.proofs.lemmas.Bool.{cases_lt, eq-eqb}
 use Rattle.std.proofs.lemmas.Bool.Decides.{eqb_tells}
 use Rattle.std.proofs.lemmas.List.{get_or_at, length-map}
@@ -14,10 +14,10 @@ use Rattle.slt_grammar.specs.Grammars.{IsGrammar, IsLawfulAt, IsSwept, body_at, 
 use Rattle.slt_grammar.specs.declared.rules.Rule.{Rule}
 use Rattle.fcns_encoding.specs.declared.pair_rules.Pair.{Pair}
 use Rattle.fcns_encoding.specs.Pairs.{pair_rule, place_of, pair_before, paired, paired_rule, with_pairs, AreFound, AreApart}
-use Rattle.fcns_encoding.proofs.CellLemmas.{got_within, has_get}
+use Rattle.fcns_encoding.proofs.CellLemmas.{got_map, got_within, has_get}
 use Rattle.fcns_encoding.proofs.LeafShapes.{Shares}
 use Rattle.fcns_encoding.proofs.PairSteps.{place-told}
-use Rattle.fcns_encoding.proofs.PairLemmas.{length-before, length-with_pairs, pair-rule-at, rank-before, rank-pair, rule-before, rule-low, rule-pair, rule-plain, rule-start, same-value, start-calls}
+use Rattle.fcns_encoding.proofs.PairLemmas.{length-before, length-with_pairs, rank-before, rank-pair, rule-before, rule-low, rule-pair, rule-plain, rule-start, same-value, start-calls}
 
 -- a label more takes no call away
 call-keeps : (r q : ℕ) (ls : List Label) → calls_in r ls ≤ calls_in r (Call q ∷ ls)
@@ -263,7 +263,7 @@ module _ (pairs : List Pair) (before : List Rule) (start : Rule) (g : IsGrammar 
       omega (
         arith,
         one,
-        ap (λ (R : Rule). calls_in r R.body) (pair-rule-at pairs i p e),
+        ap (λ (R : Rule). calls_in r R.body) (got_map pair_rule pairs i p no_rule e),
         get_or-le-sum_by (λ (R : Rule). calls_in r R.body) (map pair_rule pairs) i no_rule (omega (arith, got_within pairs i p e, length-map pairs pair_rule)),
       )
 

@@ -1,6 +1,6 @@
 -- Pairs by their places, and bodies that are written label by label.
-use Rattle.std.proofs.Common.{rules, nat_lt, ◌≡◌, ℕ, zero, suc, ◌+◌, ◌<◌, ◌≤◌, Bool, true, false, cond, List, [], ◌∷◌, ◌++◌, length, take, drop, get_or, slice_get, slice_index_or, Option, Some, None, refl, ap, sym, ◌∙◌, subst, ◌⊎◌, inl, inr, arith, append_assoc}
-use Rattle.std.specs.List.{IsDistinct, AllByRecursion, position, position_or_len}
+use Rattle.std.proofs.Common.{rules, nat_lt, ◌≡◌, ℕ, zero, suc, ◌+◌, ◌<◌, Bool, true, false, cond, List, [], ◌∷◌, length, drop, get_or, slice_get, Some, None, refl, ap, sym, ◌∙◌, subst, ◌⊎◌, inl, inr, arith}
+use Rattle.std.specs.List.{IsDistinct, AllByRecursion, position_or_len}
 use Rattle.std.specs.Map.Calls.{RetainsPairs}
 use Rattle.std.specs.Map.{keys_of}
 use Rattle.indexmap.specs.IndexMap.{insert_entry}
@@ -11,7 +11,7 @@ use Rattle.rule_arena.specs.declared.label.Label.TheVariants.{Bottom, Symbol, Ca
 use Rattle.fcns_encoding.specs.declared.pair_rules.Pair.{Pair}
 use Rattle.fcns_encoding.specs.contracts.pair_rules.PairPartialEq.TheImpl.{eq-value}
 use Rattle.fcns_encoding.specs.Pairs.{place_of, pair_before, paired, StandsAt, AreApart}
-use Rattle.fcns_encoding.proofs.CellLemmas.{end_get, get_is, got_within, has_get}
+use Rattle.fcns_encoding.proofs.CellLemmas.{get_is, got_within, has_get}
 
 pub same-pair : (p q : Pair) → eq-value.it p q ≡ true → p ≡ q
 same-pair p q e = search rules

@@ -62,16 +62,16 @@ struct Unchecked {
 // How often a symbol must be a leaf for a rule of its own: a digram that stands less often becomes none.
 const LEAVES: u32 = 3;
 
-// How often a symbol and a call must be a pair for a rule of their own: settling begins with what is so frequent, and a symbol that
-// stands over other children too has digrams that are as frequent, which a rule for one of them would take apart.
+// How often a symbol must stand over a call in the start rule for a rule of both. Settling begins with what is so frequent, and makes such
+// a rule where no other digram of the symbol stands more often: that is sure where most of its places have this call.
 const PAIRS: Frequent = Frequent {
     times: 1_024,
     percent: 90,
 };
 
 impl Unchecked {
-    // The same document with rules for leaves that stand often.
-    fn with_leaves(self, alloc: Global) -> Result<Unchecked, AllocError>
+    // The same document with rules for leaves that stand often, and for pairs that are frequent in the start rule.
+    fn with_frequent(self, alloc: Global) -> Result<Unchecked, AllocError>
         requires grammar { IsGrammar self.rules }
         requires swept { IsSwept self.rules }
         ensures stand { IfOk result (λ f. (t : Tree) → StandsFor self.rules self.names self.texts.texts t → StandsFor f.rules f.names f.texts.texts t) }
@@ -79,20 +79,8 @@ impl Unchecked {
         ensures grammar { IfOk result (λ f. IsGrammar f.rules) }
         ensures swept { IfOk result (λ f. IsSwept f.rules) }
     {
-        let rules = share_leaves(alloc, self.rules, self.names.len(), LEAVES)?;
-        Ok(Unchecked { rules, ..self })
-    }
-
-    // The same document with rules for pairs that are frequent in the start rule.
-    fn with_pairs(self, alloc: Global) -> Result<Unchecked, AllocError>
-        requires grammar { IsGrammar self.rules }
-        requires swept { IsSwept self.rules }
-        ensures stand { IfOk result (λ f. (t : Tree) → StandsFor self.rules self.names self.texts.texts t → StandsFor f.rules f.names f.texts.texts t) }
-        ensures names { IfOk result (λ f. f.names ≡ self.names) }
-        ensures grammar { IfOk result (λ f. IsGrammar f.rules) }
-        ensures swept { IfOk result (λ f. IsSwept f.rules) }
-    {
-        let rules = share_pairs(alloc, self.rules, self.names.len(), PAIRS)?;
+        let leaves = share_leaves(alloc, self.rules, self.names.len(), LEAVES)?;
+        let rules = share_pairs(alloc, leaves, self.names.len(), PAIRS)?;
         Ok(Unchecked { rules, ..self })
     }
 
@@ -157,9 +145,10 @@ impl Folder {
         self.written(Sharing::of_uses(2))?.checked(alloc)
     }
 
-    /// The same, but a subterm has a rule only where `sharing` says so, and else is written out where it is used; and a symbol that
-    /// stands over a bottom three times or more has a rule together with it. With fewer rules more of the document is written out:
-    /// settling has more to do, and finds digrams that reach into what would be rules. It is refused only for want of memory.
+    /// The same, but a subterm has a rule only where `sharing` says so, and else is written out where it is used; a symbol that stands
+    /// over a bottom three times or more has a rule together with it, and so has a symbol with a call that is frequent in the start rule.
+    /// With fewer rules more of the document is written out: settling has more to do, and finds digrams that reach into what would be
+    /// rules. It is refused only for want of memory.
     pub fn finish_with(self, sharing: Sharing) -> Result<Folded, AllocError>
         requires sound { self.sound ≡ true }
         requires depth { self.depth ≡ 0 }
@@ -169,10 +158,7 @@ impl Folder {
         ensures swept { IfOk result (λ f. IsSwept (rules_of f.grammar.rules)) }
     {
         let alloc = self.alloc;
-        self.written(sharing)?
-            .with_leaves(alloc)?
-            .with_pairs(alloc)?
-            .checked(alloc)
+        self.written(sharing)?.with_frequent(alloc)?.checked(alloc)
     }
 
     // The rules with one for each subterm that `sharing` gives one. They are few where two uses are enough.

@@ -11,8 +11,8 @@
 //! order of their first nodes. `finish` makes a `Folded`: `marks` finds the subterms that get a rule, which are those that are used
 //! twice or more, and `shared_rules` writes the rules, and everything else where it is used. The grammar stands for the document, is
 //! swept, and is at most three times as large as the code has different subterms. For `finish_with` a `Sharing` says how many uses
-//! make a rule, and how many where it is large, and `leaf_rules` adds rules for symbols that are leaves; its grammar stands for the
-//! document and is swept too.
+//! make a rule, and how many where it is large, `leaf_rules` adds rules for symbols that are leaves, and `pair_rules` for symbols whose
+//! first child is mostly one call; its grammar stands for the document and is swept too.
 #![tactic(auto)]
 
 mod coding;

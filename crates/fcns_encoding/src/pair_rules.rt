@@ -1,7 +1,6 @@
 // Rules for pairs of a symbol and a call that is its first child, where the start rule has many of them.
 ghost use Rattle.std.specs.Prelude.{◌≡◌, ◌+◌, ◌*◌, ◌^◌, ◌<◌, ◌≤◌, ◌↔◌, ◌∷◌, ◌++◌, ◌⊎◌, ℕ, length, drop, map, slice_get, Some, None, IsTrue, IfOk, IfSome, IfNone};
 ghost use Rattle.indexmap.specs.IndexMap.{keys};
-ghost use Rattle.slt_grammar.specs.Bodies.{CallsBelow};
 ghost use Rattle.slt_grammar.specs.Grammars.{IsGrammar, IsSwept, rank_at, value};
 ghost use Rattle.fcns_encoding.specs.declared.pair_rules.Pair.{Pair};
 ghost use Rattle.fcns_encoding.specs.Pairs.{pair_rule, place_of, paired, with_pairs, StandsAt, AreFound, AreApart};
@@ -19,7 +18,7 @@ pub(crate) struct Frequent {
 
 impl Frequent {
     // Whether so many of the symbol's places are enough.
-    fn is(self, times: u32, places: u32) -> bool
+    fn admits(self, times: u32, places: u32) -> bool
         ensures { IsTrue result ↔ ((self.times ≤ times) × (places * self.percent ≤ times * 100)) }
     {
         times >= self.times && places as u64 * self.percent as u64 <= times as u64 * 100
@@ -34,8 +33,8 @@ struct Pair {
 }
 
 /// The same grammar with a rule for each pair of a symbol below a number and a rule without parameters that is frequent in the start
-/// rule: there both are one call. Most digrams that settling begins with are such pairs, and most places of them are the start's; here
-/// each costs a glance. The new rules stand right before the start, so that no other call changes.
+/// rule: there both are one call. Settling would begin with such digrams, and fold each of their places; here each costs a glance. The
+/// new rules stand right before the start, so that no call changes its number.
 pub(crate) fn share_pairs(
     alloc: Global,
     rules: RuleList,
@@ -72,19 +71,21 @@ fn frequent_pairs(
 {
     let mut places = vec![in alloc; 0; symbols]?;
     count_symbols(labels, places.as_mut_slice());
-    let mut pairs = counted_pairs(alloc, rules, labels)?;
     let places = places.as_slice();
-    pairs.retain(|pair: &Pair, times: &mut u32| frequent.is(*times, places_of(places, pair.symbol)));
+    let mut pairs = counted_pairs(alloc, rules, labels, places, frequent.times)?;
+    pairs.retain(|pair: &Pair, times: &mut u32| {
+        frequent.admits(*times, places_of(places, pair.symbol))
+    });
     Ok(pairs)
 }
 
 // Counts each symbol, as far as there are counts.
 fn count_symbols(labels: &[Label], counts: &mut [u32]) {
     for label in labels {
-        if let Label::Symbol(symbol) = *label {
-            if symbol < counts.len() {
-                counts[symbol] = counts[symbol].saturating_add(1);
-            }
+        if let Label::Symbol(symbol) = *label
+            && symbol < counts.len()
+        {
+            counts[symbol] = counts[symbol].saturating_add(1);
         }
     }
 }
@@ -94,20 +95,24 @@ fn places_of(places: &[u32], symbol: usize) -> u32 {
     places.get(symbol).copied().unwrap_or(u32::MAX)
 }
 
-// How often each pair of a rule without parameters stands among the labels.
+// How often each pair of a rule without parameters stands among the labels, where its symbol has so many places: most symbols have
+// fewer, and their pairs are not hashed.
 fn counted_pairs(
     alloc: Global,
     rules: &[Rule],
     labels: &[Label],
+    places: &[u32],
+    times: u32,
 ) -> Result<IndexMap<Pair, u32>, AllocError>
     ensures { IfOk result (λ pairs. AreFound rules.now labels.now (keys pairs)) }
 {
     let mut pairs = IndexMap::new(alloc);
     for at in 0..labels.len() {
-        if let Some(pair) = pair_at(labels, at) {
-            if is_plain(rules, pair.rule) {
-                count(&mut pairs, pair)?;
-            }
+        if let Some(pair) = pair_at(labels, at)
+            && places_of(places, pair.symbol) >= times
+            && is_plain(rules, pair.rule)
+        {
+            count(&mut pairs, pair)?;
         }
     }
     Ok(pairs)
@@ -161,14 +166,14 @@ fn pair_rules(
     ensures { IfOk result (λ G. G ≡ with_pairs (keys pairs.now) before.now start.now) }
 {
     let copies = copied_rules(alloc, before)?;
-    let mut rules = with_rules_of(alloc, copies, pairs.keys().as_slice())?;
+    let mut rules = with_pair_rules(alloc, copies, pairs.keys().as_slice())?;
     let body = paired_body(alloc, start.body.as_slice(), pairs, before.len())?;
     rules.push(start.rank, body)?;
     Ok(rules)
 }
 
 // The rules, and behind them those of the pairs.
-fn with_rules_of(alloc: Global, rules: RuleList, pairs: &[Pair]) -> Result<RuleList, AllocError>
+fn with_pair_rules(alloc: Global, rules: RuleList, pairs: &[Pair]) -> Result<RuleList, AllocError>
     ensures { IfOk result (λ G. G ≡ rules ++ map pair_rule pairs.now) }
 {
     let mut all = rules;

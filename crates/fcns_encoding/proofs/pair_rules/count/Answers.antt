@@ -1,4 +1,4 @@
-use Rattle.std.proofs.Common.{inl, inr, sym, ap, ◌∙◌, Some, slice_get}
+use Rattle.std.proofs.Common.{inl, sym, ap, ◌∙◌, slice_get}
 use Rattle.indexmap.proofs.CallerLemmas.{keys-with_value_at}
 use Rattle.fcns_encoding.proofs.PairSteps.{key-inserted}
 use Rattle.fcns_encoding.proofs.pair_rules.count.Goals as goal

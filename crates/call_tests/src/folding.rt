@@ -21,14 +21,14 @@ fn add_row(folder: &mut Folder) -> Result<(), AllocError>
     folder.close()
 }
 
-// A hundred rows under an element.
-fn rows(alloc: Global) -> Result<Folder, AllocError>
+// So many rows under an element.
+fn rows(alloc: Global, count: u32) -> Result<Folder, AllocError>
     ensures sound { IfOk result (λ f. f.sound ≡ true) }
     ensures depth { IfOk result (λ f. f.depth ≡ 0) }
 {
     let mut folder = Folder::new(alloc);
     folder.open(Kind::Element, b"r")?;
-    for _ in 0..100 {
+    for _ in 0..count {
         add_row(&mut folder)?;
     }
     folder.close()?;
@@ -37,11 +37,11 @@ fn rows(alloc: Global) -> Result<Folder, AllocError>
 
 #[test]
 fn equal_subterms_are_kept_once(rt: HostRuntime) -> Result<(), Fail> {
-    let folded = rows(rt.alloc())?.finish()?;
+    let folded = rows(rt.alloc(), 100)?.finish()?;
     assert_eq!(rt; folded.names.len(), 5);
     assert_eq!(rt; folded.grammar.rules(), 2);
     assert_eq!(rt; folded.grammar.size(), 210);
-    let written = rows(rt.alloc())?.finish_with(Sharing::of_uses(200))?;
+    let written = rows(rt.alloc(), 100)?.finish_with(Sharing::of_uses(200))?;
     assert_eq!(rt; written.names.len(), 5);
     // Of 605 labels each row has two leaves, which are calls of two rules.
     assert_eq!(rt; written.grammar.rules(), 3);
@@ -52,18 +52,30 @@ fn equal_subterms_are_kept_once(rt: HostRuntime) -> Result<(), Fail> {
 // What the rows share is used a hundred times, and its rule has five labels. Where it has none, its two leaves have rules.
 #[test]
 fn large_rules_need_fewer_uses(rt: HostRuntime) -> Result<(), Fail> {
-    let large = rows(rt.alloc())?.finish_with(Sharing {
+    let large = rows(rt.alloc(), 100)?.finish_with(Sharing {
         uses: 101,
         large_uses: 100,
         large: 5,
     })?;
     assert_eq!(rt; large.grammar.rules(), 2);
-    let small = rows(rt.alloc())?.finish_with(Sharing {
+    let small = rows(rt.alloc(), 100)?.finish_with(Sharing {
         uses: 101,
         large_uses: 100,
         large: 6,
     })?;
     assert_eq!(rt; small.grammar.rules(), 3);
+    Ok(())
+}
+
+// What the rows share has a rule, and a row with its call has one where there are enough rows.
+#[test]
+fn frequent_pairs_have_rules(rt: HostRuntime) -> Result<(), Fail> {
+    let few = rows(rt.alloc(), 1_023)?.finish_with(Sharing::of_uses(1_000))?;
+    assert_eq!(rt; few.grammar.rules(), 2);
+    assert_eq!(rt; few.grammar.size(), 2_056);
+    let enough = rows(rt.alloc(), 1_024)?.finish_with(Sharing::of_uses(1_000))?;
+    assert_eq!(rt; enough.grammar.rules(), 3);
+    assert_eq!(rt; enough.grammar.size(), 1_036);
     Ok(())
 }
 

@@ -1,5 +1,5 @@
 // Rules for pairs of a symbol and a call that is its first child, where the start rule has many of them.
-ghost use Rattle.std.specs.Prelude.{◌≡◌, ◌+◌, ◌*◌, ◌^◌, ◌<◌, ◌≤◌, ◌↔◌, ◌∷◌, ◌++◌, ◌⊎◌, ℕ, length, drop, map, slice_get, Some, None, IsTrue, IfOk, IfSome, IfNone};
+ghost use Rattle.std.specs.Prelude.{◌≡◌, ◌+◌, ◌-◌, ◌*◌, ◌^◌, ◌<◌, ◌≤◌, ◌↔◌, ◌∷◌, ◌++◌, ◌⊎◌, ℕ, length, drop, get_or, map, slice_get, Some, None, IsTrue, IfOk, IfSome, IfNone};
 ghost use Rattle.indexmap.specs.IndexMap.{keys};
 ghost use Rattle.slt_grammar.specs.Grammars.{IsGrammar, IsSwept, rank_at, value};
 ghost use Rattle.fcns_encoding.specs.declared.pair_rules.Pair.{Pair};
@@ -91,7 +91,9 @@ fn count_symbols(labels: &[Label], counts: &mut [u32]) {
 }
 
 // How many places a symbol has, and the most where it was not counted.
-fn places_of(places: &[u32], symbol: usize) -> u32 {
+fn places_of(places: &[u32], symbol: usize) -> u32
+    ensures { result ≡ get_or places.now symbol (2 ^ 32 - 1) }
+{
     places.get(symbol).copied().unwrap_or(u32::MAX)
 }
 
@@ -135,7 +137,7 @@ fn pair_at(labels: &[Label], at: usize) -> Option<Pair>
 
 // Whether a rule has no parameters.
 fn is_plain(rules: &[Rule], rule: usize) -> bool
-    ensures { IsTrue result → rank_at rules.now rule ≡ 0 }
+    ensures { IsTrue result ↔ ((rule < length rules.now) × (rank_at rules.now rule ≡ 0)) }
 {
     match rules.get(rule) {
         Some(rule) => rule.rank == 0,

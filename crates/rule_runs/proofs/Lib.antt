@@ -20,6 +20,8 @@ pub mod Places
 pub mod Layering
 pub mod Marks
 pub mod NoteLemmas
+mod Noting
+mod Keeping
 pub mod KeptNotes
 pub mod Descents
 pub mod Resting

@@ -1,5 +1,5 @@
 -- Laws of lists and numbers.
-use Rattle.std.proofs.Common.{◌≡◌, ◌≢◌, ℕ, zero, suc, ◌+◌, ◌*◌, ◌^◌, ◌<◌, ◌≤◌, List, [], ◌∷◌, ◌++◌, length, take, drop, reverse, sum_by, map, All, Some, None, Option, ◌⊎◌, inl, inr, slice_get, get_or, refl, sym, ap, ◌∙◌, arith, AllPairs}
+use Rattle.std.proofs.Common.{◌≡◌, ◌≢◌, ℕ, zero, suc, ◌+◌, ◌*◌, ◌^◌, ◌<◌, ◌≤◌, List, [], ◌∷◌, ◌++◌, length, take, drop, reverse, sum_by, map, All, Some, None, Option, IfNone, ◌⊎◌, inl, inr, slice_get, get_or, refl, sym, ap, ◌∙◌, arith, AllPairs}
 use Rattle.std.proofs.lemmas.List.Elements.{All-append, All-cons, All-head, All-nil, All-tail, All-weaker}
 use Rattle.std.proofs.lemmas.Bool.{cases_lt}
 use Rattle.std.proofs.lemmas.List.{reverse-append, take-append-drop, length-reverse, length-drop}
@@ -119,6 +119,10 @@ all-get P xs i x h e = let r = slice_get-at xs i x x e in rw r.1 at (h i x r.0)
 pub no_more : {X : Type 0} (o : Option X) → ((x : X) → o ≡ Some x → ⊥) → o ≡ None
 no_more None h = refl
 no_more (Some x) h = absurd (h x refl)
+
+pub none-then : {X : Type 0} (r : Option X) (P Q : Type 0) → IfNone r P → (P → Q) → IfNone r Q
+none-then None P Q h f = f h
+none-then (Some x) P Q h f = tt
 
 pub one_item : {X : Type 0} (xs : List X) (d : X) → length xs ≡ 1 → xs ≡ get_or xs 0 d ∷ []
 one_item [] d e = absurd (omega arith)

@@ -1,5 +1,5 @@
 -- Bodies that a run is in the middle of.
-use Rattle.std.specs.Prelude.{◌≡◌, ℕ, ◌+◌, ◌-◌, ◌*◌, ◌^◌, ◌<◌, ◌≤◌, List, [], ◌∷◌, ◌++◌, length, take, drop, map, reverse, Some, slice_get, ◌⊎◌, All}
+use Rattle.std.specs.Prelude.{◌≡◌, ℕ, suc, ◌+◌, ◌-◌, ◌*◌, ◌^◌, ◌<◌, ◌≤◌, List, [], ◌∷◌, ◌++◌, length, get_or, take, drop, map, reverse, Some, slice_get, ◌⊎◌, All}
 use Rattle.rule_arena.specs.declared.label.Label.{Label}
 use Rattle.rule_arena.specs.declared.label.Label.TheVariants.{Call}
 use Rattle.slt_grammar.specs.Bodies.{params}
@@ -9,7 +9,9 @@ use Rattle.rule_runs.specs.Reached.{RuleStates, states_from, argument_states}
 use Rattle.slt_grammar.specs.declared.rules.Rule.{Rule}
 use Rattle.rule_runs.specs.declared.memo.Pair.{Pair}
 use Rattle.rule_runs.specs.declared.frame.Frame.{Frame}
+use Rattle.rule_runs.specs.declared.notes.Note.{Note}
 use Rattle.rule_runs.specs.Entries.{key_of}
+use Rattle.rule_runs.specs.Notes.{AreNotesFrom}
 use Rattle.rule_runs.specs.Risen.{IsPair, state_at, keys, IsKnown, AreKnown}
 
 -- items on top of others, the topmost first
@@ -79,6 +81,17 @@ module _ {S : Type 0} (A : Algebra S) (G : List Rule) where
     pub now : AreKnown A G known (key_of f.pair) f.left
     pub outer : AreAwaiting known (key_of f.pair) gs
     pub all : All (λ k. AreKnown A G known k 0) (keys known)
+
+  -- a body stands before a call of this pair, and behind the call it is noted, the first node on top
+  pub record IsNotedTo (ks : List (RuleStates S)) (f : Frame S) (k : RuleStates S) (notes : List (Note S)) : Type 0 where
+    pub call : slice_get (body_at G f.pair.rule) f.left ≡ Some (Call k.0)
+    pub states : k.1 ≡ argument_states A G k.0 f.pair.states.items (body_at G f.pair.rule) f.left
+    pub noted : AreNotesFrom A G ks (suc f.left) f.pair.states.items (body_at G f.pair.rule) notes
+
+  -- each outer body is noted up to the call that it waits for
+  abbrev pub AreNoting : List (RuleStates S) → RuleStates S → List (Frame S) → List (List (Note S)) → Type 0
+  AreNoting ks k [] below = Unit {0}
+  AreNoting ks k (g ∷ gs) below = IsNotedTo ks g k (get_or below 0 []) × AreNoting ks (key_of g.pair) gs (drop 1 below)
 
   -- a call of this pair stands in the body of that one
   pub record Calls (k q : RuleStates S) : Type 0 where

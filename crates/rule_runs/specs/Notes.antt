@@ -3,9 +3,10 @@ use Rattle.std.specs.Prelude.{◌≡◌, ◌≤◌, ℕ, ◌+◌, List, [], ◌�
 use Rattle.rule_arena.specs.declared.label.Label.{Label}
 use Rattle.rule_arena.specs.declared.label.Label.TheVariants.{Bottom, Symbol, Call, Param}
 use Rattle.slt_grammar.specs.Algebras.{Algebra, ranks_of}
+use Rattle.slt_grammar.specs.Bodies.{params}
 use Rattle.slt_grammar.specs.Grammars.{body_at}
 use Rattle.rule_runs.specs.Reached.{RuleStates, states_of}
-use Rattle.rule_runs.specs.Risen.{pair_at}
+use Rattle.rule_runs.specs.Risen.{IsRun, Risen, keys as keys_in, pair_at}
 use Rattle.slt_grammar.specs.declared.rules.Rule.{Rule}
 use Rattle.rule_runs.specs.declared.kept.Span.{Span}
 use Rattle.rule_runs.specs.declared.notes.Note.{Note}
@@ -27,10 +28,31 @@ module _ {S : Type 0} (A : Algebra S) (G : List Rule) (keys : List (RuleStates S
   AreNotes args (Param ∷ ls) (n ∷ ns) = (n ≡ NoteParam) × AreNotes (drop 1 args) ls ns
   AreNotes args (l ∷ ls) (n ∷ ns) = NoteIs l (states_of A G args ls) n × AreNotes args ls ns
 
-  -- what is kept for each pair of the table: nothing yet, or the notes of its body, the last node first
+  -- the notes of a body from a place on
+  abbrev pub AreNotesFrom : ℕ → List S → List Label → List (Note S) → Type 0
+  AreNotesFrom place args body ns = AreNotes (drop (params (take place body)) args) (drop place body) ns
+
+  -- what is kept for the first pairs of the table: nothing yet, or the notes of the body, the last node first
+  pub record AreNoted (kept : List (Option (List (Note S)))) : Type 0 where
+    pub within : length kept ≤ length keys
+    pub noted : (i : ℕ) (notes : List (Note S)) → slice_get kept i ≡ Some (Some notes) → AreNotes (pair_at keys i).1 (body_at G (pair_at keys i).0) (reverse notes)
+
+  -- the same for each pair
   pub record AreKept (kept : List (Option (List (Note S)))) : Type 0 where
     pub rows : length kept ≡ length keys
     pub noted : (i : ℕ) (notes : List (Note S)) → slice_get kept i ≡ Some (Some notes) → AreNotes (pair_at keys i).1 (body_at G (pair_at keys i).0) (reverse notes)
+
+-- what a run upward has found: the table of a run, and notes of its bodies
+pub record IsRisen {S : Type 0} (A : Algebra S) (G : List Rule) (t : Risen S) : Type 0 where
+  pub run : IsRun A G t.known
+  pub noted : AreNoted A G (keys_in t.known) t.kept
+
+-- what either list keeps, the first one where both do
+abbrev pub either : {X : Type 0} → List (Option X) → List (Option X) → List (Option X)
+either [] ys = ys
+either (x ∷ xs) [] = x ∷ xs
+either (Some x ∷ xs) (y ∷ ys) = Some x ∷ either xs ys
+either (None ∷ xs) (y ∷ ys) = y ∷ either xs ys
 
 -- the body of a pair is kept
 abbrev pub HasBody : {S : Type 0} → List (Option (List (Note S))) → ℕ → Type 0

@@ -1,10 +1,11 @@
 -- What a run upward has found.
-use Rattle.std.specs.Prelude.{◌≡◌, ◌≢◌, ℕ, ◌-◌, ◌<◌, ◌≤◌, List, [], ◌∷◌, ◌++◌, length, get_or, map, slice_get, Some, All, AllPairs}
+use Rattle.std.specs.Prelude.{◌≡◌, ◌≢◌, ℕ, ◌-◌, ◌<◌, ◌≤◌, List, [], ◌∷◌, ◌++◌, length, get_or, map, slice_get, Option, Some, All, AllPairs}
 use Rattle.rule_arena.specs.declared.label.Label.TheVariants.{Call}
 use Rattle.slt_grammar.specs.Algebras.{Algebra, all_meanings}
 use Rattle.slt_grammar.specs.Grammars.{rank_at, body_at}
 use Rattle.rule_runs.specs.Reached.{RuleStates, Uses, argument_states}
 use Rattle.slt_grammar.specs.declared.rules.Rule.{Rule}
+use Rattle.rule_runs.specs.declared.notes.Note.{Note}
 
 -- a rule with a state for each of its arguments
 pub record IsPair {S : Type 0} (G : List Rule) (k : RuleStates S) : Type 0 where
@@ -40,7 +41,8 @@ pub record IsRun {S : Type 0} (A : Algebra S) (G : List Rule) (known : List (Rul
   pub closed : All (λ k. AreKnown A G known k 0) (keys known)
   pub start : (before : List (RuleStates S)) × (keys known ≡ before ++ (length G - 1, []) ∷ [])
 
--- the table of a run upward
+-- the table of a run upward, and the bodies that it noted, by the places of their pairs
 pub record Risen (S : Type 0) : Type 0 where
   pub known : List (RuleStates S × S)
   pub top : S
+  pub kept : List (Option (List (Note S)))

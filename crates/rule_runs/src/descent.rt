@@ -12,7 +12,7 @@ ghost use Rattle.rule_runs.specs.Tellings.{Listed, Extends, HasRoom, IsTelling, 
 ghost use Rattle.rule_runs.specs.Walks.{Open, woven_marks};
 ghost use Rattle.rule_runs.specs.Descents.{AreOpen, HasRoomAhead, IsNext, HasOutcome, Standing, Asks, tolds, downs_handed};
 
-use crate::kept::{Bodies, read};
+use crate::kept::{Reading, read};
 use crate::layers::Layers;
 use crate::listing::HitLists;
 use crate::notes::Note;
@@ -47,7 +47,7 @@ pub(crate) fn begin<A: Falling, L: Ledger>(
     automaton: &A,
     grammar: &Grammar,
     risen: &RiseTable<A>,
-    bodies: &mut Bodies<A::State>,
+    bodies: &mut Reading<'_, A::State>,
     marks: &mut Layers<Mark<A::Down>>,
     spot: Spot<A::Down>,
     steps: &mut Steps<L>,

@@ -9,10 +9,11 @@ ghost use Rattle.slt_grammar.specs.Keyed.{rules_of};
 ghost use Rattle.rule_runs.specs.Answering.{HasFallen};
 ghost use Rattle.rule_runs.specs.Hits.{numbers, symbols_in};
 ghost use Rattle.rule_runs.specs.Reached.{RuleStates, FallsOnce};
+ghost use Rattle.rule_runs.specs.Notes.{AreNoted, IsRisen};
 ghost use Rattle.rule_runs.specs.Risen.{IsRun, keys};
 
 use crate::descent::{begin, descend, enter_call};
-use crate::kept::Bodies;
+use crate::kept::Reading;
 use crate::layers::Layers;
 use crate::listing::HitLists;
 use crate::rising::RiseTable;
@@ -67,7 +68,7 @@ pub fn fall<A: Falling, L: Ledger>(
     listed: bool,
     steps: &mut Steps<L>,
 ) -> Result<FallTable, AllocError>
-    requires run { IsRun (A.algebra automaton.now) (rules_of grammar.now.rules) risen.now.known }
+    requires run { IsRisen (A.algebra automaton.now) (rules_of grammar.now.rules) risen.now }
     requires small { nodes_in (value (rules_of grammar.now.rules)) < 2 ^ 63 }
     requires spent { IfSome spent (λ s. IsSpent (A.downward automaton.now) s.now.down) }
     requires counts { IfSome spent (λ s. (names : List (Kind × List ℕ)) × AreCounts names (rules_of grammar.now.rules) s.now.counts.now) }
@@ -97,6 +98,7 @@ fn run_down<A: Falling, L: Ledger>(
     steps: &mut Steps<L>,
 ) -> Result<(HitLists, Told), AllocError>
     requires run { IsRun (A.algebra automaton.now) (rules_of grammar.now.rules) risen.now.known }
+    requires noted { AreNoted (A.algebra automaton.now) (rules_of grammar.now.rules) (keys risen.now.known) risen.now.kept }
     requires small { nodes_in (value (rules_of grammar.now.rules)) < 2 ^ 63 }
     requires spent { IfSome spent (λ s. IsSpent (A.downward automaton.now) s.now.down) }
     requires counts { IfSome spent (λ s. (names : List (Kind × List ℕ)) × AreCounts names (rules_of grammar.now.rules) s.now.counts.now) }
@@ -109,7 +111,7 @@ fn run_down<A: Falling, L: Ledger>(
     // The call tells that the rules are a grammar.
     let _rules = grammar.rules();
     let pairs = risen.known.len();
-    let mut bodies = Bodies::new(alloc, pairs)?;
+    let mut bodies = Reading::new(alloc, &risen.bodies, pairs)?;
     let mut known = Spots::with_room(alloc, pairs)?;
     let mut lists = HitLists::new(alloc, kept);
     let mut frames = Vec::new(alloc);

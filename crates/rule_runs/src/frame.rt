@@ -1,17 +1,19 @@
 // Rule bodies that a run upward evaluates, label by label from their end.
-ghost use Rattle.std.specs.Prelude.{◌≡◌, ◌≢◌, ◌+◌, ◌++◌, ◌*◌, ◌<◌, ◌≤◌, ℕ, [], ◌∷◌, length, take, drop, reverse, vec_len, IfOk, IfSome, IfNone, All};
+ghost use Rattle.std.specs.Prelude.{◌≡◌, ◌≢◌, ◌+◌, ◌++◌, ◌*◌, ◌<◌, ◌≤◌, ℕ, [], ◌∷◌, length, take, drop, reverse, vec_len, IfOk, OnOk, All};
 ghost use Rattle.slt_grammar.specs.Algebras.{Algebra, apply, all_meanings, ranks_of};
 ghost use Rattle.slt_grammar.specs.Bodies.{arity};
 ghost use Rattle.slt_grammar.specs.Grammars.{body_at, rank_at};
 ghost use Rattle.slt_grammar.specs.Keyed.{rules_of};
 ghost use Rattle.rule_runs.specs.Entries.{key_of};
-ghost use Rattle.rule_runs.specs.Risen.{IsPair, IsKnown, AreKnown, state_at};
-ghost use Rattle.rule_runs.specs.Frames.{Stands, Asks, Waits, AreKnownBut, own, ahead, IsTopmost, GivesWay};
+ghost use Rattle.rule_runs.specs.Risen.{IsPair, AreKnown, state_at, keys};
+ghost use Rattle.rule_runs.specs.Notes.{AreNotes, AreNotesFrom};
+ghost use Rattle.rule_runs.specs.Frames.{Stands, Waits, AreKnownBut, IsNotedTo, own, ahead, IsTopmost, GivesWay};
 
 use crate::body::append_body;
-use crate::calls::{Called, take_call};
+use crate::layers::Layers;
 use crate::memo::{Memo, Pair};
-use crate::stack::{copy_at, pop_two};
+use crate::notes::{Note, Noted, note_label};
+use crate::stack::copy_at;
 use read_steps::Steps;
 use slt_grammar::{Grammar, Label, Rising, RunState};
 use std::alloc::{AllocError, Global};
@@ -71,13 +73,18 @@ pub(crate) fn advance<A: Rising>(
     frame: &mut Frame<A::State>,
     labels: &mut Vec<Label>,
     stack: &mut Vec<A::State>,
+    notes: &mut Layers<Note<A::State>>,
 ) -> Result<Next<A::State>, AllocError>
     requires right { All (λ e. e.1 ≡ state_at (A.algebra automaton.now) (rules_of grammar.now.rules) e.0) known.now }
     requires stands { Stands (A.algebra automaton.now) (rules_of grammar.now.rules) frame.old }
     requires states { IsTopmost (own (A.algebra automaton.now) (rules_of grammar.now.rules) frame.old) (reverse stack.old.items) }
     requires labels { IsTopmost (ahead (rules_of grammar.now.rules) frame.old) (reverse labels.old.items) }
     requires closed { AreKnown (A.algebra automaton.now) (rules_of grammar.now.rules) known.now (key_of frame.old.pair) frame.old.left }
+    requires noted { AreNotesFrom (A.algebra automaton.now) (rules_of grammar.now.rules) (keys known.now) frame.old.left frame.old.pair.states.items (body_at (rules_of grammar.now.rules) frame.old.pair.rule) notes.old.top }
     ensures same { frame.new.pair ≡ frame.old.pair }
+    ensures noted { IfOk result (λ next. (state : A.State) → next ≡ Next.Done state → AreNotes (A.algebra automaton.now) (rules_of grammar.now.rules) (keys known.now) frame.old.pair.states.items (body_at (rules_of grammar.now.rules) frame.old.pair.rule) notes.new.top) }
+    ensures behind { IfOk result (λ next. (pair : Pair A.State) → next ≡ Next.Waits pair → IsNotedTo (A.algebra automaton.now) (rules_of grammar.now.rules) (keys known.now) frame.new (key_of pair) notes.new.top) }
+    ensures below { OnOk result (notes.new.below ≡ notes.old.below) }
     ensures closed { IfOk result (λ next. (state : A.State) → next ≡ Next.Done state → AreKnown (A.algebra automaton.now) (rules_of grammar.now.rules) known.now (key_of frame.old.pair) 0) }
     ensures awaiting { IfOk result (λ next. (pair : Pair A.State) → next ≡ Next.Waits pair → AreKnownBut (A.algebra automaton.now) (rules_of grammar.now.rules) known.now (key_of frame.new.pair) frame.new.left (key_of pair)) }
     ensures done { IfOk result (λ next. (state : A.State) → next ≡ Next.Done state → state ≡ state_at (A.algebra automaton.now) (rules_of grammar.now.rules) (key_of frame.old.pair)) }
@@ -98,50 +105,16 @@ pub(crate) fn advance<A: Rising>(
         if let Label::Param = label {
             frame.waiting -= 1;
             stack.push(copy_at(&frame.pair.states, frame.waiting)?)?;
-        } else if let Some(pair) = label_state(alloc, automaton, grammar, known, label, stack)? {
-            return Ok(Next::Waits(pair));
+            notes.push(Note::Param)?;
+        } else {
+            match note_label(alloc, automaton, grammar, known, label, stack)? {
+                Noted::Known(note) => notes.push(note)?,
+                Noted::Unknown(pair) => return Ok(Next::Waits(pair)),
+            }
         }
     }
     match stack.pop() {
         Some(state) => Ok(Next::Done(state)),
         None => unreachable!(),
-    }
-}
-
-// Puts the state of a node that is no parameter in the place of its children's states; or answers the pair whose state is not known.
-fn label_state<A: Rising>(
-    alloc: Global,
-    automaton: &A,
-    grammar: &Grammar,
-    known: &Memo<A::State>,
-    label: Label,
-    stack: &mut Vec<A::State>,
-) -> Result<Option<Pair<A::State>>, AllocError>
-    requires right { All (λ e. e.1 ≡ state_at (A.algebra automaton.now) (rules_of grammar.now.rules) e.0) known.now }
-    requires there { (q : ℕ) → label ≡ Label.Call q → q < length grammar.now.rules }
-    requires enough { arity (ranks_of (rules_of grammar.now.rules)) label ≤ vec_len stack.old }
-    requires real { label ≢ Label.Param }
-    ensures done { IfOk result (λ asked. IfNone asked (reverse stack.new.items ≡ apply (A.algebra automaton.now) (all_meanings (A.algebra automaton.now) (rules_of grammar.now.rules)) label (take (arity (ranks_of (rules_of grammar.now.rules)) label) (reverse stack.old.items)) ∷ drop (arity (ranks_of (rules_of grammar.now.rules)) label) (reverse stack.old.items))) }
-    ensures asked { IfOk result (λ asked. IfSome asked (λ pair. Asks (rules_of grammar.now.rules) label (reverse stack.old.items) pair (reverse stack.new.items))) }
-    ensures new { IfOk result (λ asked. IfSome asked (λ pair. All (λ e. e.0 ≢ key_of pair) known.now)) }
-    ensures found { IfOk result (λ asked. IfNone asked ((q : ℕ) → label ≡ Label.Call q → IsKnown known.now (q, take (rank_at (rules_of grammar.now.rules) q) (reverse stack.old.items)))) }
-{
-    match label {
-        Label::Symbol(symbol) => {
-            let (kids, rest) = pop_two(stack);
-            stack.push(automaton.node(symbol, &kids, &rest)?)?;
-            Ok(None)
-        }
-        Label::Call(rule) => match take_call(alloc, grammar, known, rule, stack)? {
-            Called::Known(_, state) => {
-                stack.push(state)?;
-                Ok(None)
-            }
-            Called::Unknown(pair) => Ok(Some(pair)),
-        },
-        _ => {
-            stack.push(automaton.bottom()?)?;
-            Ok(None)
-        }
     }
 }

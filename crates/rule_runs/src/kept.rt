@@ -1,14 +1,17 @@
-// The bodies that a run downward reads, as their notes: each is read once, and the notes of all stand in one list.
-ghost use Rattle.std.specs.Prelude.{◌≡◌, ◌+◌, ◌*◌, ◌<◌, ◌≤◌, ℕ, List, Some, length, slice_get, IfOk, IfSome, IfNone, OnOk};
+// The bodies of pairs that a run downward reads, as their notes: each is noted once, and the notes of all stand in one list.
+ghost use Rattle.std.specs.Prelude.{◌≡◌, ◌+◌, ◌*◌, ◌<◌, ◌≤◌, ◌++◌, ◌∷◌, [], ℕ, List, Some, None, length, replicate, reverse, set, slice_get, IfOk, IfSome, IfNone, OnOk, OnErr, All};
 ghost use Rattle.slt_grammar.specs.Algebras.{Algebra};
 ghost use Rattle.slt_grammar.specs.Grammars.{body_at};
 ghost use Rattle.slt_grammar.specs.Keyed.{rules_of};
 ghost use Rattle.slt_grammar.specs.declared.rules.Rule.{Rule};
-ghost use Rattle.rule_runs.specs.Notes.{AreKept, HasBody, unread};
+ghost use Rattle.rule_runs.specs.Entries.{key_of};
+ghost use Rattle.rule_runs.specs.Notes.{AreKept, AreNoted, AreNotes, HasBody, unread};
 ghost use Rattle.rule_runs.specs.Reached.{RuleStates};
-ghost use Rattle.rule_runs.specs.Risen.{IsRun, keys, pair_at};
+ghost use Rattle.rule_runs.specs.Risen.{AreKnown, IsPair, IsRun, keys, pair_at, state_at};
 
 use crate::body::append_body;
+use crate::layers::Layers;
+use crate::memo::{Memo, Pair};
 use crate::notes::{Note, note_labels};
 use crate::rising::RiseTable;
 use read_steps::Steps;
@@ -24,16 +27,13 @@ pub(crate) struct Span {
     end: usize,
 }
 
-// For each pair of the table of a run upward the notes of its body, the last node first, once it was read. It is seen as the list of
-// these.
+// For each pair of the table of a run upward the notes of its body, the last node first, where they are kept. It is seen as the list
+// of these.
 #[derive(Drop)]
 pub(crate) struct Bodies<S: Drop> {
-    // The notes of all bodies in the order in which they were read, so that a body takes no memory of its own.
+    // The notes of all bodies in the order in which they were noted, so that a body takes no memory of its own.
     notes: Vec<Note<S>>,
     spans: Vec<Option<Span>>,
-    // What reading a body needs, kept for the next one.
-    labels: Vec<Label>,
-    states: Vec<S>,
 }
 
 impl<S: Drop> Model for Bodies<S> {
@@ -49,9 +49,19 @@ impl<S: Drop> Model for Bodies<S> {
 }
 
 impl<S: Drop> Bodies<S> {
-    // Bodies of which none was read.
-    pub(crate) fn new(alloc: Global, pairs: usize) -> Result<Bodies<S>, AllocError>
-        ensures kept { (A : Algebra S) (G : List Rule) (ks : List (RuleStates S)) → length ks ≡ pairs → IfOk result (λ bodies. AreKept A G ks bodies) }
+    // The bodies of no pairs.
+    pub(crate) fn new(alloc: Global) -> Bodies<S>
+        ensures { result ≡ [] }
+    {
+        Bodies {
+            notes: Vec::new(alloc),
+            spans: Vec::new(alloc),
+        }
+    }
+
+    // The bodies of so many pairs, of which none is noted.
+    fn unnoted(alloc: Global, pairs: usize) -> Result<Bodies<S>, AllocError>
+        ensures { IfOk result (λ bodies. bodies ≡ replicate pairs None) }
     {
         let mut spans = Vec::with_capacity(alloc, pairs)?;
         'pairs: for _i in 0..pairs {
@@ -60,13 +70,11 @@ impl<S: Drop> Bodies<S> {
         Ok(Bodies {
             notes: Vec::new(alloc),
             spans,
-            labels: Vec::new(alloc),
-            states: Vec::new(alloc),
         })
     }
 
-    // The notes of a pair's body, if it was read.
-    pub(crate) fn notes(&self, pair: usize) -> Option<&[Note<S>]>
+    // The notes of a pair's body, if it was noted.
+    fn notes(&self, pair: usize) -> Option<&[Note<S>]>
         ensures some { IfSome result (λ notes. slice_get self.now pair ≡ Some (Some notes.now)) }
         ensures none { IfNone result (HasBody self.now pair → ⊥) }
     {
@@ -75,6 +83,112 @@ impl<S: Drop> Bodies<S> {
             _ => None,
         }
     }
+
+    // Keeps the topmost notes as those of the next pair.
+    pub(crate) fn keep(&mut self, notes: &mut Layers<Note<S>>) -> Result<(), AllocError>
+        ensures kept { OnOk result (self.new ≡ self.old ++ Some (reverse notes.old.top) ∷ []) }
+        ensures top { OnOk result (notes.new.top ≡ []) }
+        ensures below { OnOk result (notes.new.below ≡ notes.old.below) }
+    {
+        let begin = self.notes.len();
+        notes.empty_into(&mut self.notes)?;
+        self.spans.push(Some(Span {
+            begin,
+            end: self.notes.len(),
+        }))?;
+        Ok(())
+    }
+}
+
+// What a run downward reads: the bodies that the run upward noted, and its own. It is seen as the list of both.
+#[derive(Drop)]
+pub(crate) struct Reading<'a, S: Drop> {
+    // Those of no more pairs than its own.
+    noted: &'a Bodies<S>,
+    own: Bodies<S>,
+    // What reading a body needs, kept for the next one.
+    labels: Vec<Label>,
+    states: Vec<S>,
+}
+
+impl<'a, S: Drop> Model for Reading<'a, S> {
+    ghost use Rattle.std.specs.Prelude.{◌≤◌, List, Option, length};
+    ghost use Rattle.rule_runs.specs.declared.notes.Note.{Note};
+    ghost use Rattle.rule_runs.specs.Notes.{either};
+
+    ghost Value = { List (Option (List (Note S))) };
+
+    ghost view = { λ r. either r.noted.now r.own };
+
+    ghost invariant = { λ r. length r.noted.now ≤ length r.own };
+}
+
+impl<'a, S: Drop> Reading<'a, S> {
+    // Begins with what the run upward noted.
+    pub(crate) fn new(
+        alloc: Global,
+        noted: &'a Bodies<S>,
+        pairs: usize,
+    ) -> Result<Reading<'a, S>, AllocError>
+        requires { length noted.now ≤ pairs }
+        ensures kept { (A : Algebra S) (G : List Rule) (ks : List (RuleStates S)) → length ks ≡ pairs → AreNoted A G ks noted.now → IfOk result (λ reading. AreKept A G ks reading) }
+    {
+        Ok(Reading {
+            noted,
+            own: Bodies::unnoted(alloc, pairs)?,
+            labels: Vec::new(alloc),
+            states: Vec::new(alloc),
+        })
+    }
+
+    // The notes of a pair's body, if it was noted or read.
+    pub(crate) fn notes(&self, pair: usize) -> Option<&[Note<S>]>
+        ensures some { IfSome result (λ notes. slice_get self.now pair ≡ Some (Some notes.now)) }
+        ensures none { IfNone result (HasBody self.now pair → ⊥) }
+    {
+        match self.noted.notes(pair) {
+            Some(notes) => Some(notes),
+            None => self.own.notes(pair),
+        }
+    }
+}
+
+// Notes the body of a pair, of which these are the labels.
+fn note_body<A: Rising>(
+    alloc: Global,
+    automaton: &A,
+    grammar: &Grammar,
+    known: &Memo<A::State>,
+    met: &Pair<A::State>,
+    labels: &Vec<Label>,
+    states: &mut Vec<A::State>,
+    bodies: &mut Bodies<A::State>,
+    pair: usize,
+) -> Result<(), AllocError>
+    requires right { All (λ e. e.1 ≡ state_at (A.algebra automaton.now) (rules_of grammar.now.rules) e.0) known.now }
+    requires met { IsPair (rules_of grammar.now.rules) (key_of met.now) }
+    requires closed { AreKnown (A.algebra automaton.now) (rules_of grammar.now.rules) known.now (key_of met.now) 0 }
+    requires labels { labels.now.items ≡ body_at (rules_of grammar.now.rules) met.now.rule }
+    requires there { pair < length bodies.old }
+    ensures noted { OnOk result ((notes : List (Note A.State)) × (bodies.new ≡ set bodies.old pair (Some notes)) × AreNotes (A.algebra automaton.now) (rules_of grammar.now.rules) (keys known.now) met.now.states.items labels.now.items (reverse notes)) }
+    ensures stays { OnErr result (bodies.new ≡ bodies.old) }
+{
+    let begin = bodies.notes.len();
+    note_labels(
+        alloc,
+        automaton,
+        grammar,
+        known,
+        met,
+        labels,
+        states,
+        &mut bodies.notes,
+    )?;
+    bodies.spans[pair] = Some(Span {
+        begin,
+        end: bodies.notes.len(),
+    });
+    Ok(())
 }
 
 // Reads the body of a pair if it wasn't read yet, with at most two steps for each of its nodes. It answers how many those are.
@@ -83,7 +197,7 @@ pub(crate) fn read<A: Rising, L: Ledger>(
     automaton: &A,
     grammar: &Grammar,
     risen: &RiseTable<A>,
-    bodies: &mut Bodies<A::State>,
+    bodies: &mut Reading<'_, A::State>,
     pair: usize,
     steps: &mut Steps<L>,
 ) -> Result<usize, AllocError>
@@ -109,8 +223,7 @@ pub(crate) fn read<A: Rising, L: Ledger>(
     };
     bodies.labels.clear();
     append_body(grammar, met.rule, &mut bodies.labels, steps)?;
-    let begin = bodies.notes.len();
-    note_labels(
+    note_body(
         alloc,
         automaton,
         grammar,
@@ -118,11 +231,8 @@ pub(crate) fn read<A: Rising, L: Ledger>(
         met,
         &bodies.labels,
         &mut bodies.states,
-        &mut bodies.notes,
+        &mut bodies.own,
+        pair,
     )?;
-    bodies.spans[pair] = Some(Span {
-        begin,
-        end: bodies.notes.len(),
-    });
     Ok(bodies.labels.len())
 }

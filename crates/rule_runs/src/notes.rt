@@ -1,10 +1,11 @@
 // A body as a run downward reads it: its nodes with the states from below that each of them asks for.
-ghost use Rattle.std.specs.Prelude.{◌≡◌, ◌≢◌, ◌+◌, ◌*◌, ◌<◌, ◌≤◌, ◌∷◌, ◌++◌, ℕ, List, Some, length, slice_get, take, drop, reverse, vec_len, IfOk, IfSome, OnOk, All};
+ghost use Rattle.std.specs.Prelude.{◌≡◌, ◌≢◌, ◌+◌, ◌*◌, ◌<◌, ◌≤◌, ◌∷◌, ◌++◌, ℕ, List, Some, length, slice_get, take, drop, reverse, vec_len, IfOk, OnOk, All};
 ghost use Rattle.slt_grammar.specs.Algebras.{apply, all_meanings, ranks_of};
 ghost use Rattle.slt_grammar.specs.Bodies.{arity};
 ghost use Rattle.slt_grammar.specs.Grammars.{body_at, rank_at};
 ghost use Rattle.slt_grammar.specs.Keyed.{rules_of};
 ghost use Rattle.rule_runs.specs.Entries.{key_of};
+ghost use Rattle.rule_runs.specs.Frames.{Asks};
 ghost use Rattle.rule_runs.specs.Risen.{IsPair, IsKnown, AreKnown, state_at, keys};
 ghost use Rattle.rule_runs.specs.Notes.{NoteIs, AreNotes};
 
@@ -23,40 +24,48 @@ pub(crate) enum Note<S: Drop> {
     Call(usize),
 }
 
-// Puts the state of a node that is no parameter in the place of its children's states, and notes the node.
-fn note_label<A: Rising>(
+// What there is of a label: its note, or the pair of a call whose state is not known.
+#[derive(Drop)]
+pub(crate) enum Noted<S: Drop> {
+    Known(Note<S>),
+    Unknown(Pair<S>),
+}
+
+// Puts the state of a node that is no parameter in the place of its children's states, and notes the node; or answers the pair whose
+// state is not known.
+pub(crate) fn note_label<A: Rising>(
     alloc: Global,
     automaton: &A,
     grammar: &Grammar,
     known: &Memo<A::State>,
     label: Label,
     stack: &mut Vec<A::State>,
-) -> Result<Note<A::State>, AllocError>
+) -> Result<Noted<A::State>, AllocError>
     requires right { All (λ e. e.1 ≡ state_at (A.algebra automaton.now) (rules_of grammar.now.rules) e.0) known.now }
     requires there { (q : ℕ) → label ≡ Label.Call q → q < length grammar.now.rules }
     requires enough { arity (ranks_of (rules_of grammar.now.rules)) label ≤ vec_len stack.old }
     requires real { label ≢ Label.Param }
-    requires called { (q : ℕ) → label ≡ Label.Call q → IsKnown known.now (q, take (rank_at (rules_of grammar.now.rules) q) (reverse stack.old.items)) }
-    ensures state { IfOk result (λ note. reverse stack.new.items ≡ apply (A.algebra automaton.now) (all_meanings (A.algebra automaton.now) (rules_of grammar.now.rules)) label (take (arity (ranks_of (rules_of grammar.now.rules)) label) (reverse stack.old.items)) ∷ drop (arity (ranks_of (rules_of grammar.now.rules)) label) (reverse stack.old.items)) }
-    ensures note { IfOk result (λ note. NoteIs (A.algebra automaton.now) (rules_of grammar.now.rules) (keys known.now) label (reverse stack.old.items) note) }
+    ensures state { IfOk result (λ noted. (note : Note A.State) → noted ≡ Noted.Known note → reverse stack.new.items ≡ apply (A.algebra automaton.now) (all_meanings (A.algebra automaton.now) (rules_of grammar.now.rules)) label (take (arity (ranks_of (rules_of grammar.now.rules)) label) (reverse stack.old.items)) ∷ drop (arity (ranks_of (rules_of grammar.now.rules)) label) (reverse stack.old.items)) }
+    ensures note { IfOk result (λ noted. (note : Note A.State) → noted ≡ Noted.Known note → NoteIs (A.algebra automaton.now) (rules_of grammar.now.rules) (keys known.now) label (reverse stack.old.items) note) }
+    ensures asks { IfOk result (λ noted. (pair : Pair A.State) → noted ≡ Noted.Unknown pair → Asks (rules_of grammar.now.rules) label (reverse stack.old.items) pair (reverse stack.new.items)) }
+    ensures new { IfOk result (λ noted. (pair : Pair A.State) → noted ≡ Noted.Unknown pair → All (λ e. e.0 ≢ key_of pair) known.now) }
 {
     match label {
         Label::Symbol(symbol) => {
             let (kids, rest) = pop_two(stack);
             stack.push(automaton.node(symbol, &kids, &rest)?)?;
-            Ok(Note::Symbol(symbol, kids, rest))
+            Ok(Noted::Known(Note::Symbol(symbol, kids, rest)))
         }
         Label::Call(rule) => match take_call(alloc, grammar, known, rule, stack)? {
             Called::Known(place, state) => {
                 stack.push(state)?;
-                Ok(Note::Call(place))
+                Ok(Noted::Known(Note::Call(place)))
             }
-            // The table knows each call.
-            Called::Unknown(_) => unreachable!(),
+            Called::Unknown(pair) => Ok(Noted::Unknown(pair)),
         },
         _ => {
             stack.push(automaton.bottom()?)?;
-            Ok(Note::Bottom)
+            Ok(Noted::Known(Note::Bottom))
         }
     }
 }
@@ -92,7 +101,11 @@ pub(crate) fn note_labels<A: Rising>(
             stack.push(copy_at(&pair.states, waiting)?)?;
             notes.push(Note::Param)?;
         } else {
-            notes.push(note_label(alloc, automaton, grammar, known, label, stack)?)?;
+            match note_label(alloc, automaton, grammar, known, label, stack)? {
+                Noted::Known(note) => notes.push(note)?,
+                // The table knows each call.
+                Noted::Unknown(_) => unreachable!(),
+            }
         }
     }
     Ok(())

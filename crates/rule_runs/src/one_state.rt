@@ -4,8 +4,10 @@ ghost use Rattle.slt_grammar.specs.Grammars.{IsSwept, body_at, value, whole};
 ghost use Rattle.slt_grammar.specs.Keyed.{rules_of};
 ghost use Rattle.slt_grammar.specs.OneState.{HasOneState};
 ghost use Rattle.slt_grammar.specs.Terms.{up};
-ghost use Rattle.rule_runs.specs.Risen.{IsRun, keys};
+ghost use Rattle.rule_runs.specs.Notes.{IsRisen};
+ghost use Rattle.rule_runs.specs.Risen.{keys};
 
+use crate::kept::Bodies;
 use crate::memo::{Memo, Pair};
 use crate::rising::RiseTable;
 use slt_grammar::{Grammar, Rising};
@@ -24,7 +26,7 @@ pub fn rise_in_one_state<A: Rising>(
     requires one { HasOneState (A.algebra automaton.now) }
     requires swept { IsSwept (rules_of grammar.now.rules) }
     ensures top { IfOk result (λ table. table.top ≡ up (A.algebra automaton.now) (value (rules_of grammar.now.rules)) []) }
-    ensures run { IfOk result (λ table. IsRun (A.algebra automaton.now) (rules_of grammar.now.rules) table.known) }
+    ensures run { IfOk result (λ table. IsRisen (A.algebra automaton.now) (rules_of grammar.now.rules) table) }
     ensures nodes { IfOk result (λ table. sum_by (λ k. length (body_at (rules_of grammar.now.rules) k.0)) (keys table.known) ≡ whole (rules_of grammar.now.rules)) }
 {
     let rules = grammar.rules();
@@ -35,6 +37,7 @@ pub fn rise_in_one_state<A: Rising>(
     }
     Ok(RiseTable {
         known,
+        bodies: Bodies::new(alloc),
         top: automaton.bottom()?,
     })
 }
@@ -47,7 +50,7 @@ fn bottoms<A: Rising>(
 ) -> Result<Vec<A::State>, AllocError>
     ensures { IfOk result (λ states. states.items ≡ replicate count (A.algebra automaton.now).bottom) }
 {
-    let mut states = Vec::new(alloc);
+    let mut states = Vec::with_capacity(alloc, count)?;
     'states: for _i in 0..count {
         states.push(automaton.bottom()?)?;
     }

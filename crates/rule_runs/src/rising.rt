@@ -4,10 +4,13 @@ ghost use Rattle.slt_grammar.specs.Grammars.{value};
 ghost use Rattle.slt_grammar.specs.Keyed.{rules_of};
 ghost use Rattle.slt_grammar.specs.Terms.{up};
 ghost use Rattle.rule_runs.specs.Reached.{RuleStates, ReadsOnce};
-ghost use Rattle.rule_runs.specs.Risen.{IsRun};
+ghost use Rattle.rule_runs.specs.Notes.{IsRisen};
 
 use crate::frame::{Next, advance, begin};
+use crate::kept::Bodies;
+use crate::layers::Layers;
 use crate::memo::{Memo, Pair};
+use crate::notes::Note;
 use read_steps::Steps;
 use slt_grammar::{Grammar, Rising, RunState};
 use std::alloc::{AllocError, Global};
@@ -20,6 +23,8 @@ use std::sync::ledger::Ledger;
 pub struct RiseTable<A: Rising> {
     pub(crate) known: Memo<A::State>,
     pub(crate) top: A::State,
+    // The notes of the pairs' bodies, of each or of none.
+    pub(crate) bodies: Bodies<A::State>,
 }
 
 impl<A: Rising> Model for RiseTable<A> {
@@ -27,7 +32,7 @@ impl<A: Rising> Model for RiseTable<A> {
 
     ghost Value = { Risen A.State };
 
-    ghost view = { λ t. record { known = t.known; top = t.top } };
+    ghost view = { λ t. record { known = t.known; top = t.top; kept = t.bodies } };
 }
 
 impl<A: Rising> RiseTable<A> {
@@ -50,16 +55,19 @@ pub fn rise<A: Rising, L: Ledger>(
     steps: &mut Steps<L>,
 ) -> Result<RiseTable<A>, AllocError>
     ensures top { IfOk result (λ table. table.top ≡ up (A.algebra automaton.now) (value (rules_of grammar.now.rules)) []) }
-    ensures run { IfOk result (λ table. IsRun (A.algebra automaton.now) (rules_of grammar.now.rules) table.known) }
+    ensures run { IfOk result (λ table. IsRisen (A.algebra automaton.now) (rules_of grammar.now.rules) table) }
     ensures steps { (pairs : List (RuleStates A.State)) × ReadsOnce (A.algebra automaton.now) (rules_of grammar.now.rules) pairs (steps.new - steps.old) }
     ensures counted { steps.old ≤ steps.new }
 {
-    let mut known = Memo::new(alloc);
+    let rules = grammar.rules();
+    let mut known = Memo::with_room(alloc, rules)?;
+    let mut bodies = Bodies::new(alloc);
     let mut frames = Vec::new(alloc);
     let mut labels = Vec::new(alloc);
     let mut stack = Vec::new(alloc);
+    let mut notes = Layers::new(alloc);
     let start = Pair {
-        rule: grammar.rules() - 1,
+        rule: rules - 1,
         states: Vec::new(alloc),
     };
     let mut frame = begin(grammar, start, &mut labels, steps)?;
@@ -72,24 +80,31 @@ pub fn rise<A: Rising, L: Ledger>(
             &mut frame,
             &mut labels,
             &mut stack,
+            &mut notes,
         )? {
             Next::Waits(pair) => {
                 frames.push(frame)?;
+                notes.open()?;
                 frame = begin(grammar, pair, &mut labels, steps)?;
             }
-            Next::Done(state) => match frames.pop() {
-                None => {
-                    let top = state.copy()?;
-                    known.note(frame.pair, state)?;
-                    return Ok(RiseTable { known, top });
+            Next::Done(state) => {
+                bodies.keep(&mut notes)?;
+                match frames.pop() {
+                    None => {
+                        let top = state.copy()?;
+                        known.note(frame.pair, state)?;
+                        return Ok(RiseTable { known, top, bodies });
+                    }
+                    Some(below) => {
+                        stack.push(state.copy()?)?;
+                        notes.close();
+                        notes.push(Note::Call(known.len()))?;
+                        let done = frame;
+                        frame = below;
+                        known.note(done.pair, state)?;
+                    }
                 }
-                Some(below) => {
-                    let done = frame;
-                    frame = below;
-                    stack.push(state.copy()?)?;
-                    known.note(done.pair, state)?;
-                }
-            },
+            }
         }
     }
 }

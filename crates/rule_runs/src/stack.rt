@@ -33,7 +33,7 @@ fn pop_many<S: Drop>(alloc: Global, stack: &mut Vec<S>, count: usize) -> Result<
     ensures taken { IfOk result (λ taken. taken.items ++ reverse stack.new.items ≡ reverse stack.old.items) }
     ensures count { IfOk result (λ taken. vec_len taken ≡ count) }
 {
-    let mut taken = Vec::new(alloc);
+    let mut taken = Vec::with_capacity(alloc, count)?;
     for _i in 0..count {
         let Some(state) = stack.pop() else {
             unreachable!()

@@ -6,6 +6,12 @@ use Rattle.rule_runs.specs.Hits.{numbers, symbols_in}
 use Rattle.rule_runs.proofs.Answering.{fallen-count, fallen-listed, fallen-answered, listed-where}
 use Rattle.rule_runs.proofs.falling.fall.Goals as goal
 
+pub run_down-requires-clause-run : goal.run_down-requires-clause-run
+run_down-requires-clause-run g c = c.requires.run.run
+
+pub run_down-requires-clause-noted : goal.run_down-requires-clause-noted
+run_down-requires-clause-noted g c = c.requires.run.noted
+
 pub returns-clause-count : goal.returns-clause-count
 returns-clause-count g c =
     fallen-count (g.A.Rising.algebra c.args.automaton.now) (g.A.Falling.downward c.args.automaton.now) (value (rules_of c.args.grammar.now.rules)) c.in_ok-fallen.fallen.0 c.in_ok-fallen.fallen.1 c.in_ok-fallen.ensures.fallen

@@ -4,7 +4,7 @@ use Rattle.slt_grammar.specs.Grammars.{value}
 use Rattle.slt_grammar.specs.Keyed.{rules_of}
 use Rattle.rule_runs.specs.Reached.{FallsOnce}
 use Rattle.rule_runs.specs.Descents.{HasOutcome, Asks, AreWaiting, triple_at}
-use Rattle.rule_runs.specs.Notes.{HasBody}
+use Rattle.rule_runs.specs.Notes.{AreNoted, HasBody}
 use Rattle.rule_runs.specs.Risen.{keys, pair_at}
 use Rattle.rule_runs.specs.Tellings.{extended}
 use Rattle.rule_runs.proofs.Lists.{reverse-push, all-one, no_more}
@@ -32,10 +32,16 @@ returns-in_err-bodies-clause-steps g c = ([], falls-none (g.A.Rising.algebra c.a
 pub returns-in_err-known-clause-steps : goal.returns-in_err-known-clause-steps
 returns-in_err-known-clause-steps g c = ([], falls-none (g.A.Rising.algebra c.args.automaton.now) (g.A.Falling.downward c.args.automaton.now) (rules_of c.args.grammar.now.rules) _ (omega arith))
 
+pub new-requires : goal.new-requires
+new-requires g c = omega (arith, c.requires.noted.within, ap (λ r. length r.kept) c.risen.view_is, c.len-pairs.ensures, ap (λ r. length (keys r.known)) c.risen.view_is)
+
 pub begin-requires-clause-kept : goal.begin-requires-clause-kept
 begin-requires-clause-kept g c =
+    let A = g.A.Rising.algebra c.args.automaton.now in
+    let G = rules_of c.args.grammar.now.rules in
+    let ks = keys c.args.risen.now.known in
     let kn = ap (λ r. r.known) c.risen.view_is in
-    c.in_ok-bodies.ensures.kept (g.A.Rising.algebra c.args.automaton.now) (rules_of c.args.grammar.now.rules) (keys c.args.risen.now.known) (sym (c.len-pairs.ensures ∙ ap (λ es. length (keys es)) kn))
+    c.in_ok-bodies.ensures.kept A G ks (sym (c.len-pairs.ensures ∙ ap (λ es. length (keys es)) kn)) (subst (λ ms. AreNoted A G ks ms) (sym (ap (λ r. r.kept) c.risen.view_is)) c.requires.noted)
 
 pub begin-requires-clause-met : goal.begin-requires-clause-met
 begin-requires-clause-met g c =

@@ -1,14 +1,15 @@
-use Rattle.rule_runs.proofs.Closing.{unknown}
-use Rattle.std.proofs.Common.{◌∙◌, ◌≡◌, ◌∷◌, ap, reverse}
+use Rattle.std.proofs.Common.{◌∙◌, ◌≡◌, ◌≢◌, ◌∷◌, ap, reverse, subst, All}
 use Rattle.slt_grammar.specs.Keyed.{rules_of}
 use Rattle.slt_grammar.proofs.RuleMeanings.{rank_at-ranks_of}
-use Rattle.rule_runs.specs.Risen.{state_at, IsKnown}
 use Rattle.rule_runs.specs.Entries.{key_of}
+use Rattle.rule_runs.specs.Notes.{NoteIs}
+use Rattle.rule_runs.specs.Risen.{state_at, keys}
+use Rattle.rule_runs.specs.declared.notes.Note.TheVariants.{Call as NoteCall}
 use Rattle.rule_runs.proofs.Lists.{reverse-push, all-get, slice_get-map}
 use Rattle.rule_runs.proofs.notes.note_label.Goals as goal
 
 pub returns-in_ok-push-in-Known-clause-state : goal.returns-in_ok-push-in-Known-clause-state
-returns-in_ok-push-in-Known-clause-state g c =
+returns-in_ok-push-in-Known-clause-state g c = λ note e.
     let A = g.A.Rising.algebra c.args.automaton.now in
     let G = rules_of c.args.grammar.now.rules in
     let call = c.in_ok-place-in-Call.ensures.known c.in-Known.place c.in-Known.state c.in-Known.is in
@@ -17,18 +18,20 @@ returns-in_ok-push-in-Known-clause-state g c =
     rw (c.in-Call.is, rank_at-ranks_of G c.in-Call.rule, ← call.others) (r ∙ ap (λ x. x ∷ reverse c.take_call.new.stack.items) found)
 
 pub returns-in_ok-push-in-Known-clause-note : goal.returns-in_ok-push-in-Known-clause-note
-returns-in_ok-push-in-Known-clause-note g c =
+returns-in_ok-push-in-Known-clause-note g c = λ note e.
+    let A = g.A.Rising.algebra c.args.automaton.now in
     let G = rules_of c.args.grammar.now.rules in
     let call = c.in_ok-place-in-Call.ensures.known c.in-Known.place c.in-Known.state c.in-Known.is in
     let f = slice_get-map (λ e. e.0) c.args.known.now c.in-Known.place _ call.there in
-    rw (c.in-Call.is, rank_at-ranks_of G c.in-Call.rule) f
+    let k : NoteCall c.in-Known.place ≡ note = cc in
+    subst (λ n. NoteIs A G (keys c.args.known.now) c.args.label (reverse c.args.stack.now.items) n) k (rw (c.in-Call.is, rank_at-ranks_of G c.in-Call.rule) f)
 
-pub unreachable-requires : goal.unreachable-requires
-unreachable-requires g c =
-    let pair = c.in-Unknown.field-0 in
-    let asks = c.in_ok-place-in-Call.ensures.asks pair c.in-Unknown.is in
-    let i = asks.is in
-    let q : c.in-Call.rule ≡ pair.rule = cc in
-    let h = c.requires.called c.in-Call.rule c.in-Call.is in
-    let k : IsKnown c.args.known.now (key_of pair) = rw (q, ← asks.states) at h in
-    unknown c.args.known.now (key_of pair) (c.in_ok-place-in-Call.ensures.new pair c.in-Unknown.is) k
+pub returns-in-Unknown-clause-new : goal.returns-in-Unknown-clause-new
+returns-in-Unknown-clause-new g c = λ pair e.
+    let k : c.in-Unknown.pair ≡ pair = cc in
+    subst (λ p. All (λ e. e.0 ≢ key_of p) c.args.known.now) k (c.in_ok-place-in-Call.ensures.new c.in-Unknown.pair c.in-Unknown.is)
+
+pub returns-in-Unknown-clause-asks : goal.returns-in-Unknown-clause-asks
+returns-in-Unknown-clause-asks g c = λ pair e.
+    let k : c.in-Unknown.pair ≡ pair = cc in
+    rw (c.in-Call.is, ← k) (c.in_ok-place-in-Call.ensures.asks c.in-Unknown.pair c.in-Unknown.is)

@@ -3,6 +3,7 @@ use Rattle.std.specs.Prelude.{replicate}
 use Rattle.slt_grammar.specs.Grammars.{rank_at, value, whole}
 use Rattle.slt_grammar.specs.Keyed.{rules_of}
 use Rattle.slt_grammar.proofs.KeyedLemmas.{length-rules_of}
+use Rattle.rule_runs.proofs.Keeping.{noted-none}
 use Rattle.rule_runs.proofs.OneState.{table, table-new, table-nodes, table-run, up-bottom}
 use Rattle.rule_runs.proofs.one_state.rise_in_one_state.Goals as goal
 
@@ -25,7 +26,7 @@ returns-clause-run g c =
     let G = rules_of c.args.grammar.now.rules in
     let n : c.rules.rule ≡ length G = omega (arith, c.rules-rules.ensures.value, length-rules_of c.args.grammar.now.rules, c.rules-test.false, c.rules.auto.rule-end) in
     let k = c.rules.invariant ∙ ap (table A G) n in
-    rw (c.known-2.view_is, k) (table-run A c.requires.one G c.rules-rules.ensures.grammar c.requires.swept)
+    rw (c.known-2.view_is, k, c.new.ensures) (record { run = table-run A c.requires.one G c.rules-rules.ensures.grammar c.requires.swept; noted = noted-none A G _ })
 
 pub returns-clause-nodes : goal.returns-clause-nodes
 returns-clause-nodes g c =

@@ -1,47 +1,61 @@
 use Rattle.rule_runs.proofs.Closing.{known-end, closing-begin, closing-return}
 use Rattle.std.proofs.lemmas.List.Elements.{All-append, All-nil}
-use Rattle.std.proofs.Common.{◌∙◌, ◌≡◌, ◌≢◌, ◌-◌, ◌++◌, ◌∷◌, ap, arith, [], reverse, length}
+use Rattle.std.proofs.Common.{◌∙◌, ◌≡◌, ◌≢◌, ◌-◌, ◌+◌, ◌++◌, ◌∷◌, List, Some, ap, sym, arith, [], reverse, length, get_or, slice_get}
 use Rattle.slt_grammar.specs.Keyed.{rules_of}
 use Rattle.rule_runs.specs.Reached.{RuleStates, ReadsOnce}
 use Rattle.slt_grammar.proofs.KeyedLemmas.{length-rules_of}
 use Rattle.rule_runs.specs.Entries.{key_of}
 use Rattle.rule_runs.specs.Risen.{IsPair, state_at, keys, AreKnown}
-use Rattle.rule_runs.specs.Frames.{AreFrames, keys_of}
+use Rattle.rule_runs.specs.Frames.{AreFrames, AreNoting, keys_of}
 use Rattle.rule_runs.proofs.Lists.{reverse-push, empty_reverse, all-one, all-unmap, distinct-apart}
 use Rattle.rule_runs.proofs.Once.{frames-stands, reads-more, reads-start, frames-begin, stacked-start, stacked-begin, stacked-return, keys-return, start-pair, top-state, run-whole, cost-begin}
-use Rattle.std.proofs.lemmas.List.{map-append}
+use Rattle.std.proofs.lemmas.List.{length-map, map-append}
+use Rattle.rule_arena.proofs.PreorderLemmas.{slice_get-right}
+use Rattle.slt_grammar.specs.Grammars.{body_at}
+use Rattle.slt_grammar.specs.declared.rules.Rule.{Rule}
+use Rattle.rule_runs.specs.declared.frame.Frame.{Frame}
+use Rattle.rule_runs.specs.declared.memo.Pair.{Pair}
+use Rattle.rule_runs.proofs.Keeping.{kept-none, kept-return, noted-kept}
+use Rattle.rule_runs.proofs.Noting.{notes-end, noting-more, noted-call}
 use Rattle.rule_runs.proofs.rising.rise.Goals as goal
+
+-- all of a body is left where it is begun
+begun : {S : Type 0} (G : List Rule) (f : Frame S) (pair : Pair S) → f.left ≡ length (body_at G pair.rule) → f.pair ≡ pair → f.left ≡ length (body_at G f.pair.rule)
+begun G f pair left is = left ∙ ap (λ p. length (body_at G p.rule)) (sym is)
 
 pub begin-requires : goal.begin-requires
 begin-requires g c =
     let A = g.A.Rising.algebra c.args.automaton.now in
     let G = rules_of c.args.grammar.now.rules in
-    let n : c.rules.result - 1 ≡ length G - 1 = omega (arith, c.rules.ensures.value, length-rules_of c.args.grammar.now.rules) in
-    rw (n, c.new.ensures.items) (start-pair A G c.rules.ensures.grammar)
+    let n : c.rules-rules.result - 1 ≡ length G - 1 = omega (arith, c.rules-rules.ensures.value, length-rules_of c.args.grammar.now.rules) in
+    rw (n, c.new.ensures.items) (start-pair A G c.rules-rules.ensures.grammar)
 
 pub returns-in_err-frame-clause-steps : goal.returns-in_err-frame-clause-steps
 returns-in_err-frame-clause-steps g c =
     let A = g.A.Rising.algebra c.args.automaton.now in
     let G = rules_of c.args.grammar.now.rules in
     let k = c.begin.ensures.steps in
-    let n : c.rules.result - 1 ≡ length G - 1 = omega (arith, c.rules.ensures.value, length-rules_of c.args.grammar.now.rules) in
-    (_, reads-start A G (c.begin.new.steps - c.args.steps.now) c.rules.ensures.grammar (rw (← n) (omega arith)))
+    let n : c.rules-rules.result - 1 ≡ length G - 1 = omega (arith, c.rules-rules.ensures.value, length-rules_of c.args.grammar.now.rules) in
+    (_, reads-start A G (c.begin.new.steps - c.args.steps.now) c.rules-rules.ensures.grammar (rw (← n) (omega arith)))
 
 pub bodies-init : goal.bodies-init
 bodies-init g c =
     let A = g.A.Rising.algebra c.args.automaton.now in
     let G = rules_of c.args.grammar.now.rules in
     let k = c.begin.ensures.steps in
-    let n : c.rules.result - 1 ≡ length G - 1 = omega (arith, c.rules.ensures.value, length-rules_of c.args.grammar.now.rules) in
+    let n : c.rules-rules.result - 1 ≡ length G - 1 = omega (arith, c.rules-rules.ensures.value, length-rules_of c.args.grammar.now.rules) in
     let key : key_of c.in_ok-frame.frame.pair ≡ (length G - 1, []) = ap key_of c.in_ok-frame.ensures.pair ∙ ap (λ x. (x, c.new.result.items)) n ∙ ap (λ xs. (length G - 1, xs)) c.new.ensures.items in
     record {
-      right = rw c.new-known.ensures (All-nil (λ e. e.1 ≡ state_at A G e.0));
-      pairs = rw c.new-known.ensures (All-nil (IsPair G));
+      right = rw c.in_ok-known.ensures (All-nil (λ e. e.1 ≡ state_at A G e.0));
+      pairs = rw c.in_ok-known.ensures (All-nil (IsPair G));
       frames = rw c.new-frames.ensures.items (c.in_ok-frame.ensures.stands A, key);
       stacked = rw c.new-frames.ensures.items (stacked-start A G c.in_ok-frame.frame c.new-stack.result.items c.new-labels.result.items (reverse c.begin.new.labels.items) c.new-stack.ensures.items c.new-labels.ensures.items (c.in_ok-frame.ensures.none A) c.in_ok-frame.ensures.labels);
-      reads = rw (c.new-known.ensures, c.new-frames.ensures.items, key) (reads-start A G (c.begin.new.steps - c.args.steps.now) c.rules.ensures.grammar (rw (← n) (omega arith)));
-      closing = rw (c.new-known.ensures, c.new-frames.ensures.items) (record { now = known-end A G [] (key_of c.in_ok-frame.frame.pair) c.in_ok-frame.frame.left (rw (c.in_ok-frame.ensures.pair, c.in_ok-frame.ensures.cost) (omega arith)); outer = tt; all = All-nil (λ k. AreKnown A G [] k 0) });
+      reads = rw (c.in_ok-known.ensures, c.new-frames.ensures.items, key) (reads-start A G (c.begin.new.steps - c.args.steps.now) c.rules-rules.ensures.grammar (rw (← n) (omega arith)));
+      closing = rw (c.in_ok-known.ensures, c.new-frames.ensures.items) (record { now = known-end A G [] (key_of c.in_ok-frame.frame.pair) c.in_ok-frame.frame.left (rw (c.in_ok-frame.ensures.pair, c.in_ok-frame.ensures.cost) (omega arith)); outer = tt; all = All-nil (λ k. AreKnown A G [] k 0) });
       counted = c.begin.ensures.counted;
+      kept = rw (c.in_ok-known.ensures, c.new-bodies.ensures) (kept-none A G);
+      noted = rw c.new-notes.ensures.top (notes-end A G _ _ _ c.in_ok-frame.frame.left (begun G c.in_ok-frame.frame _ c.in_ok-frame.ensures.cost c.in_ok-frame.ensures.pair));
+      outer = rw c.new-frames.ensures.items tt;
     }
 
 pub advance-requires-clause-stands : goal.advance-requires-clause-stands
@@ -96,6 +110,9 @@ bodies-preserved-in-Waits g c =
       reads = rw (e, c.in_ok-frame-in-Waits.ensures.pair, c.in_ok-pair.ensures.same) r;
       closing = rw e (closing-begin A G c.bodies.known c.bodies.frame c.advance.new.frame c.in_ok-frame-in-Waits.frame (reverse c.bodies.frames.items) c.in-Waits.pair c.bodies.invariant.closing c.in_ok-pair.ensures.same (c.in_ok-pair.ensures.awaiting c.in-Waits.pair c.in-Waits.is) c.in_ok-frame-in-Waits.ensures.pair c.in_ok-frame-in-Waits.ensures.cost);
       counted = (let h = c.begin-in-Waits.ensures.counted in omega arith);
+      kept = c.bodies.invariant.kept;
+      noted = rw c.in_ok-open-in-Waits.ensures.top (notes-end A G _ _ _ c.in_ok-frame-in-Waits.frame.left (begun G c.in_ok-frame-in-Waits.frame _ c.in_ok-frame-in-Waits.ensures.cost c.in_ok-frame-in-Waits.ensures.pair));
+      outer = rw (e, c.in_ok-frame-in-Waits.ensures.pair, c.in_ok-open-in-Waits.ensures.below, c.in_ok-pair.ensures.below) (c.in_ok-pair.ensures.behind c.in-Waits.pair c.in-Waits.is, rw c.in_ok-pair.ensures.same c.bodies.invariant.outer);
     }
 
 pub advance-requires-clause-closed : goal.advance-requires-clause-closed
@@ -118,7 +135,7 @@ returns-in-None-clause-top g c =
     let d = c.in_ok-pair.ensures.done c.in-Done.state c.in-Done.is in
     let n : length c.bodies.frames.items ≡ 0 = omega (arith, c.in-None.ensures.cases.0, c.bodies.frames.ok.0) in
     let f : AreFrames A G c.bodies.frame [] = rw (empty_reverse c.bodies.frames.items n) at c.bodies.invariant.frames in
-    c.in_ok-top-in-None.ensures ∙ top-state A G c.rules.ensures.grammar c.bodies.frame c.in-Done.state f d
+    c.in_ok-top-in-None.ensures ∙ top-state A G c.rules-rules.ensures.grammar c.bodies.frame c.in-Done.state f d
 
 pub returns-in-None-clause-run : goal.returns-in-None-clause-run
 returns-in-None-clause-run g c =
@@ -130,7 +147,13 @@ returns-in-None-clause-run g c =
     let r : ReadsOnce A G (keys c.bodies.known ++ (key_of c.bodies.frame.pair ∷ [])) (c.bodies.steps - c.args.steps.now) = rw (empty_reverse c.bodies.frames.items z) at c.bodies.invariant.reads in
     let h = c.in_ok-note-in-None.ensures.ok in
     let n : c.note.new.self ≡ c.bodies.known ++ (key_of c.bodies.frame.pair, c.in-Done.state) ∷ [] = h ∙ ap (λ p. c.bodies.known ++ (key_of p, c.in-Done.state) ∷ []) c.in_ok-pair.ensures.same in
-    rw n (run-whole A G c.bodies.known c.bodies.frame c.in-Done.state (c.bodies.steps - c.args.steps.now) c.bodies.invariant.right c.bodies.invariant.pairs f r d (rw (empty_reverse c.bodies.frames.items z) at c.bodies.invariant.closing) (c.in_ok-pair.ensures.closed c.in-Done.state c.in-Done.is))
+    let k = key_of c.bodies.frame.pair in
+    let kn : keys c.note.new.self ≡ keys c.bodies.known ++ k ∷ [] = ap keys n ∙ map-append (λ e. e.0) c.bodies.known ((k, c.in-Done.state) ∷ []) in
+    let kept = kept-return A G (keys c.bodies.known) k c.bodies.bodies c.advance.new.notes.top c.bodies.invariant.kept (c.in_ok-pair.ensures.noted c.in-Done.state c.in-Done.is) in
+    record {
+      run = rw n (run-whole A G c.bodies.known c.bodies.frame c.in-Done.state (c.bodies.steps - c.args.steps.now) c.bodies.invariant.right c.bodies.invariant.pairs f r d (rw (empty_reverse c.bodies.frames.items z) at c.bodies.invariant.closing) (c.in_ok-pair.ensures.closed c.in-Done.state c.in-Done.is));
+      noted = rw (kn, c.in_ok-keep-in-Done.ensures.kept) (noted-kept A G _ _ kept);
+    }
 
 pub bodies-preserved : goal.bodies-preserved
 bodies-preserved g c =
@@ -142,6 +165,16 @@ bodies-preserved g c =
     let d = c.in_ok-pair.ensures.done c.in-Done.state c.in-Done.is in
     let e = ap reverse c.in-Some.ensures.items ∙ reverse-push c.pop.new.self.items c.in-Some.below in
     let f : AreFrames A G c.bodies.frame (c.in-Some.below ∷ reverse c.pop.new.self.items) = rw e at c.bodies.invariant.frames in
+    let k = key_of c.bodies.frame.pair in
+    let ks = keys c.bodies.known in
+    let top = c.advance.new.notes.top in
+    let mss = c.bodies.notes.below in
+    let kn : keys c.note-in-Some.new.self ≡ ks ++ k ∷ [] = ap keys n ∙ map-append (λ e. e.0) c.bodies.known (entry ∷ []) in
+    let ended = c.in_ok-pair.ensures.noted c.in-Done.state c.in-Done.is in
+    let awaited : AreNoting A G ks k (c.in-Some.below ∷ reverse c.pop.new.self.items) mss = rw e at c.bodies.invariant.outer in
+    let o = noting-more A G ks (k ∷ []) k (c.in-Some.below ∷ reverse c.pop.new.self.items) mss awaited in
+    let last : c.len.result ≡ length ks + 0 = omega (arith, c.len.ensures, length-map c.bodies.known (λ (e : RuleStates g.row.A-State.Denot × g.row.A-State.Denot). e.0)) in
+    let there : slice_get (ks ++ k ∷ []) c.len.result ≡ Some k = ap (slice_get (ks ++ k ∷ [])) last ∙ slice_get-right ks (k ∷ []) 0 in
     let r : ReadsOnce A G (keys c.bodies.known ++ (key_of c.bodies.frame.pair ∷ keys_of (c.in-Some.below ∷ reverse c.pop.new.self.items))) (c.bodies.steps - c.args.steps.now) = rw e at c.bodies.invariant.reads in
     let s = frames-stands A G c.bodies.frame (reverse c.bodies.frames.items) c.bodies.invariant.frames in
     let stacked = stacked-return A G c.bodies.frame c.in-Some.below (reverse c.pop.new.self.items) c.in_ok-copy-in-Some.field-0 _ c.advance.new.stack.items c.push-in-Some.new.self.items _ _ f (rw e at c.bodies.invariant.stacked)
@@ -154,4 +187,7 @@ bodies-preserved g c =
       reads = rw (n, keys-return A G c.bodies.known c.bodies.frame (c.in-Some.below ∷ reverse c.pop.new.self.items) c.in-Done.state) r;
       closing = rw n (closing-return A G c.bodies.known c.bodies.frame c.in-Some.below (reverse c.pop.new.self.items) c.in-Done.state (rw e at c.bodies.invariant.closing) (c.in_ok-pair.ensures.closed c.in-Done.state c.in-Done.is));
       counted = c.bodies.invariant.counted;
+      kept = rw (kn, c.in_ok-keep-in-Done.ensures.kept) (kept-return A G ks k c.bodies.bodies top c.bodies.invariant.kept ended);
+      noted = rw (kn, c.in_ok-push-in-Some-2.ensures.top, c.close.ensures.top, c.in_ok-keep-in-Done.ensures.below, c.in_ok-pair.ensures.below) (noted-call A G (ks ++ k ∷ []) c.in-Some.below k (get_or mss 0 []) o.0 c.len.result there);
+      outer = rw (kn, c.in_ok-push-in-Some-2.ensures.below, c.close.ensures.below, c.in_ok-keep-in-Done.ensures.below, c.in_ok-pair.ensures.below) o.1;
     }

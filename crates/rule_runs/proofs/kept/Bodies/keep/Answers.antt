@@ -1,0 +1,17 @@
+use Rattle.std.proofs.Common.{◌∙◌, [], ◌∷◌, ◌++◌, Some, ap, arith, length}
+use Rattle.std.proofs.lemmas.List.{length-append}
+use Rattle.rule_runs.specs.Notes.{kept_of}
+use Rattle.rule_runs.proofs.KeptNotes.{kept-push, within-more}
+use Rattle.rule_runs.proofs.kept.Bodies.keep.Goals as goal
+
+pub invariant_of-self : goal.invariant_of-self
+invariant_of-self g c =
+    let ns = c.self.inside.notes.items in
+    let m = c.empty_into.ensures.moved in
+    within-more c.self.inside.spans.items (length ns) _ (omega (arith, ap length m.1, length-append ns m.0)) c.self.invariant
+
+pub returns-clause-kept : goal.returns-clause-kept
+returns-clause-kept g c =
+    let m = c.in_ok-empty_into.ensures.moved in
+    ap (kept_of c.empty_into.new.list.items) c.in_ok-push.ensures.items
+    ∙ kept-push c.self.inside.notes.items m.0 c.empty_into.new.list.items c.self.inside.spans.items c.args.self.now (record { begin = c.len-begin.result; end = c.len.result }) c.self.invariant c.self.view_is m.1 (omega (arith, c.len-begin.ensures, c.self.inside.notes.ok.0)) (omega (arith, c.len.ensures, c.empty_into.new.list.ok.0)) ∙ ap (λ ns. c.args.self.now ++ Some ns ∷ []) m.2

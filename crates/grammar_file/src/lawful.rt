@@ -63,6 +63,6 @@ fn runs_to_document<L: Ledger>(
 {
     let mut steps: Steps<L> = Steps::new(blank);
     let chains = Chains::new(alloc, names)?;
-    let risen = rise(alloc, grammar, &chains, &mut steps)?;
+    let risen = rise(alloc, grammar, &chains, false, &mut steps)?;
     Ok(matches!(risen.top(), Chain::Whole))
 }

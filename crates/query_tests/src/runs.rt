@@ -40,7 +40,7 @@ fn find<L: Ledger>(alloc: Global, grammar: &Grammar, blank: Blank) -> Result<Fou
     // The counts tell that the value has few nodes.
     let _counts = Counts::new(alloc, grammar, &Names::new(alloc))?;
     let mut steps: Steps<L> = Steps::new(blank);
-    let risen = rise(alloc, grammar, &Marks, &mut steps)?;
+    let risen = rise(alloc, grammar, &Marks, true, &mut steps)?;
     let fallen = fall(alloc, grammar, &Marks, &risen, None, true, &mut steps)?;
     let counted = fall(alloc, grammar, &Marks, &risen, None, false, &mut steps)?;
     Ok(Found {

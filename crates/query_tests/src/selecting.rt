@@ -40,7 +40,7 @@ fn hits<L: Ledger>(
         counts: &counts,
     };
     let mut steps: Steps<L> = Steps::new(blank);
-    let risen = rise(alloc, grammar, selector, &mut steps)?;
+    let risen = rise(alloc, grammar, selector, true, &mut steps)?;
     let fallen = fall(
         alloc,
         grammar,

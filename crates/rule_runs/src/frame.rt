@@ -1,5 +1,5 @@
 // Rule bodies that a run upward evaluates, label by label from their end.
-ghost use Rattle.std.specs.Prelude.{◌≡◌, ◌≢◌, ◌+◌, ◌++◌, ◌*◌, ◌<◌, ◌≤◌, ℕ, [], ◌∷◌, length, take, drop, reverse, vec_len, IfOk, OnOk, All};
+ghost use Rattle.std.specs.Prelude.{◌≡◌, ◌≢◌, ◌+◌, ◌++◌, ◌*◌, ◌<◌, ◌≤◌, ℕ, [], ◌∷◌, length, take, drop, reverse, vec_len, IfOk, IsTrue, OnOk, All};
 ghost use Rattle.slt_grammar.specs.Algebras.{Algebra, apply, all_meanings, ranks_of};
 ghost use Rattle.slt_grammar.specs.Bodies.{arity};
 ghost use Rattle.slt_grammar.specs.Grammars.{body_at, rank_at};
@@ -63,6 +63,21 @@ pub(crate) fn begin<S: RunState, L: Ledger>(
     })
 }
 
+// Puts a note on top, where notes are made.
+pub(crate) fn put_note<S: Drop>(
+    notes: &mut Layers<Note<S>>,
+    noted: bool,
+    note: Note<S>,
+) -> Result<(), AllocError>
+    ensures top { OnOk result (IsTrue noted → notes.new.top ≡ note ∷ notes.old.top) }
+    ensures below { OnOk result (notes.new.below ≡ notes.old.below) }
+{
+    if noted {
+        notes.push(note)?;
+    }
+    Ok(())
+}
+
 // Evaluates a body on to its root or to a call whose state is not known. What is its own is taken off the lists where it is done; where
 // it waits, its states stand there but for the one that it waits for.
 pub(crate) fn advance<A: Rising>(
@@ -73,6 +88,7 @@ pub(crate) fn advance<A: Rising>(
     frame: &mut Frame<A::State>,
     labels: &mut Vec<Label>,
     stack: &mut Vec<A::State>,
+    noted: bool,
     notes: &mut Layers<Note<A::State>>,
 ) -> Result<Next<A::State>, AllocError>
     requires right { All (λ e. e.1 ≡ state_at (A.algebra automaton.now) (rules_of grammar.now.rules) e.0) known.now }
@@ -80,10 +96,10 @@ pub(crate) fn advance<A: Rising>(
     requires states { IsTopmost (own (A.algebra automaton.now) (rules_of grammar.now.rules) frame.old) (reverse stack.old.items) }
     requires labels { IsTopmost (ahead (rules_of grammar.now.rules) frame.old) (reverse labels.old.items) }
     requires closed { AreKnown (A.algebra automaton.now) (rules_of grammar.now.rules) known.now (key_of frame.old.pair) frame.old.left }
-    requires noted { AreNotesFrom (A.algebra automaton.now) (rules_of grammar.now.rules) (keys known.now) frame.old.left frame.old.pair.states.items (body_at (rules_of grammar.now.rules) frame.old.pair.rule) notes.old.top }
+    requires noted { IsTrue noted → AreNotesFrom (A.algebra automaton.now) (rules_of grammar.now.rules) (keys known.now) frame.old.left frame.old.pair.states.items (body_at (rules_of grammar.now.rules) frame.old.pair.rule) notes.old.top }
     ensures same { frame.new.pair ≡ frame.old.pair }
-    ensures noted { IfOk result (λ next. (state : A.State) → next ≡ Next.Done state → AreNotes (A.algebra automaton.now) (rules_of grammar.now.rules) (keys known.now) frame.old.pair.states.items (body_at (rules_of grammar.now.rules) frame.old.pair.rule) notes.new.top) }
-    ensures behind { IfOk result (λ next. (pair : Pair A.State) → next ≡ Next.Waits pair → IsNotedTo (A.algebra automaton.now) (rules_of grammar.now.rules) (keys known.now) frame.new (key_of pair) notes.new.top) }
+    ensures noted { IfOk result (λ next. (state : A.State) → next ≡ Next.Done state → IsTrue noted → AreNotes (A.algebra automaton.now) (rules_of grammar.now.rules) (keys known.now) frame.old.pair.states.items (body_at (rules_of grammar.now.rules) frame.old.pair.rule) notes.new.top) }
+    ensures behind { IfOk result (λ next. (pair : Pair A.State) → next ≡ Next.Waits pair → IsTrue noted → IsNotedTo (A.algebra automaton.now) (rules_of grammar.now.rules) (keys known.now) frame.new (key_of pair) notes.new.top) }
     ensures below { OnOk result (notes.new.below ≡ notes.old.below) }
     ensures closed { IfOk result (λ next. (state : A.State) → next ≡ Next.Done state → AreKnown (A.algebra automaton.now) (rules_of grammar.now.rules) known.now (key_of frame.old.pair) 0) }
     ensures awaiting { IfOk result (λ next. (pair : Pair A.State) → next ≡ Next.Waits pair → AreKnownBut (A.algebra automaton.now) (rules_of grammar.now.rules) known.now (key_of frame.new.pair) frame.new.left (key_of pair)) }
@@ -105,10 +121,10 @@ pub(crate) fn advance<A: Rising>(
         if let Label::Param = label {
             frame.waiting -= 1;
             stack.push(copy_at(&frame.pair.states, frame.waiting)?)?;
-            notes.push(Note::Param)?;
+            put_note(notes, noted, Note::Param)?;
         } else {
             match note_label(alloc, automaton, grammar, known, label, stack)? {
-                Noted::Known(note) => notes.push(note)?,
+                Noted::Known(note) => put_note(notes, noted, note)?,
                 Noted::Unknown(pair) => return Ok(Next::Waits(pair)),
             }
         }

@@ -1,5 +1,5 @@
 // The bodies of pairs that a run downward reads, as their notes: each is noted once, and the notes of all stand in one list.
-ghost use Rattle.std.specs.Prelude.{◌≡◌, ◌+◌, ◌*◌, ◌<◌, ◌≤◌, ◌++◌, ◌∷◌, [], ℕ, List, Some, None, length, replicate, reverse, set, slice_get, IfOk, IfSome, IfNone, OnOk, OnErr, All};
+ghost use Rattle.std.specs.Prelude.{◌≡◌, ◌+◌, ◌*◌, ◌<◌, ◌≤◌, ◌++◌, ◌∷◌, [], ℕ, List, Some, None, length, replicate, reverse, set, slice_get, IfOk, IsTrue, IsFalse, IfSome, IfNone, OnOk, OnErr, All};
 ghost use Rattle.slt_grammar.specs.Algebras.{Algebra};
 ghost use Rattle.slt_grammar.specs.Grammars.{body_at};
 ghost use Rattle.slt_grammar.specs.Keyed.{rules_of};
@@ -84,12 +84,19 @@ impl<S: Drop> Bodies<S> {
         }
     }
 
-    // Keeps the topmost notes as those of the next pair.
-    pub(crate) fn keep(&mut self, notes: &mut Layers<Note<S>>) -> Result<(), AllocError>
-        ensures kept { OnOk result (self.new ≡ self.old ++ Some (reverse notes.old.top) ∷ []) }
-        ensures top { OnOk result (notes.new.top ≡ []) }
+    // Keeps the topmost notes as those of the next pair, where notes are made.
+    pub(crate) fn keep(
+        &mut self,
+        noted: bool,
+        notes: &mut Layers<Note<S>>,
+    ) -> Result<(), AllocError>
+        ensures kept { OnOk result (IsTrue noted → self.new ≡ self.old ++ Some (reverse notes.old.top) ∷ []) }
+        ensures stays { OnOk result (IsFalse noted → self.new ≡ self.old) }
         ensures below { OnOk result (notes.new.below ≡ notes.old.below) }
     {
+        if !noted {
+            return Ok(());
+        }
         let begin = self.notes.len();
         notes.empty_into(&mut self.notes)?;
         self.spans.push(Some(Span {

@@ -6,7 +6,7 @@ ghost use Rattle.slt_grammar.specs.Terms.{up};
 ghost use Rattle.rule_runs.specs.Reached.{RuleStates, ReadsOnce};
 ghost use Rattle.rule_runs.specs.Notes.{IsRisen};
 
-use crate::frame::{Next, advance, begin};
+use crate::frame::{Next, advance, begin, put_note};
 use crate::kept::Bodies;
 use crate::layers::Layers;
 use crate::memo::{Memo, Pair};
@@ -23,7 +23,7 @@ use std::sync::ledger::Ledger;
 pub struct RiseTable<A: Rising> {
     pub(crate) known: Memo<A::State>,
     pub(crate) top: A::State,
-    // The notes of the pairs' bodies, of each or of none.
+    // The notes of the pairs' bodies: of each, or of none.
     pub(crate) bodies: Bodies<A::State>,
 }
 
@@ -47,11 +47,13 @@ impl<A: Rising> RiseTable<A> {
 /// Runs the automaton upward over the rules: its state at the root of what the grammar stands for, and what a run downward needs.
 ///
 /// Each pair of a rule and states of its arguments that the run meets is read once, with at most two steps a node, whatever is
-/// answered. It fails where memory is refused.
+/// answered. Where `noted` is asked for, the bodies are noted as they are read, so that a run downward reads none of them again: that
+/// takes some words for each node, in vain where nothing runs downward. It fails where memory is refused.
 pub fn rise<A: Rising, L: Ledger>(
     alloc: Global,
     grammar: &Grammar,
     automaton: &A,
+    noted: bool,
     steps: &mut Steps<L>,
 ) -> Result<RiseTable<A>, AllocError>
     ensures top { IfOk result (λ table. table.top ≡ up (A.algebra automaton.now) (value (rules_of grammar.now.rules)) []) }
@@ -80,6 +82,7 @@ pub fn rise<A: Rising, L: Ledger>(
             &mut frame,
             &mut labels,
             &mut stack,
+            noted,
             &mut notes,
         )? {
             Next::Waits(pair) => {
@@ -88,7 +91,7 @@ pub fn rise<A: Rising, L: Ledger>(
                 frame = begin(grammar, pair, &mut labels, steps)?;
             }
             Next::Done(state) => {
-                bodies.keep(&mut notes)?;
+                bodies.keep(noted, &mut notes)?;
                 match frames.pop() {
                     None => {
                         let top = state.copy()?;
@@ -98,7 +101,7 @@ pub fn rise<A: Rising, L: Ledger>(
                     Some(below) => {
                         stack.push(state.copy()?)?;
                         notes.close();
-                        notes.push(Note::Call(known.len()))?;
+                        put_note(&mut notes, noted, Note::Call(known.len()))?;
                         let done = frame;
                         frame = below;
                         known.note(done.pair, state)?;

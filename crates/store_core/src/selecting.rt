@@ -137,7 +137,7 @@ fn run_both_ways<L: Ledger>(
 {
     // The call tells that the rules are a grammar.
     let _rules = grammar.rules();
-    let risen = rise(alloc, grammar, selector, steps)?;
+    let risen = rise(alloc, grammar, selector, true, steps)?;
     let spent = Spent {
         down: selector.spent(),
         counts,

@@ -57,7 +57,7 @@ fn find_both<L: Ledger>(
         true,
         &mut steps,
     )?;
-    let read = rise(alloc, grammar, selector, &mut steps)?;
+    let read = rise(alloc, grammar, selector, true, &mut steps)?;
     let second = fall(alloc, grammar, selector, &read, None, true, &mut steps)?;
     Ok(Some(Both {
         same_top: *unread.top() == *read.top(),

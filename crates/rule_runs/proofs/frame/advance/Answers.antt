@@ -36,8 +36,8 @@ copy_at-requires g c =
     let next = label-next G f c.nodes-test.true stands.evaluated.within c.nodes.labels.items c.pop.new.self.items c.requires.labels.0 c.in-Some.label c.in-Some.ensures.items (c.nodes.invariant.labels c.requires.labels.0 c.requires.labels.1) in
     (param-left A G c.rules-rules.ensures.grammar f stands c.nodes-test.true c.in-Some.label next.0 c.in-Param.is).1
 
-pub nodes-preserved-in_ok-push-2 : goal.nodes-preserved-in_ok-push-2
-nodes-preserved-in_ok-push-2 g c =
+pub nodes-preserved-in_ok-put_note : goal.nodes-preserved-in_ok-put_note
+nodes-preserved-in_ok-put_note g c =
     let A = g.A.Rising.algebra c.args.automaton.now in
     let G = rules_of c.args.grammar.now.rules in
     let grammar = c.rules-rules.ensures.grammar in
@@ -52,8 +52,8 @@ nodes-preserved-in_ok-push-2 g c =
       states = λ others on_top. param-own A G grammar f stands more l s c.nodes.stack.items c.push.new.self.items others is c.in-Param.is c.in_ok-copy_at.ensures c.in_ok-push.ensures.items (c.nodes.invariant.states others on_top);
       labels = label-taken G f more stands.evaluated.within _ _ c.nodes.labels.items c.pop.new.self.items l c.in-Some.ensures.items c.nodes.invariant.labels;
       closed = frame-front A G grammar f stands more c.args.known.now l is c.nodes.invariant.closed (λ q e. let p = c.in-Param.is in absurd (cc));
-      noted = rw c.in_ok-push-2.ensures.top (frame-param A G grammar f stands more (keys c.args.known.now) l is c.nodes.notes.top c.nodes.invariant.noted c.in-Param.is);
-      below = c.in_ok-push-2.ensures.below ∙ c.nodes.invariant.below;
+      noted = λ t. rw (c.in_ok-put_note.ensures.top t) (frame-param A G grammar f stands more (keys c.args.known.now) l is c.nodes.notes.top (c.nodes.invariant.noted t) c.in-Param.is);
+      below = c.in_ok-put_note.ensures.below ∙ c.nodes.invariant.below;
       same = c.nodes.invariant.same;
       fewer = let h = c.nodes.invariant.fewer in omega arith;
     }
@@ -92,8 +92,8 @@ nodes-preserved g c =
       states = λ others on_top. other-own A G grammar f stands more l (reverse c.nodes.stack.items) others is (c.nodes.invariant.states others on_top) (reverse c.note_label.new.stack.items) real (c.in_ok-note.ensures.state c.in-Known.note c.in-Known.is);
       labels = label-taken G f more stands.evaluated.within _ _ c.nodes.labels.items c.pop.new.self.items l c.in-Some.ensures.items c.nodes.invariant.labels;
       closed = frame-front A G grammar f stands more c.args.known.now l is c.nodes.invariant.closed (λ q e. known-own A G grammar f stands more l (reverse c.nodes.stack.items) c.requires.states.0 is top c.args.known.now q e (note-known A G (keys c.args.known.now) q (reverse c.nodes.stack.items) c.in-Known.note (subst (λ x. NoteIs A G (keys c.args.known.now) x (reverse c.nodes.stack.items) c.in-Known.note) e (c.in_ok-note.ensures.note c.in-Known.note c.in-Known.is))));
-      noted = rw c.in_ok-push-in-Known.ensures.top (frame-other A G grammar f stands more (keys c.args.known.now) l is c.nodes.notes.top c.nodes.invariant.noted (reverse c.nodes.stack.items) c.requires.states.0 c.in-Known.note real top (c.in_ok-note.ensures.note c.in-Known.note c.in-Known.is));
-      below = c.in_ok-push-in-Known.ensures.below ∙ c.nodes.invariant.below;
+      noted = λ t. rw (c.in_ok-put_note-in-Known.ensures.top t) (frame-other A G grammar f stands more (keys c.args.known.now) l is c.nodes.notes.top (c.nodes.invariant.noted t) (reverse c.nodes.stack.items) c.requires.states.0 c.in-Known.note real top (c.in_ok-note.ensures.note c.in-Known.note c.in-Known.is));
+      below = c.in_ok-put_note-in-Known.ensures.below ∙ c.nodes.invariant.below;
       same = c.nodes.invariant.same;
       fewer = let h = c.nodes.invariant.fewer in omega arith;
     }
@@ -115,8 +115,8 @@ returns-in-Unknown g c =
     let o = call-own A G grammar f stands more l c.in-Unknown.pair _ is real own_asks in
     record {
       closed = λ state e. absurd (cc);
-      noted = λ state e. absurd (cc);
-      behind = λ pair e. let k : c.in-Unknown.pair ≡ pair = cc in rw (← k) (frame-noted_to A G grammar f stands more (keys c.args.known.now) l is c.nodes.notes.top c.nodes.invariant.noted c.in-Unknown.pair _ own_asks);
+      noted = λ state e t. absurd (cc);
+      behind = λ pair e t. let k : c.in-Unknown.pair ≡ pair = cc in rw (← k) (frame-noted_to A G grammar f stands more (keys c.args.known.now) l is c.nodes.notes.top (c.nodes.invariant.noted t) c.in-Unknown.pair _ own_asks);
       below = c.nodes.invariant.below;
       awaiting = λ pair e. let k : c.in-Unknown.pair ≡ pair = cc in rw (← k) (frame-stops A G grammar f stands more c.args.known.now l c.in-Unknown.pair _ is own_asks c.nodes.invariant.closed);
       same = c.nodes.invariant.same;
@@ -148,8 +148,8 @@ returns g c =
       same = c.nodes.invariant.same;
       closed = λ state e. subst (λ p. AreKnown A G c.args.known.now (key_of p) 0) c.nodes.invariant.same (subst (λ n. AreKnown A G c.args.known.now (key_of f.pair) n) z c.nodes.invariant.closed);
       awaiting = λ pair e. absurd (cc);
-      noted = λ state e. subst (λ p. AreNotes A G (keys c.args.known.now) p.states.items (body_at G p.rule) c.nodes.notes.top) c.nodes.invariant.same (subst (λ n. AreNotesFrom A G (keys c.args.known.now) n f.pair.states.items (body_at G f.pair.rule) c.nodes.notes.top) z c.nodes.invariant.noted);
-      behind = λ pair e. absurd (cc);
+      noted = λ state e t. subst (λ p. AreNotes A G (keys c.args.known.now) p.states.items (body_at G p.rule) c.nodes.notes.top) c.nodes.invariant.same (subst (λ n. AreNotesFrom A G (keys c.args.known.now) n f.pair.states.items (body_at G f.pair.rule) c.nodes.notes.top) z (c.nodes.invariant.noted t));
+      behind = λ pair e t. absurd (cc);
       below = c.nodes.invariant.below;
       done = λ state e. let k : s ≡ state = cc in sym k ∙ is ∙ ap (λ p. state_at A G (key_of p)) c.nodes.invariant.same;
       waits = λ pair e. absurd (cc);

@@ -1,6 +1,6 @@
 use Rattle.rule_runs.proofs.Closing.{known-end, closing-begin, closing-return}
 use Rattle.std.proofs.lemmas.List.Elements.{All-append, All-nil}
-use Rattle.std.proofs.Common.{◌∙◌, ◌≡◌, ◌≢◌, ◌-◌, ◌+◌, ◌++◌, ◌∷◌, List, Some, ap, sym, arith, [], reverse, length, get_or, slice_get}
+use Rattle.std.proofs.Common.{◌∙◌, ◌≡◌, ◌≢◌, ◌-◌, ◌+◌, ◌++◌, ◌∷◌, List, IsTrue, Some, ap, sym, arith, [], reverse, length, get_or, slice_get}
 use Rattle.slt_grammar.specs.Keyed.{rules_of}
 use Rattle.rule_runs.specs.Reached.{RuleStates, ReadsOnce}
 use Rattle.slt_grammar.proofs.KeyedLemmas.{length-rules_of}
@@ -15,7 +15,7 @@ use Rattle.slt_grammar.specs.Grammars.{body_at}
 use Rattle.slt_grammar.specs.declared.rules.Rule.{Rule}
 use Rattle.rule_runs.specs.declared.frame.Frame.{Frame}
 use Rattle.rule_runs.specs.declared.memo.Pair.{Pair}
-use Rattle.rule_runs.proofs.Keeping.{kept-none, kept-return, noted-kept}
+use Rattle.rule_runs.proofs.Keeping.{keeps-none, keeps-return}
 use Rattle.rule_runs.proofs.Noting.{notes-end, noting-more, noted-call}
 use Rattle.rule_runs.proofs.rising.rise.Goals as goal
 
@@ -53,9 +53,9 @@ bodies-init g c =
       reads = rw (c.in_ok-known.ensures, c.new-frames.ensures.items, key) (reads-start A G (c.begin.new.steps - c.args.steps.now) c.rules-rules.ensures.grammar (rw (← n) (omega arith)));
       closing = rw (c.in_ok-known.ensures, c.new-frames.ensures.items) (record { now = known-end A G [] (key_of c.in_ok-frame.frame.pair) c.in_ok-frame.frame.left (rw (c.in_ok-frame.ensures.pair, c.in_ok-frame.ensures.cost) (omega arith)); outer = tt; all = All-nil (λ k. AreKnown A G [] k 0) });
       counted = c.begin.ensures.counted;
-      kept = rw (c.in_ok-known.ensures, c.new-bodies.ensures) (kept-none A G);
-      noted = rw c.new-notes.ensures.top (notes-end A G _ _ _ c.in_ok-frame.frame.left (begun G c.in_ok-frame.frame _ c.in_ok-frame.ensures.cost c.in_ok-frame.ensures.pair));
-      outer = rw c.new-frames.ensures.items tt;
+      kept = rw (c.in_ok-known.ensures, c.new-bodies.ensures) (keeps-none A G c.args.noted);
+      noted = λ t. rw c.new-notes.ensures.top (notes-end A G _ _ _ c.in_ok-frame.frame.left (begun G c.in_ok-frame.frame _ c.in_ok-frame.ensures.cost c.in_ok-frame.ensures.pair));
+      outer = λ t. rw c.new-frames.ensures.items tt;
     }
 
 pub advance-requires-clause-stands : goal.advance-requires-clause-stands
@@ -111,8 +111,8 @@ bodies-preserved-in-Waits g c =
       closing = rw e (closing-begin A G c.bodies.known c.bodies.frame c.advance.new.frame c.in_ok-frame-in-Waits.frame (reverse c.bodies.frames.items) c.in-Waits.pair c.bodies.invariant.closing c.in_ok-pair.ensures.same (c.in_ok-pair.ensures.awaiting c.in-Waits.pair c.in-Waits.is) c.in_ok-frame-in-Waits.ensures.pair c.in_ok-frame-in-Waits.ensures.cost);
       counted = (let h = c.begin-in-Waits.ensures.counted in omega arith);
       kept = c.bodies.invariant.kept;
-      noted = rw c.in_ok-open-in-Waits.ensures.top (notes-end A G _ _ _ c.in_ok-frame-in-Waits.frame.left (begun G c.in_ok-frame-in-Waits.frame _ c.in_ok-frame-in-Waits.ensures.cost c.in_ok-frame-in-Waits.ensures.pair));
-      outer = rw (e, c.in_ok-frame-in-Waits.ensures.pair, c.in_ok-open-in-Waits.ensures.below, c.in_ok-pair.ensures.below) (c.in_ok-pair.ensures.behind c.in-Waits.pair c.in-Waits.is, rw c.in_ok-pair.ensures.same c.bodies.invariant.outer);
+      noted = λ t. rw c.in_ok-open-in-Waits.ensures.top (notes-end A G _ _ _ c.in_ok-frame-in-Waits.frame.left (begun G c.in_ok-frame-in-Waits.frame _ c.in_ok-frame-in-Waits.ensures.cost c.in_ok-frame-in-Waits.ensures.pair));
+      outer = λ t. rw (e, c.in_ok-frame-in-Waits.ensures.pair, c.in_ok-open-in-Waits.ensures.below, c.in_ok-pair.ensures.below) (c.in_ok-pair.ensures.behind c.in-Waits.pair c.in-Waits.is t, rw c.in_ok-pair.ensures.same (c.bodies.invariant.outer t));
     }
 
 pub advance-requires-clause-closed : goal.advance-requires-clause-closed
@@ -149,10 +149,10 @@ returns-in-None-clause-run g c =
     let n : c.note.new.self ≡ c.bodies.known ++ (key_of c.bodies.frame.pair, c.in-Done.state) ∷ [] = h ∙ ap (λ p. c.bodies.known ++ (key_of p, c.in-Done.state) ∷ []) c.in_ok-pair.ensures.same in
     let k = key_of c.bodies.frame.pair in
     let kn : keys c.note.new.self ≡ keys c.bodies.known ++ k ∷ [] = ap keys n ∙ map-append (λ e. e.0) c.bodies.known ((k, c.in-Done.state) ∷ []) in
-    let kept = kept-return A G (keys c.bodies.known) k c.bodies.bodies c.advance.new.notes.top c.bodies.invariant.kept (c.in_ok-pair.ensures.noted c.in-Done.state c.in-Done.is) in
+    let kept = keeps-return A G c.args.noted (keys c.bodies.known) k c.bodies.bodies c.keep.new.self c.advance.new.notes.top c.bodies.invariant.kept (c.in_ok-pair.ensures.noted c.in-Done.state c.in-Done.is) c.in_ok-keep-in-Done.ensures.kept c.in_ok-keep-in-Done.ensures.stays in
     record {
       run = rw n (run-whole A G c.bodies.known c.bodies.frame c.in-Done.state (c.bodies.steps - c.args.steps.now) c.bodies.invariant.right c.bodies.invariant.pairs f r d (rw (empty_reverse c.bodies.frames.items z) at c.bodies.invariant.closing) (c.in_ok-pair.ensures.closed c.in-Done.state c.in-Done.is));
-      noted = rw (kn, c.in_ok-keep-in-Done.ensures.kept) (noted-kept A G _ _ kept);
+      noted = rw kn kept.are;
     }
 
 pub bodies-preserved : goal.bodies-preserved
@@ -171,8 +171,8 @@ bodies-preserved g c =
     let mss = c.bodies.notes.below in
     let kn : keys c.note-in-Some.new.self ≡ ks ++ k ∷ [] = ap keys n ∙ map-append (λ e. e.0) c.bodies.known (entry ∷ []) in
     let ended = c.in_ok-pair.ensures.noted c.in-Done.state c.in-Done.is in
-    let awaited : AreNoting A G ks k (c.in-Some.below ∷ reverse c.pop.new.self.items) mss = rw e at c.bodies.invariant.outer in
-    let o = noting-more A G ks (k ∷ []) k (c.in-Some.below ∷ reverse c.pop.new.self.items) mss awaited in
+    let awaited : IsTrue c.args.noted → AreNoting A G ks k (c.in-Some.below ∷ reverse c.pop.new.self.items) mss = rw e at c.bodies.invariant.outer in
+    let o = λ (t : IsTrue c.args.noted). noting-more A G ks (k ∷ []) k (c.in-Some.below ∷ reverse c.pop.new.self.items) mss (awaited t) in
     let last : c.len.result ≡ length ks + 0 = omega (arith, c.len.ensures, length-map c.bodies.known (λ (e : RuleStates g.row.A-State.Denot × g.row.A-State.Denot). e.0)) in
     let there : slice_get (ks ++ k ∷ []) c.len.result ≡ Some k = ap (slice_get (ks ++ k ∷ [])) last ∙ slice_get-right ks (k ∷ []) 0 in
     let r : ReadsOnce A G (keys c.bodies.known ++ (key_of c.bodies.frame.pair ∷ keys_of (c.in-Some.below ∷ reverse c.pop.new.self.items))) (c.bodies.steps - c.args.steps.now) = rw e at c.bodies.invariant.reads in
@@ -187,7 +187,7 @@ bodies-preserved g c =
       reads = rw (n, keys-return A G c.bodies.known c.bodies.frame (c.in-Some.below ∷ reverse c.pop.new.self.items) c.in-Done.state) r;
       closing = rw n (closing-return A G c.bodies.known c.bodies.frame c.in-Some.below (reverse c.pop.new.self.items) c.in-Done.state (rw e at c.bodies.invariant.closing) (c.in_ok-pair.ensures.closed c.in-Done.state c.in-Done.is));
       counted = c.bodies.invariant.counted;
-      kept = rw (kn, c.in_ok-keep-in-Done.ensures.kept) (kept-return A G ks k c.bodies.bodies top c.bodies.invariant.kept ended);
-      noted = rw (kn, c.in_ok-push-in-Some-2.ensures.top, c.close.ensures.top, c.in_ok-keep-in-Done.ensures.below, c.in_ok-pair.ensures.below) (noted-call A G (ks ++ k ∷ []) c.in-Some.below k (get_or mss 0 []) o.0 c.len.result there);
-      outer = rw (kn, c.in_ok-push-in-Some-2.ensures.below, c.close.ensures.below, c.in_ok-keep-in-Done.ensures.below, c.in_ok-pair.ensures.below) o.1;
+      kept = rw kn (keeps-return A G c.args.noted ks k c.bodies.bodies c.keep.new.self top c.bodies.invariant.kept ended c.in_ok-keep-in-Done.ensures.kept c.in_ok-keep-in-Done.ensures.stays);
+      noted = λ t. rw (kn, c.in_ok-put_note-in-Some.ensures.top t, c.close.ensures.top, c.in_ok-keep-in-Done.ensures.below, c.in_ok-pair.ensures.below) (noted-call A G (ks ++ k ∷ []) c.in-Some.below k (get_or mss 0 []) (o t).0 c.len.result there);
+      outer = λ t. rw (kn, c.in_ok-put_note-in-Some.ensures.below, c.close.ensures.below, c.in_ok-keep-in-Done.ensures.below, c.in_ok-pair.ensures.below) (o t).1;
     }

@@ -1,11 +1,12 @@
-use Rattle.std.proofs.Common.{◌≡◌, ◌≤◌, ◌+◌, ◌-◌, ◌++◌, ◌∷◌, reverse, sum_by, All}
+use Rattle.std.proofs.Common.{◌≡◌, ◌≤◌, ◌+◌, ◌-◌, ◌++◌, ◌∷◌, IsTrue, reverse, sum_by, All}
 use Rattle.slt_grammar.specs.Grammars.{body_at}
 use Rattle.slt_grammar.specs.Keyed.{rules_of}
 use Rattle.rule_runs.specs.Reached.{ReadsOnce}
 use Rattle.rule_runs.specs.Entries.{key_of}
 use Rattle.rule_runs.specs.Risen.{IsPair, state_at, keys}
 use Rattle.rule_runs.specs.Frames.{AreFrames, AreStacked, keys_of, cost, AreNoting, IsClosing}
-use Rattle.rule_runs.specs.Notes.{AreKept, AreNotesFrom}
+use Rattle.rule_runs.specs.Notes.{AreNotesFrom}
+use Rattle.rule_runs.proofs.Keeping.{Keeps}
 use Rattle.rule_runs.proofs.rising.rise.Given as goal
 
 abbrev pub decreases-bodies : goal.decreases-bodies
@@ -23,7 +24,7 @@ invariant-bodies g l =
       reads : ReadsOnce A G (keys l.known ++ (key_of l.frame.pair ∷ keys_of (reverse l.frames.items))) (l.steps - l.fn.steps);
       closing : IsClosing A G l.known l.frame (reverse l.frames.items);
       counted : l.fn.steps ≤ l.steps;
-      kept : AreKept A G (keys l.known) l.bodies;
-      noted : AreNotesFrom A G (keys l.known) l.frame.left l.frame.pair.states.items (body_at G l.frame.pair.rule) l.notes.top;
-      outer : AreNoting A G (keys l.known) (key_of l.frame.pair) (reverse l.frames.items) l.notes.below;
+      kept : Keeps A G l.noted (keys l.known) l.bodies;
+      noted : IsTrue l.noted → AreNotesFrom A G (keys l.known) l.frame.left l.frame.pair.states.items (body_at G l.frame.pair.rule) l.notes.top;
+      outer : IsTrue l.noted → AreNoting A G (keys l.known) (key_of l.frame.pair) (reverse l.frames.items) l.notes.below;
     }

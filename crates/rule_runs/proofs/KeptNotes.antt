@@ -1,17 +1,17 @@
 -- Notes that are kept.
-use Rattle.std.proofs.Common.{◌≡◌, ◌<◌, ℕ, zero, suc, List, [], ◌∷◌, ◌++◌, length, set, reverse, take, drop, replicate, Option, Some, slice_get, slice_range, All, refl, sym, ap, ◌∙◌, arith, subst, ◌≤◌, ◌+◌, ◌-◌, sum_by, None, option_map, take_all}
-use Rattle.std.proofs.lemmas.List.{length-set, length-append, length-replicate, length-drop, map-append, map-set, take-append-le, drop-append-le}
+use Rattle.std.proofs.Common.{◌≡◌, ◌<◌, ℕ, zero, suc, List, [], ◌∷◌, ◌++◌, length, set, reverse, replicate, Option, Some, slice_get, slice_range, All, refl, sym, ap, ◌∙◌, arith, subst, ◌≤◌, ◌+◌, sum_by, None, option_map}
+use Rattle.std.proofs.lemmas.List.{length-set, length-append, length-replicate, map-append, map-set}
 use Rattle.std.proofs.lemmas.List.Elements.{All-head, All-set, All-tail, All-weaker}
 use Rattle.std.proofs.lemmas.List.Sums.{sum_by-append}
-use Rattle.std.proofs.Math.Seq.{drop-append_seam}
 use Rattle.slt_grammar.specs.Algebras.{Algebra}
 use Rattle.slt_grammar.specs.Grammars.{body_at}
 use Rattle.slt_grammar.specs.declared.rules.Rule.{Rule}
 use Rattle.rule_runs.specs.Reached.{RuleStates}
-use Rattle.rule_runs.specs.declared.kept.Span.{Span}
+use Rattle.rule_runs.specs.declared.span.Span.{Span}
 use Rattle.rule_runs.specs.declared.notes.Note.{Note}
 use Rattle.rule_runs.specs.Notes.{AreNotes, AreNoted, AreKept, HasBody, IsWithin, either, kept_of, unread}
 use Rattle.rule_runs.specs.Risen.{pair_at}
+use Rattle.rule_runs.proofs.Spans.{range-more, range-new, lies-more}
 
 pub set-there : {X : Type 0} (xs : List X) (j : ℕ) (x : X) → j < length xs → slice_get (set xs j x) j ≡ Some x
 set-there [] j x h = absurd (omega arith)
@@ -139,13 +139,6 @@ module _ {S : Type 0} (G : List Rule) where
   unread-some (k ∷ ks) (None ∷ ms) (suc j) h l n = omega (arith, unread-some ks ms j (omega arith) (omega arith) n)
   unread-some (k ∷ ks) (Some v ∷ ms) (suc j) h l n = unread-some ks ms j (omega arith) (omega arith) n
 
--- what stands in a list stands there still with more behind it
-range-more : {X : Type 0} (xs more : List X) (a b : ℕ) → a ≤ b → b ≤ length xs → slice_range (xs ++ more) a b ≡ slice_range xs a b
-range-more xs more a b h within = ap (take (b - a)) (drop-append-le a xs more (omega arith)) ∙ take-append-le (b - a) (drop a xs) more (omega (arith, length-drop a xs))
-
-range-new : {X : Type 0} (xs more : List X) → slice_range (xs ++ more) (length xs) (length xs + length more) ≡ more
-range-new xs more = ap (take (length xs + length more - length xs)) (drop-append_seam xs more) ∙ take_all (length xs + length more - length xs) more (omega arith)
-
 module _ {S : Type 0} (notes more : List (Note S)) where
   -- no body changes where notes are put behind those of all
   pub kept-more : (spans : List (Option Span)) → All (IsWithin (length notes)) spans → kept_of (notes ++ more) spans ≡ kept_of notes spans
@@ -193,7 +186,7 @@ within-more spans n m le h = All-weaker (IsWithin n) (IsWithin m) each spans h
   where
     each : (o : Option Span) → IsWithin n o → IsWithin m o
     each None h = tt
-    each (Some s) h = (h.0, omega (arith, h.1))
+    each (Some s) h = lies-more s n m le h
 
 pub within-read : (spans : List (Option Span)) (n m j : ℕ) (s : Span) → n ≤ m → s.begin ≡ n → s.end ≡ m → All (IsWithin n) spans → All (IsWithin m) (set spans j (Some s))
 within-read spans n m j s le b e h = All-set (IsWithin m) spans j (Some s) (omega arith, omega arith) (within-more spans n m le h)

@@ -2,6 +2,7 @@ pub mod Lists
 pub mod Sizes
 pub mod Entries
 pub mod Tables
+pub mod Spans
 pub mod Bodies
 pub mod Evaluation
 pub mod Closing

@@ -1,11 +1,11 @@
--- Tables keep what their indices tell, and find by it.
+-- Indices keep what they tell of entries.
 use Rattle.std.proofs.Common.{◌≡◌, ◌++◌, ◌<◌, ◌≤◌, ◌⊎◌, ◌∷◌, [], ℕ, zero, suc, Bool, true, false, List, Some, None, Option, Result, Ok, Err, OnOk, OnErr, Contains, get_or, length, slice_get, slice_set, refl, sym, ap, subst, ◌∙◌, inl, inr, arith, append_assoc, cond, is_ok}
 use Rattle.std.specs.Map.{lookup}
 use Rattle.std.specs.Cmp.{IsEquivalence}
-use Rattle.std.proofs.lemmas.List.{length-append, append-nil, get_or_default}
+use Rattle.std.proofs.lemmas.List.{length-append, append-nil}
 use Rattle.std.proofs.lemmas.List.Elements.{Contains-append_left, Contains-push}
 use Rattle.arrayvec.specs.ArrayVec.{ArrayVec}
-use Rattle.rule_runs.specs.Tables.{places_at, Grows, IsFound, IsTable}
+use Rattle.rule_runs.specs.Tables.{places_at, Grows, IsFound, IsIndexed, StandsIn}
 
 -- the places that are kept for a number
 pub places-past : (first : List (ArrayVec ℕ)) (number : ℕ) → length first ≤ number → places_at first number ≡ []
@@ -97,7 +97,7 @@ module _ {K X : Type 0} (test : K → Bool) where
   none-passes [] fails = refl
   none-passes (e ∷ es) fails = ap (λ b. cond b (Some e.1) (lookup test es)) (fails 0 e.0 e.1 refl) ∙ none-passes es (λ place. fails (suc place))
 
-push-cases : {X : Type 0} (xs : List X) (y : X) (i : ℕ) (x : X) → slice_get (xs ++ y ∷ []) i ≡ Some x → (slice_get xs i ≡ Some x) ⊎ ((i ≡ length xs) × (y ≡ x))
+pub push-cases : {X : Type 0} (xs : List X) (y : X) (i : ℕ) (x : X) → slice_get (xs ++ y ∷ []) i ≡ Some x → (slice_get xs i ≡ Some x) ⊎ ((i ≡ length xs) × (y ≡ x))
 push-cases [] y zero x e = inr (refl, (cc))
 push-cases [] y (suc i) x e = absurd (cc)
 push-cases (z ∷ zs) y zero x e = inl e
@@ -124,49 +124,55 @@ module _ {K : Type 0} (E : K → K → Bool) (number : K → ℕ) (few : ℕ) wh
         | inr s ↦ inr (s.0, u k ∙ ap (λ b. cond b (Some named) (lookup (E k) old)) e ∙ s.1)
       ]
 
-module _ {K X : Type 0} (E : K → K → Bool) (number : K → ℕ) (few : ℕ) where
-  -- indices that find what was found, but under a key that is not there
-  pub table-keeps : (es now : List (K × X)) (first first' : List (ArrayVec ℕ)) (others others' : List (K × ℕ)) (key : K) → es ≡ now → lookup (E key) now ≡ None
-      → ((place : ℕ) (k : K) → E key k ≡ false → IsFound E number few first others place k → IsFound E number few first' others' place k)
-      → IsTable E number few es first others → IsTable E number few es first' others'
-  table-keeps es now first first' others others' key view none keeps t =
-      record { finds = λ place k x at. keeps place k (fails-there (E key) es place k x (ap (lookup (E key)) view ∙ none) at) (t.finds place k x at) }
+  -- an equal key is found alike
+  pub found-same : IsEquivalence E → ((a b : K) → E a b ≡ true → number a ≡ number b) → (first : List (ArrayVec ℕ)) (others : List (K × ℕ)) (place : ℕ) (key k : K) → E key k ≡ true
+      → IsFound E number few first others place k → IsFound E number few first others place key
+  found-same laws one first others place key k same f =
+      let n : number k ≡ number key = sym (one key k same) in
+      elim f [
+        | inl c ↦ inl (subst (λ m. Contains (places_at first m) place) n c)
+        | inr s ↦ inr (subst (λ m. few ≤ length (places_at first m)) n s.0, (λ j. lookup (λ z. laws.congr key k z same j) others) ∙ s.1)
+      ]
 
-  -- an entry at the end, whose place is found
-  pub table-push : (es : List (K × X)) (first : List (ArrayVec ℕ)) (others : List (K × ℕ)) (key : K) (value : X) → IsFound E number few first others (length es) key
-      → IsTable E number few es first others → IsTable E number few (es ++ (key, value) ∷ []) first others
-  table-push es first others key value f t =
+  -- an index that finds what was found, but under a key that is not there
+  pub indexed-keeps : (Stands : ℕ → K → Type 0) (first first' : List (ArrayVec ℕ)) (others others' : List (K × ℕ)) (key : K) → ((place : ℕ) (k : K) → Stands place k → E key k ≡ false)
+      → ((place : ℕ) (k : K) → E key k ≡ false → IsFound E number few first others place k → IsFound E number few first' others' place k)
+      → IsIndexed E number few Stands first others → IsIndexed E number few Stands first' others'
+  indexed-keeps Stands first first' others others' key absent keeps t =
+      record { finds = λ place k s. keeps place k (absent place k s) (t.finds place k s) }
+
+  -- one entry more, whose place is found
+  pub indexed-more : IsEquivalence E → ((a b : K) → E a b ≡ true → number a ≡ number b) → (Stands More : ℕ → K → Type 0) (first : List (ArrayVec ℕ)) (others : List (K × ℕ)) (key : K) (place : ℕ)
+      → ((at : ℕ) (k : K) → More at k → Stands at k ⊎ ((at ≡ place) × (E k key ≡ true))) → IsFound E number few first others place key
+      → IsIndexed E number few Stands first others → IsIndexed E number few More first others
+  indexed-more laws one Stands More first others key place cases f t =
       record {
-        finds = λ place k x at.
-            elim (push-cases es (key, value) place (k, x) at) [
-              | inl a ↦ t.finds place k x a
-              | inr p ↦
-                  let q : key ≡ k = ap (λ (e : K × X). e.0) p.1 in
-                  subst (λ n. IsFound E number few first others n k) (sym p.0) (subst (λ y. IsFound E number few first others (length es) y) q f)
+        finds = λ at k m.
+            elim (cases at k m) [
+              | inl s ↦ t.finds at k s
+              | inr p ↦ subst (λ n. IsFound E number few first others n k) (sym p.0) (found-same laws one first others place k key p.1 f)
             ];
       }
 
-  -- a key that is nowhere where the indices tell to look
-  module _ (laws : IsEquivalence E) (one : (a b : K) → E a b ≡ true → number a ≡ number b) (es now : List (K × X)) (first : List (ArrayVec ℕ)) (others : List (K × ℕ)) (key : K) (n : ℕ) (places : List ℕ)
-      (view : es ≡ now) (t : IsTable E number few es first others) (its : n ≡ number key) (kept : places ≡ places_at first n)
-      (apart : (i : ℕ) → i < length places → (k : K) (x : X) → slice_get now (get_or places i 0) ≡ Some (k, x) → E key k ≡ false)
-      (beyond : few ≤ length places → (place : ℕ) → lookup (E key) others ≡ Some place → (k : K) (x : X) → slice_get es place ≡ Some (k, x) → E key k ≡ false) where
-    elsewhere : (place : ℕ) (k : K) (x : X) → slice_get es place ≡ Some (k, x) → E key k ≡ true → IsFound E number few first others place k → E key k ≡ false
-    elsewhere place k x at same f =
-        let same_places : places_at first (number k) ≡ places = ap (places_at first) (sym (its ∙ one key k same)) ∙ sym kept in
-        elim f [
-          | inl c ↦
-              let d : Contains places place = subst (λ xs. Contains xs place) same_places c in
-              apart d.0 d.1 k x (ap (slice_get now) (get_or_default places d.0 0 place d.1 ∙ d.2) ∙ ap (λ es. slice_get es place) (sym view) ∙ at)
-          | inr s ↦
-              let l : few ≤ length places = subst (λ xs. few ≤ length xs) same_places s.0 in
-              let e : lookup (E key) others ≡ Some place = (λ j. lookup (λ z. laws.congr key k z same j) others) ∙ s.1 in
-              beyond l place e k x at
-        ]
+module _ {K X : Type 0} (E : K → K → Bool) where
+  -- no entry stands under a key that is nowhere
+  pub stands-apart : (es now : List (K × X)) (key : K) → es ≡ now → lookup (E key) now ≡ None → (place : ℕ) (k : K) → StandsIn es place k → E key k ≡ false
+  stands-apart es now key view none place k s = fails-there (E key) es place k s.0 (ap (lookup (E key)) view ∙ none) s.1
 
+  -- an entry at the end
+  pub stands-push : IsEquivalence E → (es : List (K × X)) (key : K) (value : X) (at : ℕ) (k : K) → StandsIn (es ++ (key, value) ∷ []) at k → StandsIn es at k ⊎ ((at ≡ length es) × (E k key ≡ true))
+  stands-push laws es key value at k s =
+      elim (push-cases es (key, value) at (k, s.0) s.1) [
+        | inl a ↦ inl (s.0, a)
+        | inr p ↦ inr (p.0, subst (λ y. E y key ≡ true) (ap (λ (e : K × X). e.0) p.1) (laws.refl key))
+      ]
+
+  -- a key that is nowhere where the index tells to look
+  module _ (number : K → ℕ) (few : ℕ) (laws : IsEquivalence E) (one : (a b : K) → E a b ≡ true → number a ≡ number b) (es : List (K × X)) (first : List (ArrayVec ℕ)) (others : List (K × ℕ)) (key : K)
+      (t : IsIndexed E number few (StandsIn es) first others) (apart : (place : ℕ) → IsFound E number few first others place key → (k : K) (x : X) → slice_get es place ≡ Some (k, x) → E key k ≡ false) where
     by : (place : ℕ) (k : K) (x : X) → slice_get es place ≡ Some (k, x) → (b : Bool) → E key k ≡ b → E key k ≡ false
-    by place k x at true e = elsewhere place k x at e (t.finds place k x at)
+    by place k x at true e = apart place (found-same E number few laws one first others place key k e (t.finds place k (x, at))) k x at
     by place k x at false e = e
 
-    pub table-absent : lookup (E key) now ≡ None
-    table-absent = ap (lookup (E key)) (sym view) ∙ none-passes (E key) es (λ place k x at. by place k x at (E key k) refl)
+    pub table-absent : lookup (E key) es ≡ None
+    table-absent = none-passes (E key) es (λ place k x at. by place k x at (E key k) refl)

@@ -12,3 +12,4 @@ pub mod Notes
 pub mod Layers
 pub mod Descents
 pub mod Answering
+pub mod Spans

@@ -8,7 +8,8 @@ use Rattle.slt_grammar.specs.Grammars.{body_at}
 use Rattle.rule_runs.specs.Reached.{RuleStates, states_of}
 use Rattle.rule_runs.specs.Risen.{IsRun, Risen, keys as keys_in, pair_at}
 use Rattle.slt_grammar.specs.declared.rules.Rule.{Rule}
-use Rattle.rule_runs.specs.declared.kept.Span.{Span}
+use Rattle.rule_runs.specs.Spans.{LiesWithin}
+use Rattle.rule_runs.specs.declared.span.Span.{Span}
 use Rattle.rule_runs.specs.declared.notes.Note.{Note}
 use Rattle.rule_runs.specs.declared.notes.Note.TheVariants.{Bottom as NoteBottom, Param as NoteParam, Symbol as NoteSymbol, Call as NoteCall}
 
@@ -71,4 +72,4 @@ kept_of notes spans = map (option_map (λ span. slice_range notes span.begin spa
 
 -- a body's notes stand among so many
 abbrev pub IsWithin : ℕ → Option Span → Type 0
-IsWithin count o = IfSome o (λ span. (span.begin ≤ span.end) × (span.end ≤ count))
+IsWithin count o = IfSome o (LiesWithin count)

@@ -1,4 +1,4 @@
--- What the indices of a table tell of its entries.
+-- What an index tells of entries.
 use Rattle.std.specs.Prelude.{◌≡◌, ◌++◌, ◌≤◌, ◌⊎◌, ℕ, zero, suc, Bool, List, [], ◌∷◌, Some, Contains, length, slice_get}
 use Rattle.std.specs.Map.{lookup}
 use Rattle.arrayvec.specs.ArrayVec.{ArrayVec}
@@ -18,6 +18,10 @@ abbrev pub IsFound : {K : Type 0} → (K → K → Bool) → (K → ℕ) → ℕ
 IsFound E number few first others place k =
     Contains (places_at first (number k)) place ⊎ ((few ≤ length (places_at first (number k))) × (lookup (E k) others ≡ Some place))
 
+-- the entry at a place stands under this key
+abbrev pub StandsIn : {K X : Type 0} → List (K × X) → ℕ → K → Type 0
+StandsIn {X = X} entries place k = (x : X) × (slice_get entries place ≡ Some (k, x))
+
 -- each entry's place is found by its key
-pub record IsTable {K X : Type 0} (E : K → K → Bool) (number : K → ℕ) (few : ℕ) (entries : List (K × X)) (first : List (ArrayVec ℕ)) (others : List (K × ℕ)) : Type 0 where
-  pub finds : (place : ℕ) (k : K) (x : X) → slice_get entries place ≡ Some (k, x) → IsFound E number few first others place k
+pub record IsIndexed {K : Type 0} (E : K → K → Bool) (number : K → ℕ) (few : ℕ) (Stands : ℕ → K → Type 0) (first : List (ArrayVec ℕ)) (others : List (K × ℕ)) : Type 0 where
+  pub finds : (place : ℕ) (k : K) → Stands place k → IsFound E number few first others place k

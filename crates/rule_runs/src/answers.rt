@@ -35,7 +35,7 @@ impl<'a> Answers<'a> {
         let mut levels = Vec::new(alloc);
         if let Some(list) = fallen.whole.list {
             levels.push(Level {
-                list,
+                list: list as usize,
                 next: 0,
                 from: 0,
             })?;

@@ -72,11 +72,11 @@ pub(crate) fn begin<A: Falling, L: Ledger>(
     // The call tells that the rules are a grammar.
     let _rules = grammar.rules();
     let left = read(alloc, automaton, grammar, risen, bodies, spot.pair, steps)?;
-    let Some(pair) = risen.known.pair(spot.pair) else {
+    let Some((_, states)) = risen.known.pair(spot.pair) else {
         unreachable!()
     };
     // Each parameter is handed a down state once.
-    let handed = Vec::with_capacity(alloc, pair.states.len())?;
+    let handed = Vec::with_capacity(alloc, states.len())?;
     marks.push(Mark::Term(spot.down.copy()?))?;
     Ok(Descent {
         spot,
@@ -131,11 +131,15 @@ pub(crate) fn descend<A: Falling>(
                 descent.outcome.handed.push(Handed { before, down })?;
             }
             Note::Symbol(symbol, kids, rest) => {
-                let fell = automaton.step(*symbol, &down, kids, rest)?;
-                enter_symbol(marks, &mut descent.here, *symbol, fell, lists.are_kept())?;
+                let symbol = *symbol as usize;
+                let fell = automaton.step(symbol, &down, kids, rest)?;
+                enter_symbol(marks, &mut descent.here, symbol, fell, lists.are_kept())?;
             }
             Note::Call(pair) => {
-                let spot = Spot { pair: *pair, down };
+                let spot = Spot {
+                    pair: *pair as usize,
+                    down,
+                };
                 match known.find(&spot) {
                     Some(outcome) => enter_call(marks, &mut descent.here, outcome)?,
                     None => return Ok(Some(spot)),

@@ -58,7 +58,8 @@ impl FallTable {
 ///
 /// What the grammar stands for has at most 2^63 - 1 nodes that aren't bottom. Each pair of a rule and states of its arguments that the
 /// run meets is read once for all its down states, with at most two steps a node, whatever is answered; where `spent` tells a down state
-/// from which nothing is hit, no call at that state is entered. It fails where memory is refused.
+/// from which nothing is hit, no call at that state is entered. It fails where memory is refused, as it is for lists of more than 2^32
+/// notes, spots or lists of hits.
 pub fn fall<A: Falling, L: Ledger>(
     alloc: Global,
     grammar: &Grammar,

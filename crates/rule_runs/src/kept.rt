@@ -4,28 +4,21 @@ ghost use Rattle.slt_grammar.specs.Algebras.{Algebra};
 ghost use Rattle.slt_grammar.specs.Grammars.{body_at};
 ghost use Rattle.slt_grammar.specs.Keyed.{rules_of};
 ghost use Rattle.slt_grammar.specs.declared.rules.Rule.{Rule};
-ghost use Rattle.rule_runs.specs.Entries.{key_of};
 ghost use Rattle.rule_runs.specs.Notes.{AreKept, AreNoted, AreNotes, HasBody, unread};
 ghost use Rattle.rule_runs.specs.Reached.{RuleStates};
 ghost use Rattle.rule_runs.specs.Risen.{AreKnown, IsPair, IsRun, keys, pair_at, state_at};
 
 use crate::body::append_body;
 use crate::layers::Layers;
-use crate::memo::{Memo, Pair};
+use crate::memo::Memo;
 use crate::notes::{Note, note_labels};
 use crate::rising::RiseTable;
+use crate::span::Span;
 use read_steps::Steps;
 use slt_grammar::{Grammar, Label, Rising};
 use std::alloc::{AllocError, Global};
 use std::marker::Model;
 use std::sync::ledger::Ledger;
-
-// Where the notes of a body stand among those of all.
-#[derive(Clone, Copy, Drop)]
-pub(crate) struct Span {
-    begin: usize,
-    end: usize,
-}
 
 // For each pair of the table of a run upward the notes of its body, the last node first, where they are kept. It is seen as the list
 // of these.
@@ -33,6 +26,7 @@ pub(crate) struct Span {
 pub(crate) struct Bodies<S: Drop> {
     // The notes of all bodies in the order in which they were noted, so that a body takes no memory of its own.
     notes: Vec<Note<S>>,
+    // Where those of each body stand.
     spans: Vec<Option<Span>>,
 }
 
@@ -79,7 +73,7 @@ impl<S: Drop> Bodies<S> {
         ensures none { IfNone result (HasBody self.now pair → ⊥) }
     {
         match self.spans.get(pair) {
-            Some(Some(span)) => Some(&self.notes[span.begin..span.end]),
+            Some(Some(span)) => Some(span.of(&self.notes)),
             _ => None,
         }
     }
@@ -99,10 +93,8 @@ impl<S: Drop> Bodies<S> {
         }
         let begin = self.notes.len();
         notes.empty_into(&mut self.notes)?;
-        self.spans.push(Some(Span {
-            begin,
-            end: self.notes.len(),
-        }))?;
+        let span = Span::new(begin, self.notes.len())?;
+        self.spans.push(Some(span))?;
         Ok(())
     }
 }
@@ -166,18 +158,18 @@ fn note_body<A: Rising>(
     automaton: &A,
     grammar: &Grammar,
     known: &Memo<A::State>,
-    met: &Pair<A::State>,
+    met: (usize, &[A::State]),
     labels: &Vec<Label>,
     states: &mut Vec<A::State>,
     bodies: &mut Bodies<A::State>,
     pair: usize,
 ) -> Result<(), AllocError>
     requires right { All (λ e. e.1 ≡ state_at (A.algebra automaton.now) (rules_of grammar.now.rules) e.0) known.now }
-    requires met { IsPair (rules_of grammar.now.rules) (key_of met.now) }
-    requires closed { AreKnown (A.algebra automaton.now) (rules_of grammar.now.rules) known.now (key_of met.now) 0 }
-    requires labels { labels.now.items ≡ body_at (rules_of grammar.now.rules) met.now.rule }
+    requires met { IsPair (rules_of grammar.now.rules) (met.0, met.1.now) }
+    requires closed { AreKnown (A.algebra automaton.now) (rules_of grammar.now.rules) known.now (met.0, met.1.now) 0 }
+    requires labels { labels.now.items ≡ body_at (rules_of grammar.now.rules) met.0 }
     requires there { pair < length bodies.old }
-    ensures noted { OnOk result ((notes : List (Note A.State)) × (bodies.new ≡ set bodies.old pair (Some notes)) × AreNotes (A.algebra automaton.now) (rules_of grammar.now.rules) (keys known.now) met.now.states.items labels.now.items (reverse notes)) }
+    ensures noted { OnOk result ((notes : List (Note A.State)) × (bodies.new ≡ set bodies.old pair (Some notes)) × AreNotes (A.algebra automaton.now) (rules_of grammar.now.rules) (keys known.now) met.entry.1.now labels.now.items (reverse notes)) }
     ensures stays { OnErr result (bodies.new ≡ bodies.old) }
 {
     let begin = bodies.notes.len();
@@ -191,10 +183,8 @@ fn note_body<A: Rising>(
         states,
         &mut bodies.notes,
     )?;
-    bodies.spans[pair] = Some(Span {
-        begin,
-        end: bodies.notes.len(),
-    });
+    let span = Span::new(begin, bodies.notes.len())?;
+    bodies.spans[pair] = Some(span);
     Ok(())
 }
 
@@ -229,7 +219,7 @@ pub(crate) fn read<A: Rising, L: Ledger>(
         unreachable!()
     };
     bodies.labels.clear();
-    append_body(grammar, met.rule, &mut bodies.labels, steps)?;
+    append_body(grammar, met.0, &mut bodies.labels, steps)?;
     note_body(
         alloc,
         automaton,

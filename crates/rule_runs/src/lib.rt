@@ -10,7 +10,8 @@
 //! Downward: `falling` runs over the bodies of `descent`, which `kept` has as their `notes`, with what is open in `layers`, and keeps in
 //! `spots` what each was found to be, as stretches of nodes (`told`). At a down state from which nothing is hit, `spent` tells that by
 //! counts. `listing` tells a list that is made of earlier lists, for `answers`.
-//! Under `memo` and `spots` is a `table`, which finds most of its keys by a number and without a hash.
+//! What `memo` and `kept` have of each pair stands in lists that all pairs share, at a `span`; a `place` in a list has 32 bits. `memo`, and
+//! the `table` under `spots`, have an `index`, which finds most of its keys by a number and without a hash.
 //!
 //! `specs/Reached.antt` says which pairs and triples a run meets. Counts tell that a value is small enough for `fall`, by the lemma
 //! `nodes-weigh` of `proofs/Sizes.antt`; a hit's symbol tells its node's kind and name, by `document-symbol` of `proofs/Symbols.antt`.
@@ -22,13 +23,16 @@ mod calls;
 mod descent;
 mod falling;
 mod frame;
+mod index;
 mod kept;
 mod layers;
 mod listing;
 mod memo;
 mod notes;
 mod one_state;
+mod place;
 mod rising;
+mod span;
 mod spent;
 mod spots;
 mod stack;

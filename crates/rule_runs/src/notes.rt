@@ -11,6 +11,7 @@ ghost use Rattle.rule_runs.specs.Notes.{NoteIs, AreNotes};
 
 use crate::calls::{Called, take_call};
 use crate::memo::{Memo, Pair};
+use crate::place::short;
 use crate::stack::{copy_at, pop_two};
 use slt_grammar::{Grammar, Label, Rising, RunState};
 use std::alloc::{AllocError, Global};
@@ -20,8 +21,8 @@ use std::alloc::{AllocError, Global};
 pub(crate) enum Note<S: Drop> {
     Bottom,
     Param,
-    Symbol(usize, S, S),
-    Call(usize),
+    Symbol(u32, S, S),
+    Call(u32),
 }
 
 // What there is of a label: its note, or the pair of a call whose state is not known.
@@ -54,12 +55,13 @@ pub(crate) fn note_label<A: Rising>(
         Label::Symbol(symbol) => {
             let (kids, rest) = pop_two(stack);
             stack.push(automaton.node(symbol, &kids, &rest)?)?;
-            Ok(Noted::Known(Note::Symbol(symbol, kids, rest)))
+            Ok(Noted::Known(Note::Symbol(short(symbol)?, kids, rest)))
         }
         Label::Call(rule) => match take_call(alloc, grammar, known, rule, stack)? {
             Called::Known(place, state) => {
+                let noted = short(place)?;
                 stack.push(state)?;
-                Ok(Noted::Known(Note::Call(place)))
+                Ok(Noted::Known(Note::Call(noted)))
             }
             Called::Unknown(pair) => Ok(Noted::Unknown(pair)),
         },
@@ -76,29 +78,30 @@ pub(crate) fn note_labels<A: Rising>(
     automaton: &A,
     grammar: &Grammar,
     known: &Memo<A::State>,
-    pair: &Pair<A::State>,
+    pair: (usize, &[A::State]),
     labels: &Vec<Label>,
     stack: &mut Vec<A::State>,
     notes: &mut Vec<Note<A::State>>,
 ) -> Result<(), AllocError>
     requires right { All (λ e. e.1 ≡ state_at (A.algebra automaton.now) (rules_of grammar.now.rules) e.0) known.now }
-    requires pair { IsPair (rules_of grammar.now.rules) (key_of pair.now) }
-    requires closed { AreKnown (A.algebra automaton.now) (rules_of grammar.now.rules) known.now (key_of pair.now) 0 }
-    requires labels { labels.now.items ≡ body_at (rules_of grammar.now.rules) pair.now.rule }
-    ensures { (more : List (Note A.State)) × (notes.new.items ≡ notes.old.items ++ more) × OnOk result (AreNotes (A.algebra automaton.now) (rules_of grammar.now.rules) (keys known.now) pair.now.states.items labels.now.items (reverse more)) }
+    requires pair { IsPair (rules_of grammar.now.rules) (pair.0, pair.1.now) }
+    requires closed { AreKnown (A.algebra automaton.now) (rules_of grammar.now.rules) known.now (pair.0, pair.1.now) 0 }
+    requires labels { labels.now.items ≡ body_at (rules_of grammar.now.rules) pair.0 }
+    ensures { (more : List (Note A.State)) × (notes.new.items ≡ notes.old.items ++ more) × OnOk result (AreNotes (A.algebra automaton.now) (rules_of grammar.now.rules) (keys known.now) pair.entry.1.now labels.now.items (reverse more)) }
 {
     // The call tells that the rules are a grammar.
     let _rules = grammar.rules();
+    let (_, states) = pair;
     notes.reserve(labels.len())?;
     stack.clear();
-    let mut waiting = pair.states.len();
+    let mut waiting = states.len();
     let mut left = labels.len();
     'labels: while left > 0 {
         left -= 1;
         let label = labels[left];
         if let Label::Param = label {
             waiting -= 1;
-            stack.push(copy_at(&pair.states, waiting)?)?;
+            stack.push(copy_at(states, waiting)?)?;
             notes.push(Note::Param)?;
         } else {
             match note_label(alloc, automaton, grammar, known, label, stack)? {

@@ -1,5 +1,5 @@
 // Runs upward of automata that tell no nodes apart, such as the selectors of queries without filters.
-ghost use Rattle.std.specs.Prelude.{◌≡◌, [], length, replicate, sum_by, IfOk};
+ghost use Rattle.std.specs.Prelude.{◌≡◌, [], length, replicate, sum_by, IfOk, OnOk};
 ghost use Rattle.slt_grammar.specs.Grammars.{IsSwept, body_at, value, whole};
 ghost use Rattle.slt_grammar.specs.Keyed.{rules_of};
 ghost use Rattle.slt_grammar.specs.OneState.{HasOneState};
@@ -17,7 +17,7 @@ use std::alloc::{AllocError, Global};
 /// what `rise` answers, with the pairs in another order, and it reads no node.
 ///
 /// Each rule is met with one list of argument states, that of bottoms, so the bodies of all pairs have as many nodes as the rules
-/// (`nodes`). It fails where memory is refused.
+/// (`nodes`). It fails where memory is refused, as it is for lists of more than 2^32 pairs or states.
 pub fn rise_in_one_state<A: Rising>(
     alloc: Global,
     grammar: &Grammar,
@@ -31,9 +31,14 @@ pub fn rise_in_one_state<A: Rising>(
 {
     let rules = grammar.rules();
     let mut known = Memo::with_room(alloc, rules)?;
+    let mut pair = Pair {
+        rule: 0,
+        states: Vec::new(alloc),
+    };
     'rules: for rule in 0..rules {
-        let states = bottoms(alloc, automaton, grammar.rank(rule))?;
-        known.note(Pair { rule, states }, automaton.bottom()?)?;
+        pair.rule = rule;
+        fill(automaton, grammar.rank(rule), &mut pair.states)?;
+        known.note(&mut pair, automaton.bottom()?)?;
     }
     Ok(RiseTable {
         known,
@@ -42,17 +47,17 @@ pub fn rise_in_one_state<A: Rising>(
     })
 }
 
-// So many states of bottom.
-fn bottoms<A: Rising>(
-    alloc: Global,
+// Makes a list one of so many states of bottom.
+fn fill<A: Rising>(
     automaton: &A,
     count: usize,
-) -> Result<Vec<A::State>, AllocError>
-    ensures { IfOk result (λ states. states.items ≡ replicate count (A.algebra automaton.now).bottom) }
+    states: &mut Vec<A::State>,
+) -> Result<(), AllocError>
+    ensures { OnOk result (states.new.items ≡ replicate count (A.algebra automaton.now).bottom) }
 {
-    let mut states = Vec::with_capacity(alloc, count)?;
+    states.clear();
     'states: for _i in 0..count {
         states.push(automaton.bottom()?)?;
     }
-    Ok(states)
+    Ok(())
 }

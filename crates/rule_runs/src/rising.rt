@@ -11,6 +11,7 @@ use crate::kept::Bodies;
 use crate::layers::Layers;
 use crate::memo::{Memo, Pair};
 use crate::notes::Note;
+use crate::place::short;
 use read_steps::Steps;
 use slt_grammar::{Grammar, Rising, RunState};
 use std::alloc::{AllocError, Global};
@@ -48,7 +49,8 @@ impl<A: Rising> RiseTable<A> {
 ///
 /// Each pair of a rule and states of its arguments that the run meets is read once, with at most two steps a node, whatever is
 /// answered. Where `noted` is asked for, the bodies are noted as they are read, so that a run downward reads none of them again: that
-/// takes some words for each node, in vain where nothing runs downward. It fails where memory is refused.
+/// takes some words for each node, in vain where nothing runs downward. It fails where memory is refused, as it is for lists of more than
+/// 2^32 pairs, states or notes.
 pub fn rise<A: Rising, L: Ledger>(
     alloc: Global,
     grammar: &Grammar,
@@ -95,16 +97,16 @@ pub fn rise<A: Rising, L: Ledger>(
                 match frames.pop() {
                     None => {
                         let top = state.copy()?;
-                        known.note(frame.pair, state)?;
+                        known.note(&mut frame.pair, state)?;
                         return Ok(RiseTable { known, top, bodies });
                     }
                     Some(below) => {
                         stack.push(state.copy()?)?;
                         notes.close();
-                        put_note(&mut notes, noted, Note::Call(known.len()))?;
-                        let done = frame;
+                        let place = short(known.len())?;
+                        put_note(&mut notes, noted, Note::Call(place))?;
+                        known.note(&mut frame.pair, state)?;
                         frame = below;
-                        known.note(done.pair, state)?;
                     }
                 }
             }

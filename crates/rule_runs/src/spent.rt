@@ -60,19 +60,19 @@ pub(crate) fn spent_outcome<A: Falling>(
     if spot.down != spent.down {
         return Ok(None);
     }
-    let Some(pair) = risen.known.pair(spot.pair) else {
+    let Some((rule, _)) = risen.known.pair(spot.pair) else {
         unreachable!()
     };
-    let rank = grammar.rank(pair.rule);
+    let rank = grammar.rank(rule);
     let mut handed = Vec::with_capacity(alloc, rank)?;
     'segments: for segment in 0..rank {
         handed.push(Handed {
-            before: spent.told(pair.rule, segment),
+            before: spent.told(rule, segment),
             down: spent.down.copy()?,
         })?;
     }
     Ok(Some(Outcome {
         handed,
-        last: spent.told(pair.rule, rank),
+        last: spent.told(rule, rank),
     }))
 }

@@ -1,7 +1,8 @@
 // What a run downward knows of pairs at down states of their roots.
 ghost use Rattle.std.specs.Prelude.{◌≡◌, ◌≢◌, ◌++◌, [], ◌∷◌, slice_get, Some, IfSome, IfNone, OnOk, Contains, All, IfOk};
 
-use crate::table::{Numbered, Table};
+use crate::index::Numbered;
+use crate::table::Table;
 use crate::told::Told;
 use slt_grammar::RunState;
 use std::alloc::{AllocError, Global};

@@ -9,9 +9,9 @@ use slt_grammar::{Grammar, Label, RunState};
 use std::alloc::{AllocError, Global};
 
 // One of the states again.
-pub(crate) fn copy_at<S: RunState>(states: &Vec<S>, at: usize) -> Result<S, AllocError>
-    requires { at < vec_len states.now }
-    ensures { IfOk result (λ state. state ≡ get_or states.now.items at state) }
+pub(crate) fn copy_at<S: RunState>(states: &[S], at: usize) -> Result<S, AllocError>
+    requires { at < length states.now }
+    ensures { IfOk result (λ state. state ≡ get_or states.now at state) }
 {
     states[at].copy()
 }
@@ -44,9 +44,9 @@ fn pop_many<S: Drop>(alloc: Global, stack: &mut Vec<S>, count: usize) -> Result<
 }
 
 // Whether these are the topmost states, so many, the topmost first.
-pub(crate) fn are_topmost<S: RunState>(states: &Vec<S>, count: usize, stack: &Vec<S>) -> bool
+pub(crate) fn are_topmost<S: RunState>(states: &[S], count: usize, stack: &Vec<S>) -> bool
     requires { count ≤ vec_len stack.now }
-    ensures { result ≡ true → states.now.items ≡ take count (reverse stack.now.items) }
+    ensures { result ≡ true → states.now ≡ take count (reverse stack.now.items) }
 {
     if states.len() != count {
         return false;

@@ -1,4 +1,4 @@
-use Rattle.std.proofs.Common.{◌∙◌, ◌≡◌, ◌≤◌, ◌++◌, sym, ap, arith, subst, drop, reverse}
+use Rattle.std.proofs.Common.{◌∙◌, ◌≡◌, ◌≤◌, ◌-◌, ◌++◌, length, get_or, sym, ap, arith, subst, drop, reverse}
 use Rattle.slt_grammar.specs.Keyed.{rules_of}
 use Rattle.slt_grammar.proofs.KeyedLemmas.{length-rules_of}
 use Rattle.rule_runs.specs.Entries.{key_of}
@@ -34,7 +34,8 @@ copy_at-requires g c =
     let f = c.nodes.frame in
     let stands = c.nodes.invariant.stands in
     let next = label-next G f c.nodes-test.true stands.evaluated.within c.nodes.labels.items c.pop.new.self.items c.requires.labels.0 c.in-Some.label c.in-Some.ensures.items (c.nodes.invariant.labels c.requires.labels.0 c.requires.labels.1) in
-    (param-left A G c.rules-rules.ensures.grammar f stands c.nodes-test.true c.in-Some.label next.0 c.in-Param.is).1
+    let p = (param-left A G c.rules-rules.ensures.grammar f stands c.nodes-test.true c.in-Some.label next.0 c.in-Param.is).1 in
+    omega (arith, p, ap length c.deref.ensures.value, f.pair.states.ok.0)
 
 pub nodes-preserved-in_ok-put_note : goal.nodes-preserved-in_ok-put_note
 nodes-preserved-in_ok-put_note g c =
@@ -47,9 +48,10 @@ nodes-preserved-in_ok-put_note g c =
     let l = c.in-Some.label in
     let is = (label-next G f more stands.evaluated.within c.nodes.labels.items c.pop.new.self.items c.requires.labels.0 l c.in-Some.ensures.items (c.nodes.invariant.labels c.requires.labels.0 c.requires.labels.1)).0 in
     let s = c.in_ok-copy_at.field-0 in
+    let taken = c.in_ok-copy_at.ensures ∙ ap (λ xs. get_or xs (f.waiting - 1) s) c.deref.ensures.value in
     record {
-      stands = param-stands A G grammar f stands more l s is c.in-Param.is c.in_ok-copy_at.ensures;
-      states = λ others on_top. param-own A G grammar f stands more l s c.nodes.stack.items c.push.new.self.items others is c.in-Param.is c.in_ok-copy_at.ensures c.in_ok-push.ensures.items (c.nodes.invariant.states others on_top);
+      stands = param-stands A G grammar f stands more l s is c.in-Param.is taken;
+      states = λ others on_top. param-own A G grammar f stands more l s c.nodes.stack.items c.push.new.self.items others is c.in-Param.is taken c.in_ok-push.ensures.items (c.nodes.invariant.states others on_top);
       labels = label-taken G f more stands.evaluated.within _ _ c.nodes.labels.items c.pop.new.self.items l c.in-Some.ensures.items c.nodes.invariant.labels;
       closed = frame-front A G grammar f stands more c.args.known.now l is c.nodes.invariant.closed (λ q e. let p = c.in-Param.is in absurd (cc));
       noted = λ t. rw (c.in_ok-put_note.ensures.top t) (frame-param A G grammar f stands more (keys c.args.known.now) l is c.nodes.notes.top (c.nodes.invariant.noted t) c.in-Param.is);

@@ -23,8 +23,8 @@ returns-in_ok-push-in-Known-clause-note g c = λ note e.
     let G = rules_of c.args.grammar.now.rules in
     let call = c.in_ok-place-in-Call.ensures.known c.in-Known.place c.in-Known.state c.in-Known.is in
     let f = slice_get-map (λ e. e.0) c.args.known.now c.in-Known.place _ call.there in
-    let k : NoteCall c.in-Known.place ≡ note = cc in
-    subst (λ n. NoteIs A G (keys c.args.known.now) c.args.label (reverse c.args.stack.now.items) n) k (rw (c.in-Call.is, rank_at-ranks_of G c.in-Call.rule) f)
+    let k : NoteCall c.in_ok-noted-in-Known.noted ≡ note = cc in
+    subst (λ n. NoteIs A G (keys c.args.known.now) c.args.label (reverse c.args.stack.now.items) n) k (rw (c.in_ok-noted-in-Known.ensures, c.in-Call.is, rank_at-ranks_of G c.in-Call.rule) f)
 
 pub returns-in-Unknown-clause-new : goal.returns-in-Unknown-clause-new
 returns-in-Unknown-clause-new g c = λ pair e.

@@ -1,15 +1,16 @@
 use Rattle.rule_runs.proofs.Closing.{known-end, closing-begin, closing-return}
 use Rattle.std.proofs.lemmas.List.Elements.{All-append, All-nil}
-use Rattle.std.proofs.Common.{◌∙◌, ◌≡◌, ◌≢◌, ◌-◌, ◌+◌, ◌++◌, ◌∷◌, List, IsTrue, Some, ap, sym, arith, [], reverse, length, get_or, slice_get}
+use Rattle.std.proofs.Common.{◌∙◌, ◌≡◌, ◌≢◌, ◌-◌, ◌+◌, ◌++◌, ◌∷◌, List, IsTrue, Some, ap, sym, arith, [], reverse, length, get_or, slice_get, sum_by}
 use Rattle.slt_grammar.specs.Keyed.{rules_of}
 use Rattle.rule_runs.specs.Reached.{RuleStates, ReadsOnce}
 use Rattle.slt_grammar.proofs.KeyedLemmas.{length-rules_of}
 use Rattle.rule_runs.specs.Entries.{key_of}
 use Rattle.rule_runs.specs.Risen.{IsPair, state_at, keys, AreKnown}
-use Rattle.rule_runs.specs.Frames.{AreFrames, AreNoting, keys_of}
+use Rattle.rule_runs.specs.Frames.{AreFrames, AreNoting, cost, keys_of}
 use Rattle.rule_runs.proofs.Lists.{reverse-push, empty_reverse, all-one, all-unmap, distinct-apart}
 use Rattle.rule_runs.proofs.Once.{frames-stands, reads-more, reads-start, frames-begin, stacked-start, stacked-begin, stacked-return, keys-return, start-pair, top-state, run-whole, cost-begin}
 use Rattle.std.proofs.lemmas.List.{length-map, map-append}
+use Rattle.std.proofs.lemmas.List.Sums.{sum_by-cons}
 use Rattle.rule_arena.proofs.PreorderLemmas.{slice_get-right}
 use Rattle.slt_grammar.specs.Grammars.{body_at}
 use Rattle.slt_grammar.specs.declared.rules.Rule.{Rule}
@@ -173,8 +174,8 @@ bodies-preserved g c =
     let ended = c.in_ok-pair.ensures.noted c.in-Done.state c.in-Done.is in
     let awaited : IsTrue c.args.noted → AreNoting A G ks k (c.in-Some.below ∷ reverse c.pop.new.self.items) mss = rw e at c.bodies.invariant.outer in
     let o = λ (t : IsTrue c.args.noted). noting-more A G ks (k ∷ []) k (c.in-Some.below ∷ reverse c.pop.new.self.items) mss (awaited t) in
-    let last : c.len.result ≡ length ks + 0 = omega (arith, c.len.ensures, length-map c.bodies.known (λ (e : RuleStates g.row.A-State.Denot × g.row.A-State.Denot). e.0)) in
-    let there : slice_get (ks ++ k ∷ []) c.len.result ≡ Some k = ap (slice_get (ks ++ k ∷ [])) last ∙ slice_get-right ks (k ∷ []) 0 in
+    let last : c.in_ok-place-in-Some.place ≡ length ks + 0 = omega (arith, c.in_ok-place-in-Some.ensures, c.len.ensures, length-map c.bodies.known (λ (e : RuleStates g.row.A-State.Denot × g.row.A-State.Denot). e.0)) in
+    let there : slice_get (ks ++ k ∷ []) c.in_ok-place-in-Some.place ≡ Some k = ap (slice_get (ks ++ k ∷ [])) last ∙ slice_get-right ks (k ∷ []) 0 in
     let r : ReadsOnce A G (keys c.bodies.known ++ (key_of c.bodies.frame.pair ∷ keys_of (c.in-Some.below ∷ reverse c.pop.new.self.items))) (c.bodies.steps - c.args.steps.now) = rw e at c.bodies.invariant.reads in
     let s = frames-stands A G c.bodies.frame (reverse c.bodies.frames.items) c.bodies.invariant.frames in
     let stacked = stacked-return A G c.bodies.frame c.in-Some.below (reverse c.pop.new.self.items) c.in_ok-copy-in-Some.field-0 _ c.advance.new.stack.items c.push-in-Some.new.self.items _ _ f (rw e at c.bodies.invariant.stacked)
@@ -188,6 +189,13 @@ bodies-preserved g c =
       closing = rw n (closing-return A G c.bodies.known c.bodies.frame c.in-Some.below (reverse c.pop.new.self.items) c.in-Done.state (rw e at c.bodies.invariant.closing) (c.in_ok-pair.ensures.closed c.in-Done.state c.in-Done.is));
       counted = c.bodies.invariant.counted;
       kept = rw kn (keeps-return A G c.args.noted ks k c.bodies.bodies c.keep.new.self top c.bodies.invariant.kept ended c.in_ok-keep-in-Done.ensures.kept c.in_ok-keep-in-Done.ensures.stays);
-      noted = λ t. rw (kn, c.in_ok-put_note-in-Some.ensures.top t, c.close.ensures.top, c.in_ok-keep-in-Done.ensures.below, c.in_ok-pair.ensures.below) (noted-call A G (ks ++ k ∷ []) c.in-Some.below k (get_or mss 0 []) (o t).0 c.len.result there);
+      noted = λ t. rw (kn, c.in_ok-put_note-in-Some.ensures.top t, c.close.ensures.top, c.in_ok-keep-in-Done.ensures.below, c.in_ok-pair.ensures.below) (noted-call A G (ks ++ k ∷ []) c.in-Some.below k (get_or mss 0 []) (o t).0 c.in_ok-place-in-Some.place there);
       outer = λ t. rw (kn, c.in_ok-put_note-in-Some.ensures.below, c.close.ensures.below, c.in_ok-keep-in-Done.ensures.below, c.in_ok-pair.ensures.below) (o t).1;
     }
+
+pub bodies-smaller : goal.bodies-smaller
+bodies-smaller g c =
+    let G = rules_of c.args.grammar.now.rules in
+    let e = ap reverse c.in-Some.ensures.items ∙ reverse-push c.pop.new.self.items c.in-Some.below in
+    let s = ap (sum_by (cost G)) e ∙ sum_by-cons (cost G) c.in-Some.below (reverse c.pop.new.self.items) in
+    omega (arith, s)

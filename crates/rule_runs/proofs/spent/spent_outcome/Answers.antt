@@ -3,7 +3,6 @@ use Rattle.segment_counts.specs.Weights.{count, node_weight}
 use Rattle.slt_grammar.specs.Automata.{IsSpent}
 use Rattle.slt_grammar.specs.Grammars.{rank_at}
 use Rattle.slt_grammar.specs.Keyed.{rules_of}
-use Rattle.rule_runs.specs.Entries.{key_of}
 use Rattle.rule_runs.specs.Risen.{keys, pair_at}
 use Rattle.rule_runs.specs.Tellings.{unhit_told}
 use Rattle.rule_runs.proofs.Resting.{handed_from, handed-push, spent-outcome}
@@ -21,8 +20,8 @@ segments-preserved g c =
     let G = rules_of c.args.grammar.now.rules in
     let es = c.args.risen.now.known in
     let kn = ap (λ r. r.known) c.risen.view_is in
-    let rule = c.in-Some-pair.pair.now.rule in
-    let k : key_of c.in-Some-pair.pair.now ≡ pair_at (keys es) c.args.spot.now.pair = c.in-Some-pair.ensures.pair ∙ ap (λ x. pair_at (keys x) c.args.spot.now.pair) kn in
+    let rule = c.in-Some-pair.rule in
+    let k : (rule, c.in-Some-pair.field-0-1.now) ≡ pair_at (keys es) c.args.spot.now.pair = c.in-Some-pair.ensures.pair ∙ ap (λ x. pair_at (keys x) c.args.spot.now.pair) kn in
     let r : rule ≡ (pair_at (keys es) c.args.spot.now.pair).0 = ap (λ x. x.0) k in
     let p = pair-of A W G es c.requires.run c.args.spot.now.pair c.requires.there in
     let lt : rule < length G = omega (arith, p.there, r) in
@@ -40,9 +39,9 @@ returns g c = λ lists.
     let G = rules_of c.args.grammar.now.rules in
     let es = c.args.risen.now.known in
     let kn = ap (λ r. r.known) c.risen.view_is in
-    let rule = c.in-Some-pair.pair.now.rule in
+    let rule = c.in-Some-pair.rule in
     let spot = c.args.spot.now in
-    let k : key_of c.in-Some-pair.pair.now ≡ pair_at (keys es) spot.pair = c.in-Some-pair.ensures.pair ∙ ap (λ x. pair_at (keys x) spot.pair) kn in
+    let k : (rule, c.in-Some-pair.field-0-1.now) ≡ pair_at (keys es) spot.pair = c.in-Some-pair.ensures.pair ∙ ap (λ x. pair_at (keys x) spot.pair) kn in
     let r : rule ≡ (pair_at (keys es) spot.pair).0 = ap (λ x. x.0) k in
     let p = pair-of A W G es c.requires.run spot.pair c.requires.there in
     let lt : rule < length G = omega (arith, p.there, r) in

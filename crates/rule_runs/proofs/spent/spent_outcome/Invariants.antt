@@ -5,4 +5,4 @@ use Rattle.rule_runs.proofs.Resting.{handed_from}
 use Rattle.rule_runs.proofs.spent.spent_outcome.Given as goal
 
 abbrev pub invariant-segments : goal.invariant-segments
-invariant-segments g l = l.handed.items ≡ handed_from (count node_weight (rules_of l.grammar.rules) l.pair.rule) l.spent.down 0 l.segment
+invariant-segments g l = l.handed.items ≡ handed_from (count node_weight (rules_of l.grammar.rules) l.rule) l.spent.down 0 l.segment

@@ -9,14 +9,14 @@ is-true false e = absurd (cc)
 
 pub states-preserved : goal.states-preserved
 states-preserved g c =
-    let xs = c.args.states.now.items in
+    let xs = c.args.states.now in
     let ys = c.args.stack.now.items in
-    let x = c.index.result.now in
-    let y = c.index-in-states.result.now in
+    let x = c.index-states-i.result in
+    let y = c.index.result.now in
     let i = c.states.i in
     let same : x ≡ y = g.met.S.RunState.identical x y (is-true (g.S.PartialEq.eq x y) (sym c.if-ne.false ∙ c.ne.ensures)) in
-    let l : i < length xs = omega (arith, c.args.states.now.ok.0, c.len.ensures, c.if-len-count.false, c.states-test.true) in
+    let l : i < length xs = omega (arith, c.if-states-count.false, c.states-test.true) in
     let m : i < length ys = omega (arith, c.args.stack.now.ok.0, c.requires, c.states-test.true) in
-    let at : c.len-in-states.result - 1 - i ≡ length ys - 1 - i = omega (arith, c.args.stack.now.ok.0, c.len-in-states.ensures) in
-    let there = c.index-in-states.ensures ∙ ap (λ k. get_or ys k y) at ∙ sym (get_or-reverse ys i y m) ∙ ap (get_or (reverse ys) i) (sym same) in
-    take-alike xs (reverse ys) i x c.states.invariant l (omega (arith, m, length-reverse ys)) (sym c.index.ensures ∙ same ∙ there)
+    let at : c.len.result - 1 - i ≡ length ys - 1 - i = omega (arith, c.args.stack.now.ok.0, c.len.ensures) in
+    let there = c.index.ensures ∙ ap (λ k. get_or ys k y) at ∙ sym (get_or-reverse ys i y m) ∙ ap (get_or (reverse ys) i) (sym same) in
+    take-alike xs (reverse ys) i x c.states.invariant l (omega (arith, m, length-reverse ys)) (sym c.index-states-i.is ∙ same ∙ there)

@@ -14,4 +14,4 @@ pub returns-clause-kept : goal.returns-clause-kept
 returns-clause-kept g c = λ t.
     let m = c.in_ok-empty_into.ensures.moved in
     ap (kept_of c.empty_into.new.list.items) c.in_ok-push.ensures.items
-    ∙ kept-push c.self.inside.notes.items m.0 c.empty_into.new.list.items c.self.inside.spans.items c.args.self.now (record { begin = c.len-begin.result; end = c.len.result }) c.self.invariant c.self.view_is m.1 (omega (arith, c.len-begin.ensures, c.self.inside.notes.ok.0)) (omega (arith, c.len.ensures, c.empty_into.new.list.ok.0)) ∙ ap (λ ns. c.args.self.now ++ Some ns ∷ []) m.2
+    ∙ kept-push c.self.inside.notes.items m.0 c.empty_into.new.list.items c.self.inside.spans.items c.args.self.now c.in_ok-span.span c.self.invariant c.self.view_is m.1 (omega (arith, c.in_ok-span.ensures.begin, c.len-begin.ensures, c.self.inside.notes.ok.0)) (omega (arith, c.in_ok-span.ensures.end, c.len.ensures, c.empty_into.new.list.ok.0)) ∙ ap (λ ns. c.args.self.now ++ Some ns ∷ []) m.2

@@ -1,9 +1,9 @@
 use Rattle.std.proofs.Common.{◌≡◌, ◌++◌, ◌∷◌, [], ◌<◌, List, Contains, length, sym, subst, ◌∙◌, arith}
 use Rattle.arrayvec.specs.ArrayVec.{ArrayVec}
-use Rattle.rule_runs.specs.declared.table.TheConstants.{FEW}
+use Rattle.rule_runs.specs.declared.index.TheConstants.{FEW}
 use Rattle.rule_runs.specs.Tables.{Grows, places_at}
 use Rattle.rule_runs.proofs.Tables.{grows-trans, grows-push, grows-kept, kept-there, kept-full, push-there}
-use Rattle.rule_runs.proofs.table.keep_first.Goals as goal
+use Rattle.rule_runs.proofs.index.keep_first.Goals as goal
 
 -- one more list of places at the end
 grows-more : (a b c : List (ArrayVec _)) (p : ArrayVec _) → c ≡ b ++ p ∷ [] → Grows a b → Grows a c

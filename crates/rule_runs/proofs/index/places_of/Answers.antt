@@ -1,6 +1,6 @@
 use Rattle.std.proofs.Common.{◌≡◌, ◌∙◌, ◌<◌, ◌≤◌, get_or, length, ap, sym, arith}
 use Rattle.rule_runs.proofs.Tables.{places-there, places-past}
-use Rattle.rule_runs.proofs.table.places_of.Goals as goal
+use Rattle.rule_runs.proofs.index.places_of.Goals as goal
 
 pub returns-in-Some : goal.returns-in-Some
 returns-in-Some c =

@@ -21,7 +21,7 @@ use Rattle.rule_runs.specs.declared.descent.Descent.{Descent}
 use Rattle.rule_runs.specs.declared.listing.Part.{Part}
 use Rattle.rule_runs.specs.declared.notes.Note.{Note}
 use Rattle.rule_runs.specs.declared.notes.Note.TheVariants.{Bottom as NoteBottom, Param as NoteParam, Symbol as NoteSymbol, Call as NoteCall}
-use Rattle.rule_runs.specs.declared.spots.Outcome.{Outcome}
+use Rattle.rule_runs.specs.declared.spots.Handed.{Handed}
 use Rattle.rule_runs.specs.declared.spots.Spot.{Spot}
 use Rattle.rule_runs.specs.declared.told.Here.{Here}
 use Rattle.rule_runs.specs.Cuts.{Stretch, nothing, one, beside, before, joined, cut}
@@ -29,7 +29,8 @@ use Rattle.rule_runs.specs.Notes.{AreNotes}
 use Rattle.rule_runs.specs.Risen.{IsPair, pair_at}
 use Rattle.rule_runs.specs.Tellings.{Listed, extended, IsTelling, AreTold}
 use Rattle.rule_runs.specs.Walks.{Open, Place, absorbed, after, down_at, downs_of, woven_marks, told, param_downs, woven}
-use Rattle.rule_runs.specs.Descents.{AreOpen, IsNext, CallsMeet, Walks, HasOutcome, Waiting, AreWaiting, befores, downs_handed, tolds}
+use Rattle.rule_runs.specs.Descents.{AreOpen, IsNext, CallsMeet, Walks, HasOutcome, Waiting, AreWaiting}
+use Rattle.rule_runs.specs.Outcomes.{Outcome, befores, downs_handed, tolds}
 use Rattle.rule_runs.proofs.Cutting.{before-nothing, beside-nothing, length-joined, cut-some}
 use Rattle.rule_runs.proofs.Handing.{AllHoles, linear, handed_all, length-handed, fall-body}
 use Rattle.rule_runs.proofs.Lists.{slice_get-at}
@@ -102,9 +103,9 @@ module _ {S D : Type 0} (A : Algebra S) (W : Downward S D) (G : List Rule) (g : 
 
   module _ (ks : List (RuleStates S)) (lists : Listed) where
     -- a body that is not read yet
-    pub walk-start : (down : D) (notes : List (Note S)) (here : Here) (outcome : Outcome D) → Falls S D A W G key.0 key.1 down → AreNotes A G ks key.1 (body_at G key.0) notes → outcome.handed.items ≡ [] → IsTelling lists here nothing
-        → Walks A W G ks lists key down notes (MarkTerm down ∷ []) here outcome
-    walk-start down notes here outcome f noted h i = record {
+    pub walk-start : (down : D) (notes : List (Note S)) (here : Here) (met : List (Handed D)) → Falls S D A W G key.0 key.1 down → AreNotes A G ks key.1 (body_at G key.0) notes → met ≡ [] → IsTelling lists here nothing
+        → Walks A W G ks lists key down notes (MarkTerm down ∷ []) here met
+    walk-start down notes here met f noted h i = record {
       args = key.1;
       ls = body_at G key.0;
       ms = Place down ∷ [];
@@ -122,9 +123,9 @@ module _ {S D : Type 0} (A : Algebra S) (W : Downward S D) (G : List Rule) (g : 
     }
 
 module _ {S D : Type 0} (A : Algebra S) (W : Downward S D) (G : List Rule) (ks : List (RuleStates S)) where
-  pub walk-more : (lists : Listed) (more : List (Vec Part Global)) (key : RuleStates S) (down : D) (notes : List (Note S)) (marks : List (Mark D)) (here : Here) (outcome : Outcome D)
-      → Walks A W G ks lists key down notes marks here outcome → Walks A W G ks (extended lists more) key down notes marks here outcome
-  walk-more lists more key down notes marks here outcome w = record {
+  pub walk-more : (lists : Listed) (more : List (Vec Part Global)) (key : RuleStates S) (down : D) (notes : List (Note S)) (marks : List (Mark D)) (here : Here) (met : List (Handed D))
+      → Walks A W G ks lists key down notes marks here met → Walks A W G ks (extended lists more) key down notes marks here met
+  walk-more lists more key down notes marks here met w = record {
     args = w.args;
     ls = w.ls;
     ms = w.ms;
@@ -133,7 +134,7 @@ module _ {S D : Type 0} (A : Algebra S) (W : Downward S D) (G : List Rule) (ks :
     noted = w.noted;
     marked = open-more lists more marks w.ms w.marked;
     telling = telling-more lists more here w.s w.telling;
-    finished = told-more lists more (befores outcome) w.done w.finished;
+    finished = told-more lists more (befores met) w.done w.finished;
     stretches = w.stretches;
     hands = w.hands;
     terms = w.terms;
@@ -149,7 +150,7 @@ module _ {S D : Type 0} (A : Algebra S) (W : Downward S D) (G : List Rule) (ks :
     notes = h.notes;
     noted = h.noted;
     within = h.within;
-    walks = walk-more lists more (pair_at ks f.spot.pair) f.spot.down (NoteCall spot.pair ∷ reverse (take f.left h.notes)) (MarkTerm spot.down ∷ marks) f.here f.outcome h.walks;
+    walks = walk-more lists more (pair_at ks f.spot.pair) f.spot.down (NoteCall spot.pair ∷ reverse (take f.left h.notes)) (MarkTerm spot.down ∷ marks) f.here f.handed.items h.walks;
   }
 
   pub waiting-more : (lists : Listed) (more : List (Vec Part Global)) (spot : Spot D) (gs : List (Descent D)) (mss : List (List (Mark D))) → AreWaiting A W G ks lists spot gs mss → AreWaiting A W G ks (extended lists more) spot gs mss
@@ -157,10 +158,10 @@ module _ {S D : Type 0} (A : Algebra S) (W : Downward S D) (G : List Rule) (ks :
   waiting-more lists more spot (f ∷ gs) mss h =
       (waits-more lists more f (get_or mss 0 []) spot h.0, h.1, h.2, waiting-more lists more f.spot gs (drop 1 mss) h.3)
 
-  module _ (lists : Listed) (key : RuleStates S) (down : D) (outcome : Outcome D) where
+  module _ (lists : Listed) (key : RuleStates S) (down : D) (met : List (Handed D)) where
     -- the next term's place is open
-    pub walk-placed : (notes : List (Note S)) (marks marks' : List (Mark D)) (here here' : Here) (d : D) (w : Walks A W G ks lists key down notes marks here outcome)
-        → IsNext lists (Some d) w.s w.ms marks' here' → Walks A W G ks lists key down notes (MarkTerm d ∷ marks') here' outcome
+    pub walk-placed : (notes : List (Note S)) (marks marks' : List (Mark D)) (here here' : Here) (d : D) (w : Walks A W G ks lists key down notes marks here met)
+        → IsNext lists (Some d) w.s w.ms marks' here' → Walks A W G ks lists key down notes (MarkTerm d ∷ marks') here' met
     walk-placed notes marks marks' here here' d w n = record {
       args = w.args;
       ls = w.ls;
@@ -172,23 +173,23 @@ module _ {S D : Type 0} (A : Algebra S) (W : Downward S D) (G : List Rule) (ks :
       telling = n.telling;
       finished = w.finished;
       stretches = ap (λ x. w.done ++ x) (sym (told-placed A W G w.args w.s w.ms d w.ls n.is)) ∙ w.stretches;
-      hands = ap (λ x. downs_handed outcome ++ param_downs A W G w.args x w.ls) (sym n.is) ∙ w.hands;
+      hands = ap (λ x. downs_handed met ++ param_downs A W G w.args x w.ls) (sym n.is) ∙ w.hands;
       terms = (let t : AreTerms (arity (ranks_of G)) (length (d ∷ downs_of (after w.ms))) w.ls = rw n.is at w.terms in t);
       meet = (let t : CallsMeet A W G (Falls S D A W G) w.args (d ∷ downs_of (after w.ms)) w.ls = rw n.is at w.meet in t);
       earlier = w.earlier;
     }
 
-    pub walk-next : (notes : List (Note S)) (marks marks' : List (Mark D)) (here here' : Here) (d : D) (found : Option D) → Walks A W G ks lists key down notes marks here outcome → found ≡ Some d
-        → ((s : Stretch) (ms : List (Open D)) → IsTelling lists here s → AreOpen lists marks ms → IsNext lists found s ms marks' here') → Walks A W G ks lists key down notes (MarkTerm d ∷ marks') here' outcome
+    pub walk-next : (notes : List (Note S)) (marks marks' : List (Mark D)) (here here' : Here) (d : D) (found : Option D) → Walks A W G ks lists key down notes marks here met → found ≡ Some d
+        → ((s : Stretch) (ms : List (Open D)) → IsTelling lists here s → AreOpen lists marks ms → IsNext lists found s ms marks' here') → Walks A W G ks lists key down notes (MarkTerm d ∷ marks') here' met
     walk-next notes marks marks' here here' d found w e next = walk-placed notes marks marks' here here' d w (rw e at (next w.s w.ms w.telling w.marked))
 
     -- a node is left, so that a place is open
-    pub walk-open : (n : Note S) (notes : List (Note S)) (marks : List (Mark D)) (here : Here) (w : Walks A W G ks lists key down (n ∷ notes) marks here outcome) → downs_of w.ms ≡ [] → ⊥
+    pub walk-open : (n : Note S) (notes : List (Note S)) (marks : List (Mark D)) (here : Here) (w : Walks A W G ks lists key down (n ∷ notes) marks here met) → downs_of w.ms ≡ [] → ⊥
     walk-open n notes marks here w e =
         let v = note-some A G ks w.args w.ls n notes w.noted in
         rw (e, v.2) at w.terms
 
-    pub walk-bottom : (notes : List (Note S)) (marks : List (Mark D)) (here : Here) (d : D) → Walks A W G ks lists key down (NoteBottom ∷ notes) (MarkTerm d ∷ marks) here outcome → Walks A W G ks lists key down notes marks here outcome
+    pub walk-bottom : (notes : List (Note S)) (marks : List (Mark D)) (here : Here) (d : D) → Walks A W G ks lists key down (NoteBottom ∷ notes) (MarkTerm d ∷ marks) here met → Walks A W G ks lists key down notes marks here met
     walk-bottom notes marks here d w =
         let m = open-term lists d marks w.ms w.marked in
         let n = note-bottom A G ks w.args w.ls notes w.noted in
@@ -210,8 +211,8 @@ module _ {S D : Type 0} (A : Algebra S) (W : Downward S D) (G : List Rule) (ks :
         }
 
     -- a symbol opens its two children
-    pub walk-symbol : (f : ℕ) (kids rest : S) (notes : List (Note S)) (marks : List (Mark D)) (here here' : Here) (d : D) (fell : Fell D) (w : Walks A W G ks lists key down (NoteSymbol f kids rest ∷ notes) (MarkTerm d ∷ marks) here outcome)
-        → fell ≡ W.step f d kids rest → IsTelling lists here' (beside w.s (one fell.hit f)) → Walks A W G ks lists key down notes (MarkTerm fell.left ∷ MarkTerm fell.right ∷ marks) here' outcome
+    pub walk-symbol : (f : ℕ) (kids rest : S) (notes : List (Note S)) (marks : List (Mark D)) (here here' : Here) (d : D) (fell : Fell D) (w : Walks A W G ks lists key down (NoteSymbol f kids rest ∷ notes) (MarkTerm d ∷ marks) here met)
+        → fell ≡ W.step f d kids rest → IsTelling lists here' (beside w.s (one fell.hit f)) → Walks A W G ks lists key down notes (MarkTerm fell.left ∷ MarkTerm fell.right ∷ marks) here' met
     walk-symbol f kids rest notes marks here here' d fell w is telling =
         let m = open-term lists d marks w.ms w.marked in
         let n = note-symbol A G ks w.args w.ls f kids rest notes w.noted in
@@ -227,18 +228,18 @@ module _ {S D : Type 0} (A : Algebra S) (W : Downward S D) (G : List Rule) (ks :
           telling = telling;
           finished = w.finished;
           stretches = subst (λ (x : Fell D). w.done ++ told A W G w.args (beside w.s (one x.hit f)) (Place x.left ∷ Place x.right ∷ m.0) n.0 ≡ cut A W (value_at G key.0) key.1 down) e (rw (m.1, n.1) at w.stretches);
-          hands = subst (λ (x : Fell D). downs_handed outcome ++ param_downs A W G w.args (x.left ∷ x.right ∷ downs_of m.0) n.0 ≡ handed A W (value_at G key.0) key.1 down) e (rw (m.1, n.1) at w.hands);
+          hands = subst (λ (x : Fell D). downs_handed met ++ param_downs A W G w.args (x.left ∷ x.right ∷ downs_of m.0) n.0 ≡ handed A W (value_at G key.0) key.1 down) e (rw (m.1, n.1) at w.hands);
           terms = (let t : AreTerms (arity (ranks_of G)) (2 + length (downs_of m.0)) n.0 = rw (m.1, n.1) at w.terms in let k : 2 + length (downs_of m.0) ≡ suc (suc (length (downs_of m.0))) = omega arith in rw k at t);
           meet = subst (λ (x : Fell D). CallsMeet A W G (Falls S D A W G) w.args (x.left ∷ x.right ∷ downs_of m.0) n.0) e (rw (m.1, n.1) at w.meet);
           earlier = rw n.1 at w.earlier;
         }
 
     -- a call opens its arguments
-    pub walk-call : IsGrammar G → IsPair G key → (i : ℕ) (notes : List (Note S)) (marks marks' : List (Mark D)) (here here' : Here) (d : D) (known : Outcome D) (w : Walks A W G ks lists key down (NoteCall i ∷ notes) (MarkTerm d ∷ marks) here outcome)
+    pub walk-call : IsGrammar G → IsPair G key → (i : ℕ) (notes : List (Note S)) (marks marks' : List (Mark D)) (here here' : Here) (d : D) (known : Outcome D) (w : Walks A W G ks lists key down (NoteCall i ∷ notes) (MarkTerm d ∷ marks) here met)
         → HasOutcome A W G ks lists (record { pair = i; down = d }) known
         → IsTelling lists here' (beside w.s (get_or (cut A W (value_at G (pair_at ks i).0) (pair_at ks i).1 d) 0 nothing))
-        → AreOpen lists marks' (woven_marks (downs_handed known) (drop 1 (cut A W (value_at G (pair_at ks i).0) (pair_at ks i).1 d)) ++ (open-term lists d marks w.ms w.marked).0)
-        → Walks A W G ks lists key down notes marks' here' outcome
+        → AreOpen lists marks' (woven_marks (downs_handed known.handed) (drop 1 (cut A W (value_at G (pair_at ks i).0) (pair_at ks i).1 d)) ++ (open-term lists d marks w.ms w.marked).0)
+        → Walks A W G ks lists key down notes marks' here' met
     walk-call g pair i notes marks marks' here here' d known w h telling marked =
         let m = open-term lists d marks w.ms w.marked in
         let n = note-call A G ks w.args w.ls i notes w.noted in
@@ -248,7 +249,7 @@ module _ {S D : Type 0} (A : Algebra S) (W : Downward S D) (G : List Rule) (ks :
         let k : pair_at ks i ≡ (q, kids) = (slice_get-at ks i (q, kids) (0, []) n.3).1 in
         let c : List Stretch = cut A W (value_at G q) kids d in
         let ds : List D = handed A W (value_at G q) kids d in
-        let hd : downs_handed known ≡ ds = h.hands ∙ ap (λ (x : RuleStates S). handed A W (value_at G x.0) x.1 d) k in
+        let hd : downs_handed known.handed ≡ ds = h.hands ∙ ap (λ (x : RuleStates S). handed A W (value_at G x.0) x.1 d) k in
         let ck : cut A W (value_at G (pair_at ks i).0) (pair_at ks i).1 d ≡ c = ap (λ (x : RuleStates S). cut A W (value_at G x.0) x.1 d) k in
         let ms : List (Open D) = woven_marks ds (drop 1 c) ++ m.0 in
         let dw : downs_of ms ≡ ds ++ downs_of m.0 = downs-woven ds (drop 1 c) m.0 in
@@ -272,7 +273,7 @@ module _ {S D : Type 0} (A : Algebra S) (W : Downward S D) (G : List Rule) (ks :
         }
 
     -- a call is met, and of an earlier rule
-    pub walk-meets : (i : ℕ) (notes : List (Note S)) (marks : List (Mark D)) (here : Here) (d : D) → Walks A W G ks lists key down (NoteCall i ∷ notes) (MarkTerm d ∷ marks) here outcome
+    pub walk-meets : (i : ℕ) (notes : List (Note S)) (marks : List (Mark D)) (here : Here) (d : D) → Walks A W G ks lists key down (NoteCall i ∷ notes) (MarkTerm d ∷ marks) here met
         → Falls S D A W G (pair_at ks i).0 (pair_at ks i).1 d × (i < length ks) × ((pair_at ks i).0 < key.0)
     walk-meets i notes marks here d w =
         let m = open-term lists d marks w.ms w.marked in
@@ -284,14 +285,14 @@ module _ {S D : Type 0} (A : Algebra S) (W : Downward S D) (G : List Rule) (ks :
         (rw k.1 t.0, k.0, rw k.1 below.0)
 
     -- a parameter ends a stretch
-    pub walk-param : (more : List (Vec Part Global)) (notes : List (Note S)) (marks : List (Mark D)) (here here' : Here) (d : D) (new : Outcome D) (w : Walks A W G ks lists key down (NoteParam ∷ notes) (MarkTerm d ∷ marks) here outcome)
-        → AreTold (extended lists more) (befores new) (w.done ++ w.s ∷ []) → IsTelling (extended lists more) here' nothing → downs_handed new ≡ downs_handed outcome ++ d ∷ []
+    pub walk-param : (more : List (Vec Part Global)) (notes : List (Note S)) (marks : List (Mark D)) (here here' : Here) (d : D) (new : List (Handed D)) (w : Walks A W G ks lists key down (NoteParam ∷ notes) (MarkTerm d ∷ marks) here met)
+        → AreTold (extended lists more) (befores new) (w.done ++ w.s ∷ []) → IsTelling (extended lists more) here' nothing → downs_handed new ≡ downs_handed met ++ d ∷ []
         → Walks A W G ks (extended lists more) key down notes marks here' new
     walk-param more notes marks here here' d new w finished telling handed_is =
         let m = open-term lists d marks w.ms w.marked in
         let n = note-param A G ks w.args w.ls notes w.noted in
         let s : w.done ++ (w.s ∷ told A W G (drop 1 w.args) nothing m.0 n.0) ≡ cut A W (value_at G key.0) key.1 down = rw (m.1, n.1) at w.stretches in
-        let h : downs_handed outcome ++ (d ∷ param_downs A W G (drop 1 w.args) (downs_of m.0) n.0) ≡ handed A W (value_at G key.0) key.1 down = rw (m.1, n.1) at w.hands in
+        let h : downs_handed met ++ (d ∷ param_downs A W G (drop 1 w.args) (downs_of m.0) n.0) ≡ handed A W (value_at G key.0) key.1 down = rw (m.1, n.1) at w.hands in
         record {
           args = drop 1 w.args;
           ls = n.0;
@@ -303,20 +304,20 @@ module _ {S D : Type 0} (A : Algebra S) (W : Downward S D) (G : List Rule) (ks :
           telling = telling;
           finished = finished;
           stretches = append_assoc w.done (w.s ∷ []) (told A W G (drop 1 w.args) nothing m.0 n.0) ∙ s;
-          hands = rw handed_is (append_assoc (downs_handed outcome) (d ∷ []) (param_downs A W G (drop 1 w.args) (downs_of m.0) n.0) ∙ h);
+          hands = rw handed_is (append_assoc (downs_handed met) (d ∷ []) (param_downs A W G (drop 1 w.args) (downs_of m.0) n.0) ∙ h);
           terms = rw (m.1, n.1, zero-add) at w.terms;
           meet = rw (m.1, n.1) at w.meet;
           earlier = rw n.1 at w.earlier;
         }
 
     -- the end of a body ends the last stretch
-    pub walk-end : (after_lists : Listed) (marks : List (Mark D)) (here : Here) (new : Outcome D) (w : Walks A W G ks lists key down [] marks here outcome)
-        → AreTold after_lists (tolds new) (w.done ++ absorbed w.s w.ms ∷ []) → downs_handed new ≡ downs_handed outcome
-        → AreTold after_lists (tolds new) (cut A W (value_at G key.0) key.1 down) × (downs_handed new ≡ handed A W (value_at G key.0) key.1 down)
+    pub walk-end : (after_lists : Listed) (marks : List (Mark D)) (here : Here) (new : Outcome D) (w : Walks A W G ks lists key down [] marks here met)
+        → AreTold after_lists (tolds new) (w.done ++ absorbed w.s w.ms ∷ []) → downs_handed new.handed ≡ downs_handed met
+        → AreTold after_lists (tolds new) (cut A W (value_at G key.0) key.1 down) × (downs_handed new.handed ≡ handed A W (value_at G key.0) key.1 down)
     walk-end after_lists marks here new w finished handed_is =
         let n = note-none A G ks w.args w.ls w.noted in
         let s : w.done ++ (absorbed w.s w.ms ∷ []) ≡ cut A W (value_at G key.0) key.1 down = rw n at w.stretches in
-        let h : downs_handed outcome ++ [] ≡ handed A W (value_at G key.0) key.1 down = rw n at w.hands in (
+        let h : downs_handed met ++ [] ≡ handed A W (value_at G key.0) key.1 down = rw n at w.hands in (
           rw s at finished,
-          handed_is ∙ sym (append-nil (downs_handed outcome)) ∙ h,
+          handed_is ∙ sym (append-nil (downs_handed met)) ∙ h,
         )

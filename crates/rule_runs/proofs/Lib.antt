@@ -28,5 +28,6 @@ pub mod Descents
 pub mod Resting
 pub mod Rooms
 pub mod Triples
+pub mod Passing
 pub mod Answering
 pub mod OneState

@@ -5,13 +5,13 @@ use Rattle.rule_runs.specs.declared.descent.Mark.{Mark}
 use Rattle.rule_runs.specs.declared.descent.Mark.TheVariants.{Term as MarkTerm, Piece as MarkPiece}
 use Rattle.rule_runs.specs.declared.listing.Part.{Part}
 use Rattle.rule_runs.specs.declared.spots.Handed.{Handed}
-use Rattle.rule_runs.specs.declared.spots.Outcome.{Outcome}
 use Rattle.rule_runs.specs.declared.told.Here.{Here}
 use Rattle.rule_runs.specs.declared.told.Told.{Told}
 use Rattle.rule_runs.specs.Cuts.{Stretch, nothing, beside}
 use Rattle.rule_runs.specs.Tellings.{Listed, extended, Tells, IsTelling, AreTold}
 use Rattle.rule_runs.specs.Walks.{Open, Place, Piece, absorbed, after, down_at, places, downs_of, woven_marks}
-use Rattle.rule_runs.specs.Descents.{AreOpen, IsNext, IsAbsorbing, befores, downs_handed, tolds}
+use Rattle.rule_runs.specs.Descents.{AreOpen, IsNext, IsAbsorbing}
+use Rattle.rule_runs.specs.Outcomes.{Outcome, befores, downs_handed, tolds}
 use Rattle.rule_runs.proofs.Tellings.{tells-more, told-at, length-told}
 
 -- what is open, by its first place
@@ -108,23 +108,23 @@ woven-more lists told_items hands left marks ms ss d t a n lt d-is t-is o =
 
 -- what an outcome tells, by its parameters
 module _ {D : Type 0} (o : Outcome D) where
-  pub length-tolds : length (tolds o) ≡ length (downs_handed o) + 1
-  length-tolds = omega (arith, length_push (befores o) o.last, length-map o.handed.items (λ h. h.before), length-map o.handed.items (λ h. h.down))
+  pub length-tolds : length (tolds o) ≡ length (downs_handed o.handed) + 1
+  length-tolds = omega (arith, length_push (befores o.handed) o.last, length-map o.handed (λ h. h.before), length-map o.handed (λ h. h.down))
 
-  pub told-last : (n : ℕ) → n ≡ length o.handed.items → o.last ≡ get_or (tolds o) n o.last
-  told-last n e = sym (get_or_push (befores o) o.last o.last n (length-map o.handed.items (λ h. h.before) ∙ sym e))
+  pub told-last : (n : ℕ) → n ≡ length o.handed → o.last ≡ get_or (tolds o) n o.last
+  told-last n e = sym (get_or_push (befores o.handed) o.last o.last n (length-map o.handed (λ h. h.before) ∙ sym e))
 
-  pub told-before : (i : ℕ) (h : Handed D) → i < length o.handed.items → h ≡ get_or o.handed.items i h → h.before ≡ get_or (tolds o) i h.before
+  pub told-before : (i : ℕ) (h : Handed D) → i < length o.handed → h ≡ get_or o.handed i h → h.before ≡ get_or (tolds o) i h.before
   told-before i h lt e =
-      sym (get_or_append_left (befores o) (o.last ∷ []) h.before i (omega (arith, length-map o.handed.items (λ h. h.before))) ∙ get_or-map (λ (x : Handed D). x.before) o.handed.items i h h.before lt ∙ ap (λ (x : Handed D). x.before) (sym e))
+      sym (get_or_append_left (befores o.handed) (o.last ∷ []) h.before i (omega (arith, length-map o.handed (λ h. h.before))) ∙ get_or-map (λ (x : Handed D). x.before) o.handed i h h.before lt ∙ ap (λ (x : Handed D). x.before) (sym e))
 
-  pub down-handed : (i : ℕ) (h : Handed D) (d : D) → i < length o.handed.items → h ≡ get_or o.handed.items i h → d ≡ h.down → d ≡ get_or (downs_handed o) i d
+  pub down-handed : (i : ℕ) (h : Handed D) (d : D) → i < length o.handed → h ≡ get_or o.handed i h → d ≡ h.down → d ≡ get_or (downs_handed o.handed) i d
   down-handed i h d lt e is =
-      is ∙ ap (λ (x : Handed D). x.down) e ∙ sym (get_or-map (λ (x : Handed D). x.down) o.handed.items i h d lt)
+      is ∙ ap (λ (x : Handed D). x.down) e ∙ sym (get_or-map (λ (x : Handed D). x.down) o.handed i h d lt)
 
   -- behind the last argument nothing is opened yet
-  pub woven-none : (lists : Listed) (n : ℕ) (marks : List (Mark D)) (ms : List (Open D)) (ss : List Stretch) → n ≡ length o.handed.items → AreOpen lists marks ms
-      → AreOpen lists marks (woven_marks (drop n (downs_handed o)) (drop n (drop 1 ss)) ++ ms)
+  pub woven-none : (lists : Listed) (n : ℕ) (marks : List (Mark D)) (ms : List (Open D)) (ss : List Stretch) → n ≡ length o.handed → AreOpen lists marks ms
+      → AreOpen lists marks (woven_marks (drop n (downs_handed o.handed)) (drop n (drop 1 ss)) ++ ms)
   woven-none lists n marks ms ss e opened =
-      let z : drop n (downs_handed o) ≡ [] = drop_all n (downs_handed o) (omega (arith, length-map o.handed.items (λ h. h.down))) in
+      let z : drop n (downs_handed o.handed) ≡ [] = drop_all n (downs_handed o.handed) (omega (arith, length-map o.handed (λ h. h.down))) in
       rw z opened

@@ -13,9 +13,9 @@ use Rattle.slt_grammar.specs.declared.rules.Rule.{Rule}
 use Rattle.slt_grammar.proofs.Linear.{value_at-linear, length-holes}
 use Rattle.segment_counts.specs.Weights.{count, node_weight}
 use Rattle.rule_runs.specs.declared.spots.Handed.{Handed}
-use Rattle.rule_runs.specs.declared.spots.Outcome.{Outcome}
 use Rattle.rule_runs.specs.declared.spots.Spot.{Spot}
-use Rattle.rule_runs.specs.Descents.{HasOutcome, tolds}
+use Rattle.rule_runs.specs.Descents.{HasOutcome}
+use Rattle.rule_runs.specs.Outcomes.{Outcome, tolds}
 use Rattle.rule_runs.specs.Reached.{RuleStates}
 use Rattle.rule_runs.specs.Risen.{IsPair, pair_at}
 use Rattle.rule_runs.specs.Tellings.{Listed, AreTold, unhit_told}
@@ -133,14 +133,14 @@ module _ {D : Type 0} (c : ℕ → ℕ) (d : D) where
 -- what a pair has at a spent state
 module _ {S D : Type 0} (A : Algebra S) (W : Downward S D) (G : List Rule) (g : IsGrammar G) (ks : List (RuleStates S)) (lists : Listed) where
   pub spent-outcome : (spot : Spot D) (outcome : Outcome D) (rule : ℕ) → spot.pair < length ks → IsPair G (pair_at ks spot.pair) → IsSpent W spot.down → rule ≡ (pair_at ks spot.pair).0
-      → outcome.handed.items ≡ handed_from (count node_weight G rule) spot.down 0 (rank_at G rule) → outcome.last ≡ unhit_told (count node_weight G rule (rank_at G rule)) → HasOutcome A W G ks lists spot outcome
+      → outcome.handed ≡ handed_from (count node_weight G rule) spot.down 0 (rank_at G rule) → outcome.last ≡ unhit_told (count node_weight G rule (rank_at G rule)) → HasOutcome A W G ks lists spot outcome
   spent-outcome spot outcome rule there pair spent same handed_are last_is =
       let k : RuleStates S = pair_at ks spot.pair in
       let t : Term = value_at G k.0 in
       let n : ℕ = rank_at G k.0 in
       let d : D = spot.down in
       let c : ℕ → ℕ = count node_weight G k.0 in
-      let hs : outcome.handed.items ≡ handed_from c d 0 n = rw same at handed_are in
+      let hs : outcome.handed ≡ handed_from c d 0 n = rw same at handed_are in
       let last : outcome.last ≡ unhit_told (c n) = rw same at last_is in
       let holes_are : holes_of t ≡ holes 0 n = value_at-linear G k.0 g pair.there in
       let count_holes : length (holes_of t) ≡ n = ap length holes_are ∙ length-holes 0 n in

@@ -14,12 +14,13 @@ use Rattle.rule_runs.specs.declared.descent.Mark.{Mark}
 use Rattle.rule_runs.specs.declared.descent.Mark.TheVariants.{Term as MarkTerm, Piece as MarkPiece}
 use Rattle.rule_runs.specs.declared.notes.Note.{Note}
 use Rattle.rule_runs.specs.declared.notes.Note.TheVariants.{Call as NoteCall}
-use Rattle.rule_runs.specs.declared.spots.Outcome.{Outcome}
+use Rattle.rule_runs.specs.declared.spots.Handed.{Handed}
 use Rattle.rule_runs.specs.declared.told.Here.{Here}
 use Rattle.rule_runs.specs.declared.told.Told.{Told}
 use Rattle.rule_runs.specs.Cuts.{Stretch, nothing, one, beside, before, joined, cut}
-use Rattle.rule_runs.specs.Descents.{AreOpen, HasRoomAhead, Walks, HasOutcome, ahead, befores, tolds}
+use Rattle.rule_runs.specs.Descents.{AreOpen, HasRoomAhead, Walks, HasOutcome, ahead}
 use Rattle.rule_runs.specs.Hits.{raised}
+use Rattle.rule_runs.specs.Outcomes.{Outcome, befores, tolds}
 use Rattle.rule_runs.specs.Risen.{pair_at}
 use Rattle.rule_runs.specs.Tellings.{Listed, HasRoom, Tells}
 use Rattle.rule_runs.specs.Walks.{Open, Place, Piece, absorbed, after, down_at, woven_marks, kids_of, told}
@@ -112,8 +113,8 @@ module _ (f : Stretch → ℕ) (k : Counts f) where
   ahead-is word lists h s (MarkPiece t ∷ xs) (Place d ∷ ms) o = absurd o
   ahead-is word lists h s (MarkPiece t ∷ xs) (Piece u ∷ ms) o = omega (arith, ahead-is word lists h (beside s u) xs ms o.1, k.both s u, h t u o.0)
 
-module _ {S D : Type 0} (A : Algebra S) (W : Downward S D) (G : List Rule) (ks : List (RuleStates S)) (lists : Listed) (key : RuleStates S) (down : D) (outcome : Outcome D) where
-  module _ (notes : List (Note S)) (marks : List (Mark D)) (here : Here) (w : Walks A W G ks lists key down notes marks here outcome) where
+module _ {S D : Type 0} (A : Algebra S) (W : Downward S D) (G : List Rule) (ks : List (RuleStates S)) (lists : Listed) (key : RuleStates S) (down : D) (met : List (Handed D)) where
+  module _ (notes : List (Note S)) (marks : List (Mark D)) (here : Here) (w : Walks A W G ks lists key down notes marks here met) where
     walk-within : (f : Stretch → ℕ) (k : Counts f) → f (absorbed w.s w.ms) ≤ nodes_in (value_at G key.0)
     walk-within f k =
         omega (arith, told-more f k A W G w.args w.s w.ms w.ls, sum_by-append f w.done (told A W G w.args w.s w.ms w.ls), ap (sum_by f) w.stretches, cut-within f k A W (value_at G key.0) key.1 down)
@@ -136,7 +137,7 @@ module _ {S D : Type 0} (A : Algebra S) (W : Downward S D) (G : List Rule) (ks :
         )
 
   -- the first stretch of a call fits
-  module _ (i : ℕ) (notes : List (Note S)) (marks : List (Mark D)) (here : Here) (d : D) (w : Walks A W G ks lists key down (NoteCall i ∷ notes) (MarkTerm d ∷ marks) here outcome) (known : Outcome D) (h : HasOutcome A W G ks lists (record { pair = i; down = d }) known) where
+  module _ (i : ℕ) (notes : List (Note S)) (marks : List (Mark D)) (here : Here) (d : D) (w : Walks A W G ks lists key down (NoteCall i ∷ notes) (MarkTerm d ∷ marks) here met) (known : Outcome D) (h : HasOutcome A W G ks lists (record { pair = i; down = d }) known) where
     call-within : (f : Stretch → ℕ) (k : Counts f) → f w.s + f (get_or (cut A W (value_at G (pair_at ks i).0) (pair_at ks i).1 d) 0 nothing) ≤ nodes_in (value_at G key.0)
     call-within f k =
         let m = open-term lists d marks w.ms w.marked in
@@ -162,7 +163,7 @@ module _ {S D : Type 0} (A : Algebra S) (W : Downward S D) (G : List Rule) (ks :
 
     pub walk-room-call : nodes_in (value_at G key.0) < 2 ^ 63 → (t : Told) → t ≡ get_or (tolds known) 0 t → HasRoom here t
     walk-room-call small t e =
-        let tells = told-at lists (tolds known) (cut A W (value_at G (pair_at ks i).0) (pair_at ks i).1 d) 0 t h.finished (omega (arith, length_push (befores known) known.last)) e in
+        let tells = told-at lists (tolds known) (cut A W (value_at G (pair_at ks i).0) (pair_at ks i).1 d) 0 t h.finished (omega (arith, length_push (befores known.handed) known.last)) e in
         let so_far = w.telling in
         record {
           nodes = omega (arith, so_far.nodes, tells.nodes, call-within nodes_of nodes-counted);

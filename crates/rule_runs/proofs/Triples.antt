@@ -13,12 +13,13 @@ use Rattle.slt_grammar.proofs.Linear.{value_at-linear}
 use Rattle.rule_runs.specs.declared.descent.Descent.{Descent}
 use Rattle.rule_runs.specs.declared.descent.Mark.{Mark}
 use Rattle.rule_runs.specs.declared.listing.Part.{Part}
-use Rattle.rule_runs.specs.declared.spots.Outcome.{Outcome}
+use Rattle.rule_runs.specs.declared.spots.Handed.{Handed}
 use Rattle.rule_runs.specs.declared.spots.Spot.{Spot}
 use Rattle.rule_runs.specs.declared.told.Here.{Here}
 use Rattle.rule_runs.specs.Cuts.{Stretch, nothing, beside, cut}
-use Rattle.rule_runs.specs.Descents.{AreOpen, HasOutcome, Standing, Waiting, Asks, AreWaiting, triple_at, fall_cost, befores, downs_handed, tolds}
+use Rattle.rule_runs.specs.Descents.{AreOpen, HasOutcome, Standing, Waiting, Asks, AreWaiting, triple_at, fall_cost}
 use Rattle.rule_runs.specs.Frames.{base}
+use Rattle.rule_runs.specs.Outcomes.{Outcome, befores, downs_handed, tolds}
 use Rattle.rule_runs.specs.Risen.{IsPair, IsRun, pair_at, keys}
 use Rattle.rule_runs.specs.Tellings.{Listed, extended, Tells, IsTelling, AreTold}
 use Rattle.rule_runs.specs.Walks.{Open, woven_marks}
@@ -96,10 +97,10 @@ module _ {S D : Type 0} (A : Algebra S) (W : Downward S D) (G : List Rule) (ks :
   triples-return known spot outcome gs = rw (map-append (λ (e : Spot D × Outcome D). triple_at ks e.0) known ((spot, outcome) ∷ [])) (append_assoc (known_triples known) (triple_at ks spot ∷ []) (open_triples gs))
 
   -- a body goes on behind a call that has its outcome
-  pub stands-again : IsGrammar G → (lists : Listed) (f : Descent D) (spot : Spot D) (outcome : Outcome D) (before marks : List (Mark D)) (here : Here) → IsPair G (pair_at ks f.spot.pair) → Waiting A W G ks lists f before spot → HasOutcome A W G ks lists spot outcome
-      → ((s : Stretch) (ms : List (Open D)) (ss : List Stretch) → IsTelling lists f.here s → AreOpen lists before ms → AreTold lists (tolds outcome) ss → IsTelling lists here (beside s (get_or ss 0 nothing)) × AreOpen lists marks (woven_marks (downs_handed outcome) (drop 1 ss) ++ ms))
-      → Standing A W G ks lists (record { spot = f.spot; left = f.left; here = here; outcome = f.outcome }) marks
-  stands-again g lists f spot outcome before marks here pair h ends entered =
+  pub stands-again : IsGrammar G → (lists : Listed) (f : Descent D) (spot : Spot D) (outcome : Outcome D) (before marks : List (Mark D)) (here : Here) (handed : Vec (Handed D) Global) → handed.items ≡ f.handed.items → IsPair G (pair_at ks f.spot.pair) → Waiting A W G ks lists f before spot → HasOutcome A W G ks lists spot outcome
+      → ((s : Stretch) (ms : List (Open D)) (ss : List Stretch) → IsTelling lists f.here s → AreOpen lists before ms → AreTold lists (tolds outcome) ss → IsTelling lists here (beside s (get_or ss 0 nothing)) × AreOpen lists marks (woven_marks (downs_handed outcome.handed) (drop 1 ss) ++ ms))
+      → Standing A W G ks lists (record { spot = f.spot; left = f.left; here = here; handed = handed }) marks
+  stands-again g lists f spot outcome before marks here handed same pair h ends entered =
       let w = h.walks in
       let m = open-term lists spot.down before w.ms w.marked in
       let k : RuleStates S = pair_at ks spot.pair in
@@ -108,7 +109,7 @@ module _ {S D : Type 0} (A : Algebra S) (W : Downward S D) (G : List Rule) (ks :
         notes = h.notes;
         noted = h.noted;
         within = h.within;
-        walks = walk-call A W G ks lists (pair_at ks f.spot.pair) f.spot.down f.outcome g pair spot.pair (reverse (take f.left h.notes)) before marks f.here here spot.down outcome w ends e.0 e.1;
+        walks = rw same (walk-call A W G ks lists (pair_at ks f.spot.pair) f.spot.down f.handed.items g pair spot.pair (reverse (take f.left h.notes)) before marks f.here here spot.down outcome w ends e.0 e.1);
       }
 
   pub fall-cost-begin : (f f' c : Descent D) (gs : List (Descent D)) (q : ℕ) → q < length G → q < (pair_at ks f.spot.pair).0 → f'.spot ≡ f.spot → f'.left < f.left → (pair_at ks c.spot.pair).0 ≡ q → c.left ≡ length (body_at G q)
@@ -170,7 +171,7 @@ module _ {S D : Type 0} (A : Algebra S) (W : Downward S D) (G : List Rule) (know
       let w : AreWaiting A W G (keys known) earlier first [] mss = rw (empty_reverse frames none) at waiting in
       let whole : Stretch = record { nodes = nodes_in (value G); hits = found A W (value G) } in
       let o = outcome-whole g lists spot outcome h (same ∙ w) in
-      told-only lists (befores outcome) outcome.last whole o
+      told-only lists (befores outcome.handed) outcome.last whole o
 
 -- what the bodies that are read, the innermost and the next one, stand for is no larger than the whole
 module _ {S D : Type 0} (A : Algebra S) (W : Downward S D) (G : List Rule) (ks : List (RuleStates S)) (g : IsGrammar G) (small : nodes_in (value G) < 2 ^ 63) where

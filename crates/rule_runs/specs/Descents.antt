@@ -14,26 +14,17 @@ use Rattle.rule_runs.specs.declared.descent.Mark.TheVariants.{Term as MarkTerm, 
 use Rattle.rule_runs.specs.declared.descent.Descent.{Descent}
 use Rattle.rule_runs.specs.declared.notes.Note.{Note}
 use Rattle.rule_runs.specs.declared.notes.Note.TheVariants.{Call as NoteCall}
-use Rattle.rule_runs.specs.declared.spots.Outcome.{Outcome}
+use Rattle.rule_runs.specs.declared.spots.Handed.{Handed}
 use Rattle.rule_runs.specs.declared.spots.Spot.{Spot}
 use Rattle.rule_runs.specs.declared.told.Here.{Here}
 use Rattle.rule_runs.specs.declared.told.Told.{Told}
 use Rattle.rule_runs.specs.Cuts.{Stretch, cut}
 use Rattle.rule_runs.specs.Frames.{base}
 use Rattle.rule_runs.specs.Notes.{AreNotes}
+use Rattle.rule_runs.specs.Outcomes.{Outcome, befores, downs_handed, tolds}
 use Rattle.rule_runs.specs.Risen.{pair_at}
 use Rattle.rule_runs.specs.Tellings.{Listed, Tells, IsTelling, AreTold}
 use Rattle.rule_runs.specs.Walks.{Open, Place, Piece, absorbed, after, downs_of, kids_of, told, param_downs}
-
--- the stretches before the parameters and their down states, and all stretches
-abbrev pub befores : {D : Type 0} → Outcome D → List Told
-befores o = map (λ h. h.before) o.handed.items
-
-abbrev pub downs_handed : {D : Type 0} → Outcome D → List D
-downs_handed o = map (λ h. h.down) o.handed.items
-
-abbrev pub tolds : {D : Type 0} → Outcome D → List Told
-tolds o = befores o ++ o.last ∷ []
 
 -- the marks, the next one first, as what is open
 abbrev pub AreOpen : {D : Type 0} → Listed → List (Mark D) → List (Open D) → Type 0
@@ -91,7 +82,7 @@ module _ {S D : Type 0} (A : Algebra S) (W : Downward S D) (G : List Rule) where
 
   module _ (ks : List (RuleStates S)) (lists : Listed) where
     -- a body that is read down to a place: what was told and what is still to be told are the stretches of the rule's value
-    pub record Walks (key : RuleStates S) (down : D) (notes : List (Note S)) (marks : List (Mark D)) (here : Here) (outcome : Outcome D) : Type 0 where
+    pub record Walks (key : RuleStates S) (down : D) (notes : List (Note S)) (marks : List (Mark D)) (here : Here) (met : List (Handed D)) : Type 0 where
       pub args : List S
       pub ls : List Label
       pub ms : List (Open D)
@@ -100,9 +91,9 @@ module _ {S D : Type 0} (A : Algebra S) (W : Downward S D) (G : List Rule) where
       pub noted : AreNotes A G ks args ls notes
       pub marked : AreOpen lists marks ms
       pub telling : IsTelling lists here s
-      pub finished : AreTold lists (befores outcome) done
+      pub finished : AreTold lists (befores met) done
       pub stretches : done ++ told A W G args s ms ls ≡ cut A W (value_at G key.0) key.1 down
-      pub hands : downs_handed outcome ++ param_downs A W G args (downs_of ms) ls ≡ handed A W (value_at G key.0) key.1 down
+      pub hands : downs_handed met ++ param_downs A W G args (downs_of ms) ls ≡ handed A W (value_at G key.0) key.1 down
       pub terms : AreTerms (arity (ranks_of G)) (length (downs_of ms)) ls
       pub meet : CallsMeet (Falls S D A W G) args (downs_of ms) ls
       pub earlier : CallsBelow key.0 ls
@@ -111,21 +102,21 @@ module _ {S D : Type 0} (A : Algebra S) (W : Downward S D) (G : List Rule) where
     pub record HasOutcome (spot : Spot D) (outcome : Outcome D) : Type 0 where
       pub there : spot.pair < length ks
       pub finished : AreTold lists (tolds outcome) (cut A W (value_at G (pair_at ks spot.pair).0) (pair_at ks spot.pair).1 spot.down)
-      pub hands : downs_handed outcome ≡ handed A W (value_at G (pair_at ks spot.pair).0) (pair_at ks spot.pair).1 spot.down
+      pub hands : downs_handed outcome.handed ≡ handed A W (value_at G (pair_at ks spot.pair).0) (pair_at ks spot.pair).1 spot.down
 
     -- the body, of which these are the notes, the last node first, is read down to a place with these marks
     pub record Standing (f : Descent D) (marks : List (Mark D)) : Type 0 where
       pub notes : List (Note S)
       pub noted : AreNotes A G ks (pair_at ks f.spot.pair).1 (body_at G (pair_at ks f.spot.pair).0) (reverse notes)
       pub within : f.left ≤ length notes
-      pub walks : Walks (pair_at ks f.spot.pair) f.spot.down (reverse (take f.left notes)) marks f.here f.outcome
+      pub walks : Walks (pair_at ks f.spot.pair) f.spot.down (reverse (take f.left notes)) marks f.here f.handed.items
 
     -- the body waits for the outcome of a call
     pub record Waiting (f : Descent D) (marks : List (Mark D)) (spot : Spot D) : Type 0 where
       pub notes : List (Note S)
       pub noted : AreNotes A G ks (pair_at ks f.spot.pair).1 (body_at G (pair_at ks f.spot.pair).0) (reverse notes)
       pub within : f.left ≤ length notes
-      pub walks : Walks (pair_at ks f.spot.pair) f.spot.down (NoteCall spot.pair ∷ reverse (take f.left notes)) (MarkTerm spot.down ∷ marks) f.here f.outcome
+      pub walks : Walks (pair_at ks f.spot.pair) f.spot.down (NoteCall spot.pair ∷ reverse (take f.left notes)) (MarkTerm spot.down ∷ marks) f.here f.handed.items
 
     -- the body waits for the outcome of a call that is met for the first time
     pub record Asks (old : Descent D) (spot : Spot D) (new : Descent D) (marks : List (Mark D)) : Type 0 where

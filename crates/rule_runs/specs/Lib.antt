@@ -10,6 +10,7 @@ pub mod Walks
 pub mod Tellings
 pub mod Notes
 pub mod Layers
+pub mod Outcomes
 pub mod Descents
 pub mod Answering
 pub mod Spans

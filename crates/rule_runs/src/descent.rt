@@ -7,21 +7,23 @@ ghost use Rattle.rule_runs.specs.Reached.{Falls};
 ghost use Rattle.rule_runs.specs.Cuts.{Stretch, nothing, one, beside};
 ghost use Rattle.rule_runs.specs.Listing.{AreEarlier};
 ghost use Rattle.rule_runs.specs.Notes.{AreNotes, AreKept, HasBody, unread};
+ghost use Rattle.rule_runs.specs.Outcomes.{outcome, downs_handed, tolds};
 ghost use Rattle.rule_runs.specs.Risen.{IsRun, keys, pair_at};
 ghost use Rattle.rule_runs.specs.Tellings.{Listed, Extends, HasRoom, IsTelling, AreTold};
 ghost use Rattle.rule_runs.specs.Walks.{Open, woven_marks};
-ghost use Rattle.rule_runs.specs.Descents.{AreOpen, HasRoomAhead, IsNext, HasOutcome, Standing, Asks, tolds, downs_handed};
+ghost use Rattle.rule_runs.specs.Descents.{AreOpen, HasRoomAhead, IsNext, HasOutcome, Standing, Asks};
 
 use crate::kept::{Reading, read};
 use crate::layers::Layers;
 use crate::listing::HitLists;
 use crate::notes::Note;
 use crate::rising::RiseTable;
-use crate::spots::{Handed, Outcome, Spot, Spots};
+use crate::spots::{Handed, Spot, Spots};
 use crate::told::{Here, Told};
 use read_steps::Steps;
 use slt_grammar::{Falling, Fell, Grammar, RunState};
 use std::alloc::{AllocError, Global};
+use std::mem::swap;
 use std::sync::ledger::Ledger;
 
 // What is still open on the way through a body: a term with its down state, or a stretch of a call behind an argument.
@@ -38,7 +40,25 @@ pub(crate) struct Descent<D: Drop> {
     // How many of the pair's notes are left. They stand from the last node to the first, so that the next one is the last of these.
     pub(crate) left: usize,
     pub(crate) here: Here,
-    pub(crate) outcome: Outcome<D>,
+    // The parameters that were met.
+    pub(crate) handed: Vec<Handed<D>>,
+}
+
+// What comes next of a body: the stretch behind its last parameter, or the spot whose outcome it waits for.
+#[derive(Drop)]
+pub(crate) enum Descended<D: Drop> {
+    Done(Told),
+    Waits(Spot<D>),
+}
+
+// Gives a list that is empty the memory of another one, whose items are no longer needed.
+pub(crate) fn reuse<T: Drop>(list: &mut Vec<T>, spare: &mut Vec<T>)
+    ensures { list.new.items ≡ list.old.items }
+{
+    if list.is_empty() {
+        spare.clear();
+        swap(list, spare);
+    }
 }
 
 // Begins a body, which is read where that wasn't done yet. At most two steps for each of its nodes.
@@ -50,6 +70,7 @@ pub(crate) fn begin<A: Falling, L: Ledger>(
     bodies: &mut Reading<'_, A::State>,
     marks: &mut Layers<Mark<A::Down>>,
     spot: Spot<A::Down>,
+    spare: &mut Vec<Handed<A::Down>>,
     steps: &mut Steps<L>,
 ) -> Result<Descent<A::Down>, AllocError>
     requires run { IsRun (A.algebra automaton.now) (rules_of grammar.now.rules) risen.now.known }
@@ -72,20 +93,14 @@ pub(crate) fn begin<A: Falling, L: Ledger>(
     // The call tells that the rules are a grammar.
     let _rules = grammar.rules();
     let left = read(alloc, automaton, grammar, risen, bodies, spot.pair, steps)?;
-    let Some((_, states)) = risen.known.pair(spot.pair) else {
-        unreachable!()
-    };
-    // Each parameter is handed a down state once.
-    let handed = Vec::with_capacity(alloc, states.len())?;
+    let mut handed = Vec::new(alloc);
+    reuse(&mut handed, spare);
     marks.push(Mark::Term(spot.down.copy()?))?;
     Ok(Descent {
         spot,
         left,
         here: Here::new(alloc),
-        outcome: Outcome {
-            handed,
-            last: Told::NOTHING,
-        },
+        handed,
     })
 }
 
@@ -100,7 +115,7 @@ pub(crate) fn descend<A: Falling>(
     lists: &mut HitLists,
     marks: &mut Layers<Mark<A::Down>>,
     descent: &mut Descent<A::Down>,
-) -> Result<Option<Spot<A::Down>>, AllocError>
+) -> Result<Descended<A::Down>, AllocError>
     requires run { IsRun (A.algebra automaton.now) (rules_of grammar.now.rules) risen.now.known }
     requires noted { AreNotes (A.algebra automaton.now) (rules_of grammar.now.rules) (keys risen.now.known) (pair_at (keys risen.now.known) descent.old.spot.pair).1 (body_at (rules_of grammar.now.rules) (pair_at (keys risen.now.known) descent.old.spot.pair).0) (reverse notes.now) }
     requires known { All (λ e. HasOutcome (A.algebra automaton.now) (A.downward automaton.now) (rules_of grammar.now.rules) (keys risen.now.known) lists.old e.0 e.1) known.now }
@@ -111,10 +126,10 @@ pub(crate) fn descend<A: Falling>(
     ensures same { descent.new.spot ≡ descent.old.spot }
     ensures more { OnOk result (Extends lists.old lists.new) }
     ensures earlier { OnOk result (AreEarlier lists.new.lists) }
-    ensures done { IfOk result (λ next. IfNone next (HasOutcome (A.algebra automaton.now) (A.downward automaton.now) (rules_of grammar.now.rules) (keys risen.now.known) lists.new descent.new.spot descent.new.outcome)) }
-    ensures waits { IfOk result (λ next. IfSome next (λ spot. Asks (A.algebra automaton.now) (A.downward automaton.now) (rules_of grammar.now.rules) (keys risen.now.known) lists.new descent.old spot descent.new marks.new.top)) }
+    ensures done { IfOk result (λ next. (last : Told) → next ≡ Descended.Done last → HasOutcome (A.algebra automaton.now) (A.downward automaton.now) (rules_of grammar.now.rules) (keys risen.now.known) lists.new descent.new.spot (outcome descent.new.handed.items last)) }
+    ensures waits { IfOk result (λ next. (spot : Spot A.Down) → next ≡ Descended.Waits spot → Asks (A.algebra automaton.now) (A.downward automaton.now) (rules_of grammar.now.rules) (keys risen.now.known) lists.new descent.old spot descent.new marks.new.top) }
     ensures below { OnOk result (marks.new.below ≡ marks.old.below) }
-    ensures new { IfOk result (λ next. IfSome next (λ spot. All (λ e. e.0 ≢ spot) known.now)) }
+    ensures new { IfOk result (λ next. (spot : Spot A.Down) → next ≡ Descended.Waits spot → All (λ e. e.0 ≢ spot) known.now) }
 {
     // The call tells that the rules are a grammar.
     let _rules = grammar.rules();
@@ -128,7 +143,7 @@ pub(crate) fn descend<A: Falling>(
             Note::Bottom => {}
             Note::Param => {
                 let before = descent.here.finish(alloc, lists)?;
-                descent.outcome.handed.push(Handed { before, down })?;
+                descent.handed.push(Handed { before, down })?;
             }
             Note::Symbol(symbol, kids, rest) => {
                 let symbol = *symbol as usize;
@@ -141,16 +156,15 @@ pub(crate) fn descend<A: Falling>(
                     down,
                 };
                 match known.find(&spot) {
-                    Some(outcome) => enter_call(marks, &mut descent.here, outcome)?,
-                    None => return Ok(Some(spot)),
+                    Some((handed, last)) => enter_call(marks, &mut descent.here, handed, last)?,
+                    None => return Ok(Descended::Waits(spot)),
                 }
             }
         }
     }
     next_term(marks, &mut descent.here)?;
     let last = descent.here.finish(alloc, lists)?;
-    descent.outcome.last = last;
-    Ok(None)
+    Ok(Descended::Done(last))
 }
 
 // Goes to the next term, and answers its down state; none where nothing is open any more.
@@ -192,20 +206,21 @@ fn enter_symbol<D: Drop>(
 pub(crate) fn enter_call<D: RunState>(
     marks: &mut Layers<Mark<D>>,
     here: &mut Here,
-    outcome: &Outcome<D>,
+    handed: &[Handed<D>],
+    last: Told,
 ) -> Result<(), AllocError>
-    requires room { (told : Told) → told ≡ get_or (tolds outcome.now) 0 told → HasRoom here.old told }
-    ensures entered { (lists : Listed) (s : Stretch) (ms : List (Open D)) (ss : List Stretch) → IsTelling lists here.old s → AreOpen lists marks.old.top ms → AreTold lists (tolds outcome.now) ss → OnOk result (IsTelling lists here.new (beside s (get_or ss 0 nothing)) × AreOpen lists marks.new.top (woven_marks (downs_handed outcome.now) (drop 1 ss) ++ ms)) }
+    requires room { (told : Told) → told ≡ get_or (tolds (outcome handed.now last)) 0 told → HasRoom here.old told }
+    ensures entered { (lists : Listed) (s : Stretch) (ms : List (Open D)) (ss : List Stretch) → IsTelling lists here.old s → AreOpen lists marks.old.top ms → AreTold lists (tolds (outcome handed.now last)) ss → OnOk result (IsTelling lists here.new (beside s (get_or ss 0 nothing)) × AreOpen lists marks.new.top (woven_marks (downs_handed handed.now) (drop 1 ss) ++ ms)) }
     ensures below { OnOk result (marks.new.below ≡ marks.old.below) }
 {
-    let mut behind = outcome.last;
-    let mut left = outcome.handed.len();
+    let mut behind = last;
+    let mut left = handed.len();
     'arguments: while left > 0 {
         left -= 1;
-        let handed = &outcome.handed[left];
+        let parameter = &handed[left];
         marks.push(Mark::Piece(behind))?;
-        marks.push(Mark::Term(handed.down.copy()?))?;
-        behind = handed.before;
+        marks.push(Mark::Term(parameter.down.copy()?))?;
+        behind = parameter.before;
     }
     here.absorb(behind)
 }

@@ -12,7 +12,7 @@ ghost use Rattle.rule_runs.specs.Reached.{RuleStates, FallsOnce};
 ghost use Rattle.rule_runs.specs.Notes.{AreNoted, IsRisen};
 ghost use Rattle.rule_runs.specs.Risen.{IsRun, keys};
 
-use crate::descent::{begin, descend, enter_call};
+use crate::descent::{Descended, begin, descend, enter_call, reuse};
 use crate::kept::Reading;
 use crate::layers::Layers;
 use crate::listing::HitLists;
@@ -116,6 +116,7 @@ fn run_down<A: Falling, L: Ledger>(
     let mut known = Spots::with_room(alloc, pairs)?;
     let mut lists = HitLists::new(alloc, kept);
     let mut frames = Vec::new(alloc);
+    let mut spare = Vec::new(alloc);
     let start = Spot {
         pair: pairs - 1,
         down: automaton.start()?,
@@ -129,6 +130,7 @@ fn run_down<A: Falling, L: Ledger>(
         &mut bodies,
         &mut marks,
         start,
+        &mut spare,
         steps,
     )?;
     'bodies: loop {
@@ -138,10 +140,12 @@ fn run_down<A: Falling, L: Ledger>(
         match descend(
             alloc, automaton, grammar, risen, notes, &known, &mut lists, &mut marks, &mut frame,
         )? {
-            Some(spot) => match spent_outcome(alloc, automaton, grammar, risen, spent, &spot)? {
-                Some(outcome) => {
-                    enter_call(&mut marks, &mut frame.here, &outcome)?;
-                    known.note(spot, outcome)?;
+            Descended::Waits(spot) => match spent_outcome(
+                automaton, grammar, risen, spent, &spot, &mut spare,
+            )? {
+                Some(last) => {
+                    enter_call(&mut marks, &mut frame.here, &spare, last)?;
+                    known.note(spot, &mut spare, last)?;
                 }
                 None => {
                     frames.push(frame)?;
@@ -154,18 +158,22 @@ fn run_down<A: Falling, L: Ledger>(
                         &mut bodies,
                         &mut marks,
                         spot,
+                        &mut spare,
                         steps,
                     )?;
                 }
             },
-            None => match frames.pop() {
-                None => return Ok((lists, frame.outcome.last)),
+            Descended::Done(last) => match frames.pop() {
+                None => return Ok((lists, last)),
                 Some(below) => {
-                    let done = frame;
+                    let mut done = frame;
                     frame = below;
                     marks.close();
-                    enter_call(&mut marks, &mut frame.here, &done.outcome)?;
-                    known.note(done.spot, done.outcome)?;
+                    enter_call(&mut marks, &mut frame.here, &done.handed, last)?;
+                    known.note(done.spot, &mut done.handed, last)?;
+                    // Of many bodies within one another each can use the list of the one before.
+                    reuse(&mut frame.handed, &mut done.handed);
+                    spare = done.handed;
                 }
             },
         }

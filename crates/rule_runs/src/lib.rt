@@ -10,7 +10,7 @@
 //! Downward: `falling` runs over the bodies of `descent`, which `kept` has as their `notes`, with what is open in `layers`, and keeps in
 //! `spots` what each was found to be, as stretches of nodes (`told`). At a down state from which nothing is hit, `spent` tells that by
 //! counts. `listing` tells a list that is made of earlier lists, for `answers`.
-//! What `memo` and `kept` have of each pair stands in lists that all pairs share, at a `span`; a `place` in a list has 32 bits. `memo`, and
+//! What `memo`, `kept` and `spots` keep of each pair or spot stands in lists that all share, at a `span`; a `place` has 32 bits. `memo`, and
 //! the `table` under `spots`, have an `index`, which finds most of its keys by a number and without a hash.
 //!
 //! `specs/Reached.antt` says which pairs and triples a run meets. Counts tell that a value is small enough for `fall`, by the lemma

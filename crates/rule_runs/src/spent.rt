@@ -7,15 +7,16 @@ ghost use Rattle.slt_grammar.specs.Automata.{IsSpent};
 ghost use Rattle.slt_grammar.specs.Keyed.{rules_of};
 ghost use Rattle.slt_grammar.specs.declared.rules.Rule.{Rule};
 ghost use Rattle.rule_runs.specs.Descents.{HasOutcome};
+ghost use Rattle.rule_runs.specs.Outcomes.{outcome};
 ghost use Rattle.rule_runs.specs.Risen.{IsRun, keys};
 ghost use Rattle.rule_runs.specs.Tellings.{Listed, unhit_told};
 
 use crate::rising::RiseTable;
-use crate::spots::{Handed, Outcome, Spot};
+use crate::spots::{Handed, Spot};
 use crate::told::Told;
 use segment_counts::Counts;
 use slt_grammar::{Falling, Grammar, RunState};
-use std::alloc::{AllocError, Global};
+use std::alloc::AllocError;
 
 /// A down state from which nothing is hit, with the counts of the grammar's segments.
 #[derive(Drop)]
@@ -37,20 +38,21 @@ impl<'a, D> Spent<'a, D> {
     }
 }
 
-// What a pair has at the spent state; none at another one.
+// What a pair has at the spent state: what it hands to its parameters, which takes the place of what is in the list, and the stretch
+// behind the last of them. None at another state.
 pub(crate) fn spent_outcome<A: Falling>(
-    alloc: Global,
     automaton: &A,
     grammar: &Grammar,
     risen: &RiseTable<A>,
     spent: Option<&Spent<'_, A::Down>>,
     spot: &Spot<A::Down>,
-) -> Result<Option<Outcome<A::Down>>, AllocError>
+    handed: &mut Vec<Handed<A::Down>>,
+) -> Result<Option<Told>, AllocError>
     requires run { IsRun (A.algebra automaton.now) (rules_of grammar.now.rules) risen.now.known }
     requires there { spot.now.pair < length (keys risen.now.known) }
     requires spent { IfSome spent (λ s. IsSpent (A.downward automaton.now) s.now.down) }
     requires counts { IfSome spent (λ s. (names : List (Kind × List ℕ)) × AreCounts names (rules_of grammar.now.rules) s.now.counts.now) }
-    ensures { IfOk result (λ found. IfSome found (λ outcome. (lists : Listed) → HasOutcome (A.algebra automaton.now) (A.downward automaton.now) (rules_of grammar.now.rules) (keys risen.now.known) lists spot.now outcome)) }
+    ensures { IfOk result (λ found. IfSome found (λ last. (lists : Listed) → HasOutcome (A.algebra automaton.now) (A.downward automaton.now) (rules_of grammar.now.rules) (keys risen.now.known) lists spot.now (outcome handed.new.items last))) }
 {
     // The call tells that the rules are a grammar.
     let _rules = grammar.rules();
@@ -64,15 +66,12 @@ pub(crate) fn spent_outcome<A: Falling>(
         unreachable!()
     };
     let rank = grammar.rank(rule);
-    let mut handed = Vec::with_capacity(alloc, rank)?;
+    handed.clear();
     'segments: for segment in 0..rank {
         handed.push(Handed {
             before: spent.told(rule, segment),
             down: spent.down.copy()?,
         })?;
     }
-    Ok(Some(Outcome {
-        handed,
-        last: spent.told(rule, rank),
-    }))
+    Ok(Some(spent.told(rule, rank)))
 }

@@ -1,5 +1,5 @@
 // Entries under keys, which an index finds.
-ghost use Rattle.std.specs.Prelude.{◌≡◌, ◌++◌, true, false, [], ◌∷◌, slice_get, Some, None, IfOk, IfSome, IfNone, OnOk};
+ghost use Rattle.std.specs.Prelude.{◌≡◌, ◌++◌, true, false, [], ◌∷◌, slice_get, Some, None, IfOk, IfSome, IfNone, OnErr, OnOk};
 ghost use Rattle.std.specs.Map.{lookup};
 
 use crate::index::{Index, Numbered};
@@ -48,7 +48,8 @@ impl<K: Numbered, X: Drop> Table<K, X> {
     // Notes a value under a key that is not there yet.
     pub(crate) fn note(&mut self, key: K, value: X) -> Result<(), AllocError>
         requires { lookup (K.eq key) self.old ≡ None }
-        ensures { OnOk result (self.new ≡ self.old ++ (key, value) ∷ []) }
+        ensures ok { OnOk result (self.new ≡ self.old ++ (key, value) ∷ []) }
+        ensures stays { OnErr result (self.new ≡ self.old) }
     {
         self.index.name(&key, self.entries.len())?;
         self.entries.push((key, value))?;

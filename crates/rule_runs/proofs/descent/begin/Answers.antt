@@ -27,5 +27,5 @@ returns-clause-stands g c = λ lists.
       notes = ns;
       noted = noted;
       within = omega arith;
-      walks = rw (all, m) (walk-start A W G c.rules-rules.ensures.grammar k p ks lists c.args.spot.down (reverse ns) c.new.result _ c.requires.met noted c.in_ok-handed.ensures.items (c.new.ensures lists));
+      walks = rw (all, m) (walk-start A W G c.rules-rules.ensures.grammar k p ks lists c.args.spot.down (reverse ns) c.new.result _ c.requires.met noted (c.reuse.ensures ∙ c.new-handed.ensures.items) (c.new.ensures lists));
     }

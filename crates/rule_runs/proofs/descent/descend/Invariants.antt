@@ -14,7 +14,7 @@ invariant-notes g l = record {
   same : l.descent.spot ≡ l.initial.descent.spot;
   more : Extends l.initial.lists l.lists;
   earlier : AreEarlier l.lists.lists;
-  stands : Walks (g.A.Rising.algebra l.automaton) (g.A.Falling.downward l.automaton) (rules_of l.grammar.rules) (keys l.risen.known) l.lists (pair_at (keys l.risen.known) l.descent.spot.pair) l.descent.spot.down (reverse (take l.descent.left l.notes)) l.marks.top l.descent.here l.descent.outcome;
+  stands : Walks (g.A.Rising.algebra l.automaton) (g.A.Falling.downward l.automaton) (rules_of l.grammar.rules) (keys l.risen.known) l.lists (pair_at (keys l.risen.known) l.descent.spot.pair) l.descent.spot.down (reverse (take l.descent.left l.notes)) l.marks.top l.descent.here l.descent.handed.items;
   below : l.marks.below ≡ l.initial.marks.below;
   fewer : l.descent.left ≤ l.initial.descent.left;
   within : l.descent.left ≤ length l.notes;

@@ -75,14 +75,14 @@ impl Climb {
     }
 
     /// One turn.
-    pub(crate) fn turn(&mut self, sight: &Sight, turn: Turn)
+    pub(crate) fn turn(&mut self, sight: &Sight, turn: &Turn)
         requires shallow { self.old.judge.stack < 2 ^ 127 }
-        requires room { self.old.place + seeks (turn ∷ []) ≤ 64 }
+        requires room { self.old.place + seeks (turn.now ∷ []) ≤ 64 }
         requires chain { self.old.known.chain < 2 ^ self.old.place }
         requires code { self.old.known.code < 2 ^ self.old.place }
-        ensures { self.new ≡ climbed (eyes sight.now.kinds.now) sight.now.symbol self.old turn }
+        ensures { self.new ≡ climbed (eyes sight.now.kinds.now) sight.now.symbol self.old turn.now }
     {
-        if let Turn::Seek(axis, wanted) = turn {
+        if let Turn::Seek(axis, wanted) = *turn {
             self.note(sight, axis, wanted);
         }
         self.judge.turn(sight, turn);
@@ -96,7 +96,7 @@ pub(crate) fn rise(turns: &[Turn], sight: &Sight, kids: Up, rest: Up) -> Up
 {
     let mut climb = Climb::new(kids, rest);
     'turns: for turn in turns {
-        climb.turn(sight, *turn);
+        climb.turn(sight, turn);
     }
     climb.known
 }

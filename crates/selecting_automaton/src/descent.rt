@@ -30,16 +30,13 @@ pub(crate) struct Descent {
 }
 
 impl Down {
-    /// What is said of the later steps.
-    fn later(self) -> Down
-        ensures { result ≡ later_marks self }
+    /// Goes on to what is said of the later steps.
+    fn pass(&mut self)
+        ensures { self.new ≡ later_marks self.old }
     {
-        Down {
-            start: self.start,
-            parent: self.parent / 2,
-            above: self.above / 2,
-            before: self.before / 2,
-        }
+        self.parent /= 2;
+        self.above /= 2;
+        self.before /= 2;
     }
 
     /// Where one step more may begin.
@@ -100,27 +97,26 @@ impl Descent {
         ensures { self.new ≡ descended (eyes sight.now.kinds.now) sight.now.symbol self.old (turns.Walk axis wanted) }
     {
         let here = self.here;
-        let marks = self.marks;
-        let above = is_odd(marks.above);
-        let before = here && !sight.is_attribute() || is_odd(marks.before);
+        let parent = is_odd(self.marks.parent);
+        let above = is_odd(self.marks.above);
+        let before = here && !sight.is_attribute() || is_odd(self.marks.before);
         self.left.mark(self.place, here, here || above, false);
-        self.right
-            .mark(self.place, is_odd(marks.parent), above, before);
+        self.right.mark(self.place, parent, above, before);
         self.here = self.arrives(sight, axis) && (sight.is(wanted) && self.judge.top());
-        self.marks = marks.later();
+        self.marks.pass();
         self.place += 1;
         self.judge.pop();
     }
 
     /// One turn.
-    pub(crate) fn turn(&mut self, sight: &Sight, turn: Turn)
+    pub(crate) fn turn(&mut self, sight: &Sight, turn: &Turn)
         requires shallow { self.old.judge.stack < 2 ^ 127 }
-        requires room { self.old.place + walks (turn ∷ []) ≤ 64 }
+        requires room { self.old.place + walks (turn.now ∷ []) ≤ 64 }
         requires left { AreMarksBelow self.old.place self.old.left }
         requires right { AreMarksBelow self.old.place self.old.right }
-        ensures { self.new ≡ descended (eyes sight.now.kinds.now) sight.now.symbol self.old turn }
+        ensures { self.new ≡ descended (eyes sight.now.kinds.now) sight.now.symbol self.old turn.now }
     {
-        match turn {
+        match *turn {
             Turn::Begin => self.here = self.marks.start,
             Turn::Walk(axis, wanted) => self.walk(sight, axis, wanted),
             Turn::End => {
@@ -141,7 +137,7 @@ pub(crate) fn fall(turns: &[Turn], sight: &Sight, down: Down, kids: Up, rest: Up
 {
     let mut descent = Descent::new(Judge::new(kids, rest), down);
     'turns: for turn in turns {
-        descent.turn(sight, *turn);
+        descent.turn(sight, turn);
     }
     Fell {
         hit: descent.hit,

@@ -28,14 +28,12 @@ pub(crate) fn is_odd(word: u64) -> bool
 }
 
 impl Up {
-    /// What is known of the later parts.
-    fn later(self) -> Up
-        ensures { result ≡ later_known self }
+    /// Goes on to what is known of the later parts.
+    fn pass(&mut self)
+        ensures { self.new ≡ later_known self.old }
     {
-        Up {
-            chain: self.chain / 2,
-            code: self.code / 2,
-        }
+        self.chain /= 2;
+        self.code /= 2;
     }
 }
 
@@ -99,16 +97,16 @@ impl Judge {
         let here = self.fits(sight, wanted);
         let found = self.finds(sight, axis, here);
         self.stack = u128::from(found) + 2 * (self.stack / 2 / 2);
-        self.kids = self.kids.later();
-        self.rest = self.rest.later();
+        self.kids.pass();
+        self.rest.pass();
     }
 
     /// One turn.
-    pub(crate) fn turn(&mut self, sight: &Sight, turn: Turn)
+    pub(crate) fn turn(&mut self, sight: &Sight, turn: &Turn)
         requires { self.old.stack < 2 ^ 127 }
-        ensures { self.new ≡ judged (eyes sight.now.kinds.now) sight.now.symbol self.old turn }
+        ensures { self.new ≡ judged (eyes sight.now.kinds.now) sight.now.symbol self.old turn.now }
     {
-        match turn {
+        match *turn {
             Turn::Truth(truth) => self.push(truth),
             Turn::Not => {
                 let truth = self.pop();

@@ -21,6 +21,7 @@ pub mod Places
 pub mod Layering
 pub mod Marks
 pub mod NoteLemmas
+pub mod NoteLists
 mod Noting
 mod Keeping
 pub mod KeptNotes

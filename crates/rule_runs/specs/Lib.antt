@@ -9,6 +9,7 @@ pub mod Cuts
 pub mod Walks
 pub mod Tellings
 pub mod Notes
+pub mod NoteLists
 pub mod Layers
 pub mod Outcomes
 pub mod Descents

@@ -1,5 +1,5 @@
 // Rule bodies that a run downward reads, node by node from their root.
-ghost use Rattle.std.specs.Prelude.{◌≡◌, ◌≢◌, ◌+◌, ◌*◌, ◌^◌, ◌<◌, ◌≤◌, ◌++◌, ◌∷◌, ℕ, List, [], length, get_or, drop, reverse, IfOk, OnOk, IfSome, IfNone, All};
+ghost use Rattle.std.specs.Prelude.{◌≡◌, ◌≢◌, ◌+◌, ◌*◌, ◌^◌, ◌<◌, ◌≤◌, ◌++◌, ◌∷◌, ℕ, List, [], length, get_or, drop, reverse, IfOk, OnOk, All};
 ghost use Rattle.slt_grammar.specs.Automata.{nodes_in};
 ghost use Rattle.slt_grammar.specs.Grammars.{body_at, value_at};
 ghost use Rattle.slt_grammar.specs.Keyed.{rules_of};
@@ -16,7 +16,7 @@ ghost use Rattle.rule_runs.specs.Descents.{AreOpen, HasRoomAhead, IsNext, HasOut
 use crate::kept::{Reading, read};
 use crate::layers::Layers;
 use crate::listing::HitLists;
-use crate::notes::Note;
+use crate::note_list::{NoteSlice, Seen};
 use crate::rising::RiseTable;
 use crate::spots::{Handed, Spot, Spots};
 use crate::told::{Here, Told};
@@ -110,14 +110,14 @@ pub(crate) fn descend<A: Falling>(
     automaton: &A,
     grammar: &Grammar,
     risen: &RiseTable<A>,
-    notes: &[Note<A::State>],
+    notes: NoteSlice<'_, A::State>,
     known: &Spots<A::Down>,
     lists: &mut HitLists,
     marks: &mut Layers<Mark<A::Down>>,
     descent: &mut Descent<A::Down>,
 ) -> Result<Descended<A::Down>, AllocError>
     requires run { IsRun (A.algebra automaton.now) (rules_of grammar.now.rules) risen.now.known }
-    requires noted { AreNotes (A.algebra automaton.now) (rules_of grammar.now.rules) (keys risen.now.known) (pair_at (keys risen.now.known) descent.old.spot.pair).1 (body_at (rules_of grammar.now.rules) (pair_at (keys risen.now.known) descent.old.spot.pair).0) (reverse notes.now) }
+    requires noted { AreNotes (A.algebra automaton.now) (rules_of grammar.now.rules) (keys risen.now.known) (pair_at (keys risen.now.known) descent.old.spot.pair).1 (body_at (rules_of grammar.now.rules) (pair_at (keys risen.now.known) descent.old.spot.pair).0) (reverse notes) }
     requires known { All (λ e. HasOutcome (A.algebra automaton.now) (A.downward automaton.now) (rules_of grammar.now.rules) (keys risen.now.known) lists.old e.0 e.1) known.now }
     requires earlier { AreEarlier lists.old.lists }
     requires there { descent.old.spot.pair < length (keys risen.now.known) }
@@ -135,26 +135,22 @@ pub(crate) fn descend<A: Falling>(
     let _rules = grammar.rules();
     'notes: while descent.left > 0 {
         descent.left -= 1;
-        let note = &notes[descent.left];
+        let note = notes.at(descent.left);
         let Some(down) = next_term(marks, &mut descent.here)? else {
             unreachable!()
         };
         match note {
-            Note::Bottom => {}
-            Note::Param => {
+            Seen::Bottom => {}
+            Seen::Param => {
                 let before = descent.here.finish(alloc, lists)?;
                 descent.handed.push(Handed { before, down })?;
             }
-            Note::Symbol(symbol, kids, rest) => {
-                let symbol = *symbol as usize;
+            Seen::Symbol(symbol, kids, rest) => {
                 let fell = automaton.step(symbol, &down, kids, rest)?;
                 enter_symbol(marks, &mut descent.here, symbol, fell, lists.are_kept())?;
             }
-            Note::Call(pair) => {
-                let spot = Spot {
-                    pair: *pair as usize,
-                    down,
-                };
+            Seen::Call(pair) => {
+                let spot = Spot { pair, down };
                 match known.find(&spot) {
                     Some((handed, last)) => enter_call(marks, &mut descent.here, handed, last)?,
                     None => return Ok(Descended::Waits(spot)),

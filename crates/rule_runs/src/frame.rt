@@ -1,8 +1,7 @@
 // Rule bodies that a run upward evaluates, label by label from their end.
-ghost use Rattle.std.specs.Prelude.{◌≡◌, ◌≢◌, ◌+◌, ◌++◌, ◌*◌, ◌<◌, ◌≤◌, ℕ, [], ◌∷◌, length, take, drop, reverse, vec_len, IfOk, IsTrue, OnOk, All};
-ghost use Rattle.slt_grammar.specs.Algebras.{Algebra, apply, all_meanings, ranks_of};
-ghost use Rattle.slt_grammar.specs.Bodies.{arity};
-ghost use Rattle.slt_grammar.specs.Grammars.{body_at, rank_at};
+ghost use Rattle.std.specs.Prelude.{◌≡◌, ◌≢◌, ◌+◌, ◌++◌, ◌*◌, ◌<◌, ◌≤◌, [], ◌∷◌, length, drop, reverse, IfOk, IsTrue, OnOk, All};
+ghost use Rattle.slt_grammar.specs.Algebras.{Algebra};
+ghost use Rattle.slt_grammar.specs.Grammars.{body_at};
 ghost use Rattle.slt_grammar.specs.Keyed.{rules_of};
 ghost use Rattle.rule_runs.specs.Entries.{key_of};
 ghost use Rattle.rule_runs.specs.Risen.{IsPair, AreKnown, state_at, keys};

@@ -11,11 +11,12 @@ ghost use Rattle.rule_runs.specs.Risen.{AreKnown, IsPair, IsRun, keys, pair_at, 
 use crate::body::append_body;
 use crate::layers::Layers;
 use crate::memo::Memo;
+use crate::note_list::{NoteList, NoteSlice};
 use crate::notes::{Note, note_labels};
 use crate::rising::RiseTable;
 use crate::span::Span;
 use read_steps::Steps;
-use slt_grammar::{Grammar, Label, Rising};
+use slt_grammar::{Grammar, Label, Rising, RunState};
 use std::alloc::{AllocError, Global};
 use std::marker::Model;
 use std::sync::ledger::Ledger;
@@ -25,7 +26,7 @@ use std::sync::ledger::Ledger;
 #[derive(Drop)]
 pub(crate) struct Bodies<S: Drop> {
     // The notes of all bodies in the order in which they were noted, so that a body takes no memory of its own.
-    notes: Vec<Note<S>>,
+    notes: NoteList<S>,
     // Where those of each body stand.
     spans: Vec<Option<Span>>,
 }
@@ -37,9 +38,9 @@ impl<S: Drop> Model for Bodies<S> {
 
     ghost Value = { List (Option (List (Note S))) };
 
-    ghost view = { λ b. kept_of b.notes.items b.spans.items };
+    ghost view = { λ b. kept_of b.notes b.spans.items };
 
-    ghost invariant = { λ b. All (IsWithin (length b.notes.items)) b.spans.items };
+    ghost invariant = { λ b. All (IsWithin (length b.notes)) b.spans.items };
 }
 
 impl<S: Drop> Bodies<S> {
@@ -48,7 +49,7 @@ impl<S: Drop> Bodies<S> {
         ensures { result ≡ [] }
     {
         Bodies {
-            notes: Vec::new(alloc),
+            notes: NoteList::new(alloc),
             spans: Vec::new(alloc),
         }
     }
@@ -62,22 +63,24 @@ impl<S: Drop> Bodies<S> {
             spans.push(None)?;
         }
         Ok(Bodies {
-            notes: Vec::new(alloc),
+            notes: NoteList::new(alloc),
             spans,
         })
     }
 
     // The notes of a pair's body, if it was noted.
-    fn notes(&self, pair: usize) -> Option<&[Note<S>]>
-        ensures some { IfSome result (λ notes. slice_get self.now pair ≡ Some (Some notes.now)) }
+    fn notes(&self, pair: usize) -> Option<NoteSlice<'_, S>>
+        ensures some { IfSome result (λ notes. slice_get self.now pair ≡ Some (Some notes)) }
         ensures none { IfNone result (HasBody self.now pair → ⊥) }
     {
         match self.spans.get(pair) {
-            Some(Some(span)) => Some(span.of(&self.notes)),
+            Some(Some(span)) => Some(self.notes.slice(span)),
             _ => None,
         }
     }
+}
 
+impl<S: RunState> Bodies<S> {
     // Keeps the topmost notes as those of the next pair, where notes are made.
     pub(crate) fn keep(
         &mut self,
@@ -92,7 +95,7 @@ impl<S: Drop> Bodies<S> {
             return Ok(());
         }
         let begin = self.notes.len();
-        notes.empty_into(&mut self.notes)?;
+        self.notes.append_top(notes)?;
         let span = Span::new(begin, self.notes.len())?;
         self.spans.push(Some(span))?;
         Ok(())
@@ -141,8 +144,8 @@ impl<'a, S: Drop> Reading<'a, S> {
     }
 
     // The notes of a pair's body, if it was noted or read.
-    pub(crate) fn notes(&self, pair: usize) -> Option<&[Note<S>]>
-        ensures some { IfSome result (λ notes. slice_get self.now pair ≡ Some (Some notes.now)) }
+    pub(crate) fn notes(&self, pair: usize) -> Option<NoteSlice<'_, S>>
+        ensures some { IfSome result (λ notes. slice_get self.now pair ≡ Some (Some notes)) }
         ensures none { IfNone result (HasBody self.now pair → ⊥) }
     {
         match self.noted.notes(pair) {

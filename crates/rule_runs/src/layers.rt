@@ -1,5 +1,5 @@
 // Lists one above another in one run of memory. The topmost grows and shrinks.
-ghost use Rattle.std.specs.Prelude.{◌≡◌, [], ◌∷◌, List, get_or, drop, reverse, ◌++◌, OnOk, IfSome, IfNone};
+ghost use Rattle.std.specs.Prelude.{◌≡◌, [], ◌∷◌, get_or, drop, OnOk, IfSome, IfNone};
 
 use crate::stack::drop_top;
 use std::alloc::{AllocError, Global};
@@ -68,20 +68,6 @@ impl<T: Drop> Layers<T> {
     {
         self.floors.push(self.floor)?;
         self.floor = self.items.len();
-        Ok(())
-    }
-
-    // Puts the items of the topmost list, the last one its top, behind those of another list.
-    pub(crate) fn empty_into(&mut self, list: &mut Vec<T>) -> Result<(), AllocError>
-        ensures moved { (more : List T) × (list.new.items ≡ list.old.items ++ more) × OnOk result (more ≡ reverse self.old.top) }
-        ensures top { OnOk result (self.new.top ≡ []) }
-        ensures below { OnOk result (self.new.below ≡ self.old.below) }
-    {
-        let begin = list.len();
-        'items: while let Some(item) = self.pop() {
-            list.push(item)?;
-        }
-        list.slice_mut(begin..).reverse();
         Ok(())
     }
 

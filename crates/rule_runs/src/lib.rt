@@ -10,8 +10,9 @@
 //! Downward: `falling` runs over the bodies of `descent`, which `kept` has as their `notes`, with what is open in `layers`, and keeps in
 //! `spots` what each was found to be, as stretches of nodes (`told`). At a down state from which nothing is hit, `spent` tells that by
 //! counts. `listing` tells a list that is made of earlier lists, for `answers`.
-//! What `memo`, `kept` and `spots` keep of each pair or spot stands in lists that all share, at a `span`; a `place` has 32 bits. `memo`, and
-//! the `table` under `spots`, have an `index`, which finds most of its keys by a number and without a hash.
+//! What `memo`, `kept` and `spots` keep of each pair or spot stands in lists that all share, at a `span`; a `place` has 32 bits, and a
+//! `note_list` has the states of symbols apart from the notes. `memo`, and the `table` under `spots`, have an `index`, which finds most of its
+//! keys by a number and without a hash.
 //!
 //! `specs/Reached.antt` says which pairs and triples a run meets. Counts tell that a value is small enough for `fall`, by the lemma
 //! `nodes-weigh` of `proofs/Sizes.antt`; a hit's symbol tells its node's kind and name, by `document-symbol` of `proofs/Symbols.antt`.
@@ -28,6 +29,7 @@ mod kept;
 mod layers;
 mod listing;
 mod memo;
+mod note_list;
 mod notes;
 mod one_state;
 mod place;

@@ -1,16 +1,17 @@
 // A body as a run downward reads it: its nodes with the states from below that each of them asks for.
-ghost use Rattle.std.specs.Prelude.{◌≡◌, ◌≢◌, ◌+◌, ◌*◌, ◌<◌, ◌≤◌, ◌∷◌, ◌++◌, ℕ, List, Some, length, slice_get, take, drop, reverse, vec_len, IfOk, OnOk, All};
+ghost use Rattle.std.specs.Prelude.{◌≡◌, ◌≢◌, ◌+◌, ◌<◌, ◌≤◌, ◌∷◌, ◌++◌, ℕ, List, length, take, drop, reverse, vec_len, IfOk, OnOk, All};
 ghost use Rattle.slt_grammar.specs.Algebras.{apply, all_meanings, ranks_of};
 ghost use Rattle.slt_grammar.specs.Bodies.{arity};
-ghost use Rattle.slt_grammar.specs.Grammars.{body_at, rank_at};
+ghost use Rattle.slt_grammar.specs.Grammars.{body_at};
 ghost use Rattle.slt_grammar.specs.Keyed.{rules_of};
 ghost use Rattle.rule_runs.specs.Entries.{key_of};
 ghost use Rattle.rule_runs.specs.Frames.{Asks};
-ghost use Rattle.rule_runs.specs.Risen.{IsPair, IsKnown, AreKnown, state_at, keys};
+ghost use Rattle.rule_runs.specs.Risen.{IsPair, AreKnown, state_at, keys};
 ghost use Rattle.rule_runs.specs.Notes.{NoteIs, AreNotes};
 
 use crate::calls::{Called, take_call};
 use crate::memo::{Memo, Pair};
+use crate::note_list::NoteList;
 use crate::place::short;
 use crate::stack::{copy_at, pop_two};
 use slt_grammar::{Grammar, Label, Rising, RunState};
@@ -81,13 +82,13 @@ pub(crate) fn note_labels<A: Rising>(
     pair: (usize, &[A::State]),
     labels: &Vec<Label>,
     stack: &mut Vec<A::State>,
-    notes: &mut Vec<Note<A::State>>,
+    notes: &mut NoteList<A::State>,
 ) -> Result<(), AllocError>
     requires right { All (λ e. e.1 ≡ state_at (A.algebra automaton.now) (rules_of grammar.now.rules) e.0) known.now }
     requires pair { IsPair (rules_of grammar.now.rules) (pair.0, pair.1.now) }
     requires closed { AreKnown (A.algebra automaton.now) (rules_of grammar.now.rules) known.now (pair.0, pair.1.now) 0 }
     requires labels { labels.now.items ≡ body_at (rules_of grammar.now.rules) pair.0 }
-    ensures { (more : List (Note A.State)) × (notes.new.items ≡ notes.old.items ++ more) × OnOk result (AreNotes (A.algebra automaton.now) (rules_of grammar.now.rules) (keys known.now) pair.entry.1.now labels.now.items (reverse more)) }
+    ensures { (more : List (Note A.State)) × (notes.new ≡ notes.old ++ more) × OnOk result (AreNotes (A.algebra automaton.now) (rules_of grammar.now.rules) (keys known.now) pair.entry.1.now labels.now.items (reverse more)) }
 {
     // The call tells that the rules are a grammar.
     let _rules = grammar.rules();

@@ -1,5 +1,5 @@
 // What a run downward knows of pairs at down states of their roots.
-ghost use Rattle.std.specs.Prelude.{◌≡◌, ◌≢◌, ◌++◌, [], ◌∷◌, slice_get, Some, IfSome, IfNone, OnOk, Contains, All, IfOk};
+ghost use Rattle.std.specs.Prelude.{◌≡◌, ◌≢◌, ◌++◌, [], ◌∷◌, Some, IfSome, IfNone, OnOk, Contains, All, IfOk};
 ghost use Rattle.rule_runs.specs.Outcomes.{outcome};
 
 use crate::index::Numbered;

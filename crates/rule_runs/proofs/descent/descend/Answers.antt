@@ -6,13 +6,14 @@ use Rattle.slt_grammar.specs.Grammars.{body_at, value_at}
 use Rattle.rule_runs.specs.Cuts.{cut}
 use Rattle.rule_runs.specs.Descents.{Asks, Walks, HasOutcome}
 use Rattle.rule_runs.specs.Notes.{AreNotes}
+use Rattle.rule_runs.specs.NoteLists.{seen}
 use Rattle.rule_runs.specs.declared.spots.Handed.{Handed}
 use Rattle.rule_runs.specs.declared.spots.Spot.{Spot}
 use Rattle.rule_runs.specs.Outcomes.{outcome, befores, downs_handed}
 use Rattle.rule_runs.specs.Risen.{IsPair, keys, pair_at}
 use Rattle.rule_runs.specs.Tellings.{extended, AreTold, Tells}
 use Rattle.rule_runs.specs.Walks.{absorbed}
-use Rattle.rule_runs.proofs.Lists.{reverse-last, no_more}
+use Rattle.rule_runs.proofs.Lists.{reverse-last, no_more, slice_get-at}
 use Rattle.rule_runs.proofs.NoteLemmas.{same-reversed}
 use Rattle.rule_runs.proofs.Descents.{outcome-more, walk-next, walk-open, walk-bottom, walk-symbol, walk-call, walk-meets, walk-param, walk-end}
 use Rattle.rule_runs.proofs.Marks.{open-term}
@@ -30,7 +31,7 @@ notes-init g c =
     let ks = keys c.args.risen.now.known in
     let f = c.args.descent.now in
     let k = pair_at ks f.spot.pair in
-    let ns = c.args.notes.now in
+    let ns = c.args.notes in
     let st = c.requires.stands in
     let same = same-reversed A G ks c.requires.run.distinct k.1 (body_at G k.0) st.notes ns st.noted c.requires.noted in
     record {
@@ -53,7 +54,7 @@ next_term-requires g c =
     let k = pair_at ks f.spot.pair in
     let ls = c.notes.lists in
     let small : nodes_in (value_at G k.0) < 2 ^ 63 = subst (λ s. nodes_in (value_at G (pair_at ks s.pair).0) < 2 ^ 63) (sym c.notes.invariant.same) c.requires.small in
-    walk-room A W G ks ls k f.spot.down f.handed.items (reverse (take f.left c.args.notes.now)) c.notes.marks.top f.here c.notes.invariant.stands small
+    walk-room A W G ks ls k f.spot.down f.handed.items (reverse (take f.left c.args.notes)) c.notes.marks.top f.here c.notes.invariant.stands small
 
 pub unreachable-requires : goal.unreachable-requires
 unreachable-requires g c =
@@ -64,11 +65,12 @@ unreachable-requires g c =
     let f = c.notes.descent in
     let k = pair_at ks f.spot.pair in
     let ls = c.notes.lists in
-    let ns = c.args.notes.now in
-    let p = reverse-last ns f.left (f.left - 1) c.index-notes-descent.result (let t = c.notes-test.true in omega arith) c.notes.invariant.within c.index-notes-descent.is in
+    let ns = c.args.notes in
+    let n = seen c.at-note.result in
+    let p = reverse-last ns f.left (f.left - 1) n (let t = c.notes-test.true in omega arith) c.notes.invariant.within (sym (slice_get-at ns (f.left - 1) n n c.at-note.ensures).1) in
     let w = rw p at c.notes.invariant.stands in
     let next = rw (no_more c.in_ok-down.field-0 c.in_default.not-Some) at (c.in_ok-down.ensures.next ls w.s w.ms w.telling w.marked) in
-    walk-open A W G ks ls k f.spot.down f.handed.items c.index-notes-descent.result (reverse (take (f.left - 1) ns)) c.notes.marks.top f.here w next.is
+    walk-open A W G ks ls k f.spot.down f.handed.items n (reverse (take (f.left - 1) ns)) c.notes.marks.top f.here w next.is
 
 pub notes-preserved-in-Bottom-1 : goal.notes-preserved-in-Bottom-1
 notes-preserved-in-Bottom-1 g c =
@@ -79,8 +81,9 @@ notes-preserved-in-Bottom-1 g c =
     let f = c.notes.descent in
     let k = pair_at ks f.spot.pair in
     let ls = c.notes.lists in
-    let ns = c.args.notes.now in
-    let p = reverse-last ns f.left (f.left - 1) c.index-notes-descent.result (let t = c.notes-test.true in omega arith) c.notes.invariant.within c.index-notes-descent.is in
+    let ns = c.args.notes in
+    let n = seen c.at-note.result in
+    let p = reverse-last ns f.left (f.left - 1) n (let t = c.notes-test.true in omega arith) c.notes.invariant.within (sym (slice_get-at ns (f.left - 1) n n c.at-note.ensures).1) in
     let d = c.in-Some.down in
     let w = walk-next A W G ks ls k f.spot.down f.handed.items _ c.notes.marks.top c.next_term.new.marks.top f.here c.next_term.new.here d c.in_ok-down.field-0 (rw (p, c.in-Bottom.is) at c.notes.invariant.stands) c.in-Some.is (c.in_ok-down.ensures.next ls) in
     record {
@@ -102,8 +105,9 @@ notes-preserved-in-Continue-branch-4 g c =
     let f = c.notes.descent in
     let k = pair_at ks f.spot.pair in
     let ls = c.notes.lists in
-    let ns = c.args.notes.now in
-    let p = reverse-last ns f.left (f.left - 1) c.index-notes-descent.result (let t = c.notes-test.true in omega arith) c.notes.invariant.within c.index-notes-descent.is in
+    let ns = c.args.notes in
+    let n = seen c.at-note.result in
+    let p = reverse-last ns f.left (f.left - 1) n (let t = c.notes-test.true in omega arith) c.notes.invariant.within (sym (slice_get-at ns (f.left - 1) n n c.at-note.ensures).1) in
     let d = c.in-Some.down in
     let w = walk-next A W G ks ls k f.spot.down f.handed.items _ c.notes.marks.top c.next_term.new.marks.top f.here c.next_term.new.here d c.in_ok-down.field-0 (rw (p, c.in-Param.is) at c.notes.invariant.stands) c.in-Some.is (c.in_ok-down.ensures.next ls) in
     let ended = c.in_ok-before-in-Param.ensures in
@@ -137,8 +141,9 @@ enter_symbol-requires g c =
     let k = pair_at ks f.spot.pair in
     let ls = c.notes.lists in
     let small : nodes_in (value_at G k.0) < 2 ^ 63 = subst (λ s. nodes_in (value_at G (pair_at ks s.pair).0) < 2 ^ 63) (sym c.notes.invariant.same) c.requires.small in
-    let ns = c.args.notes.now in
-    let p = reverse-last ns f.left (f.left - 1) c.index-notes-descent.result (let t = c.notes-test.true in omega arith) c.notes.invariant.within c.index-notes-descent.is in
+    let ns = c.args.notes in
+    let n = seen c.at-note.result in
+    let p = reverse-last ns f.left (f.left - 1) n (let t = c.notes-test.true in omega arith) c.notes.invariant.within (sym (slice_get-at ns (f.left - 1) n n c.at-note.ensures).1) in
     let d = c.in-Some.down in
     let w = walk-next A W G ks ls k f.spot.down f.handed.items _ c.notes.marks.top c.next_term.new.marks.top f.here c.next_term.new.here d c.in_ok-down.field-0 (rw (p, c.in-Symbol.is) at c.notes.invariant.stands) c.in-Some.is (c.in_ok-down.ensures.next ls) in
     let room = walk-room-one A W G ks ls k f.spot.down f.handed.items _ _ c.next_term.new.here w small in
@@ -153,8 +158,9 @@ notes-preserved-in-Symbol-1 g c =
     let f = c.notes.descent in
     let k = pair_at ks f.spot.pair in
     let ls = c.notes.lists in
-    let ns = c.args.notes.now in
-    let p = reverse-last ns f.left (f.left - 1) c.index-notes-descent.result (let t = c.notes-test.true in omega arith) c.notes.invariant.within c.index-notes-descent.is in
+    let ns = c.args.notes in
+    let n = seen c.at-note.result in
+    let p = reverse-last ns f.left (f.left - 1) n (let t = c.notes-test.true in omega arith) c.notes.invariant.within (sym (slice_get-at ns (f.left - 1) n n c.at-note.ensures).1) in
     let d = c.in-Some.down in
     let w = walk-next A W G ks ls k f.spot.down f.handed.items _ c.notes.marks.top c.next_term.new.marks.top f.here c.next_term.new.here d c.in_ok-down.field-0 (rw (p, c.in-Symbol.is) at c.notes.invariant.stands) c.in-Some.is (c.in_ok-down.ensures.next ls) in
     let entered = c.in_ok-enter_symbol-in-Symbol.ensures in
@@ -163,7 +169,7 @@ notes-preserved-in-Symbol-1 g c =
       same = c.notes.invariant.same;
       more = c.notes.invariant.more;
       earlier = c.notes.invariant.earlier;
-      stands = rw entered.marks (walk-symbol A W G ks ls k f.spot.down f.handed.items c.in-Symbol.symbol c.in-Symbol.kids c.in-Symbol.rest (reverse (take (f.left - 1) ns)) c.next_term.new.marks.top c.next_term.new.here c.enter_symbol.new.here d c.in_ok-fell-in-Symbol.fell w c.in_ok-fell-in-Symbol.ensures (entered.telling ls w.s (sym c.are_kept.ensures) w.telling));
+      stands = rw entered.marks (walk-symbol A W G ks ls k f.spot.down f.handed.items c.in-Symbol.symbol c.in-Symbol.kids.now c.in-Symbol.rest.now (reverse (take (f.left - 1) ns)) c.next_term.new.marks.top c.next_term.new.here c.enter_symbol.new.here d c.in_ok-fell-in-Symbol.fell w c.in_ok-fell-in-Symbol.ensures (entered.telling ls w.s (sym c.are_kept.ensures) w.telling));
       fewer = (let h = c.notes.invariant.fewer in omega arith);
       within = (let h = c.notes.invariant.within in omega arith);
     }
@@ -178,8 +184,9 @@ enter_call-requires g c =
     let k = pair_at ks f.spot.pair in
     let ls = c.notes.lists in
     let small : nodes_in (value_at G k.0) < 2 ^ 63 = subst (λ s. nodes_in (value_at G (pair_at ks s.pair).0) < 2 ^ 63) (sym c.notes.invariant.same) c.requires.small in
-    let ns = c.args.notes.now in
-    let p = reverse-last ns f.left (f.left - 1) c.index-notes-descent.result (let t = c.notes-test.true in omega arith) c.notes.invariant.within c.index-notes-descent.is in
+    let ns = c.args.notes in
+    let n = seen c.at-note.result in
+    let p = reverse-last ns f.left (f.left - 1) n (let t = c.notes-test.true in omega arith) c.notes.invariant.within (sym (slice_get-at ns (f.left - 1) n n c.at-note.ensures).1) in
     let d = c.in-Some.down in
     let w = walk-next A W G ks ls k f.spot.down f.handed.items _ c.notes.marks.top c.next_term.new.marks.top f.here c.next_term.new.here d c.in_ok-down.field-0 (rw (p, c.in-Call.is) at c.notes.invariant.stands) c.in-Some.is (c.in_ok-down.ensures.next ls) in
     let i = c.in-Call.pair in
@@ -200,8 +207,9 @@ notes-preserved g c =
     let f = c.notes.descent in
     let k = pair_at ks f.spot.pair in
     let ls = c.notes.lists in
-    let ns = c.args.notes.now in
-    let p = reverse-last ns f.left (f.left - 1) c.index-notes-descent.result (let t = c.notes-test.true in omega arith) c.notes.invariant.within c.index-notes-descent.is in
+    let ns = c.args.notes in
+    let n = seen c.at-note.result in
+    let p = reverse-last ns f.left (f.left - 1) n (let t = c.notes-test.true in omega arith) c.notes.invariant.within (sym (slice_get-at ns (f.left - 1) n n c.at-note.ensures).1) in
     let d = c.in-Some.down in
     let w = walk-next A W G ks ls k f.spot.down f.handed.items _ c.notes.marks.top c.next_term.new.marks.top f.here c.next_term.new.here d c.in_ok-down.field-0 (rw (p, c.in-Call.is) at c.notes.invariant.stands) c.in-Some.is (c.in_ok-down.ensures.next ls) in
     let i = c.in-Call.pair in
@@ -231,8 +239,9 @@ returns-in-None-clause-waits g c = λ spot e.
     let f = c.notes.descent in
     let k = pair_at ks f.spot.pair in
     let ls = c.notes.lists in
-    let ns = c.args.notes.now in
-    let p = reverse-last ns f.left (f.left - 1) c.index-notes-descent.result (let t = c.notes-test.true in omega arith) c.notes.invariant.within c.index-notes-descent.is in
+    let ns = c.args.notes in
+    let n = seen c.at-note.result in
+    let p = reverse-last ns f.left (f.left - 1) n (let t = c.notes-test.true in omega arith) c.notes.invariant.within (sym (slice_get-at ns (f.left - 1) n n c.at-note.ensures).1) in
     let d = c.in-Some.down in
     let w = walk-next A W G ks ls k f.spot.down f.handed.items _ c.notes.marks.top c.next_term.new.marks.top f.here c.next_term.new.here d c.in_ok-down.field-0 (rw (p, c.in-Call.is) at c.notes.invariant.stands) c.in-Some.is (c.in_ok-down.ensures.next ls) in
     let m = walk-meets A W G ks ls k f.spot.down f.handed.items c.in-Call.pair (reverse (take (f.left - 1) ns)) c.next_term.new.marks.top c.next_term.new.here d w in
@@ -262,7 +271,7 @@ next_term-requires-2 g c =
     let k = pair_at ks f.spot.pair in
     let ls = c.notes.lists in
     let small : nodes_in (value_at G k.0) < 2 ^ 63 = subst (λ s. nodes_in (value_at G (pair_at ks s.pair).0) < 2 ^ 63) (sym c.notes.invariant.same) c.requires.small in
-    walk-room A W G ks ls k f.spot.down f.handed.items (reverse (take f.left c.args.notes.now)) c.notes.marks.top f.here c.notes.invariant.stands small
+    walk-room A W G ks ls k f.spot.down f.handed.items (reverse (take f.left c.args.notes)) c.notes.marks.top f.here c.notes.invariant.stands small
 
 pub returns-clause-more : goal.returns-clause-more
 returns-clause-more g c =

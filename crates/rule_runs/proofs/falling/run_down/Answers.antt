@@ -27,7 +27,7 @@ unreachable-requires g c =
     none c.bodies.invariant.read
 
 pub descend-requires-clause-noted : goal.descend-requires-clause-noted
-descend-requires-clause-noted g c = c.bodies.invariant.kept.noted c.bodies.frame.spot.pair c.in-Some.notes.now c.in-Some.ensures.some
+descend-requires-clause-noted g c = c.bodies.invariant.kept.noted c.bodies.frame.spot.pair c.in-Some.notes c.in-Some.ensures.some
 
 pub returns-in_err-bodies-clause-steps : goal.returns-in_err-bodies-clause-steps
 returns-in_err-bodies-clause-steps g c = ([], falls-none (g.A.Rising.algebra c.args.automaton.now) (g.A.Falling.downward c.args.automaton.now) (rules_of c.args.grammar.now.rules) _ (omega arith))

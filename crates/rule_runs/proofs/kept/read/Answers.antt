@@ -17,8 +17,8 @@ returns-in-Some-clause-nodes g c =
     let G = rules_of c.args.grammar.now.rules in
     let ks = keys c.args.risen.now.known in
     let k = pair_at ks c.args.pair in
-    let noted = c.requires.kept.noted c.args.pair c.in-Some.notes.now c.in-Some.ensures.some in
-    omega (arith, notes-length A G ks k.1 (body_at G k.0) (reverse c.in-Some.notes.now) noted, length-reverse c.in-Some.notes.now)
+    let noted = c.requires.kept.noted c.args.pair c.in-Some.notes c.in-Some.ensures.some in
+    omega (arith, notes-length A G ks k.1 (body_at G k.0) (reverse c.in-Some.notes) noted, length-reverse c.in-Some.notes)
 
 pub note_body-requires-clause-closed : goal.note_body-requires-clause-closed
 note_body-requires-clause-closed g c =
@@ -140,4 +140,4 @@ returns-clause-nodes g c =
     let k : (c.in-Some-pair.met.0, c.in-Some-pair.met.1.now) ≡ pair_at ks c.args.pair = c.in-Some-pair.ensures.pair ∙ ap (λ x. pair_at (keys x) c.args.pair) kn in
     let n : length (body_at G c.in-Some-pair.met.0) ≡ length (body_at G (pair_at ks c.args.pair).0) = ap (λ (x : RuleStates g.row.A-State.Denot). length (body_at G x.0)) k in
     let b : c.append_body.new.labels.items ≡ body_at G c.in-Some-pair.met.0 = c.in_ok-append_body.ensures.labels ∙ ap (λ xs. xs ++ body_at G c.in-Some-pair.met.0) c.clear.ensures.items in
-    omega (arith, c.len.ensures, ap length b, n, c.append_body.new.labels.ok.0)
+    omega (arith, c.len-2.ensures, ap length b, n, c.append_body.new.labels.ok.0)

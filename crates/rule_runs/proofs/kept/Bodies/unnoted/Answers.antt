@@ -6,4 +6,4 @@ use Rattle.rule_runs.proofs.kept.Bodies.unnoted.Goals as goal
 pub returns : goal.returns
 returns g c =
     let end : c.pairs._i ≡ c.args.pairs = omega (arith, c.pairs-test.false, c.pairs.auto._i-end) in
-    ap (kept_of c.new.result.items) (c.pairs.invariant ∙ ap (λ n. replicate n None) end) ∙ kept-none c.new.result.items c.args.pairs
+    ap (kept_of c.new.result) (c.pairs.invariant ∙ ap (λ n. replicate n None) end) ∙ kept-none c.new.result c.args.pairs

@@ -26,6 +26,7 @@ pub mod FreeTied
 pub mod CutLemmas
 pub mod FitLemmas
 pub mod NodeCounts
+pub mod Filled
 pub mod Rises
 pub mod Climbs
 pub mod SiblingClimbs

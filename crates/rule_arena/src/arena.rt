@@ -68,6 +68,8 @@ impl Arena {
         ensures grown { OnOk result (self.old.spare ≤ self.new.spare) }
         ensures kept { self.new.limit ≤ 2 ^ 32 → self.old.spare ≤ self.new.spare }
         ensures succeeds { more ≤ self.old.spare → IsOk result }
+        // A key has 32 bits.
+        ensures keys { OnOk result (node_count self.new + more ≤ 2 ^ 32) }
         ensures terms { (r : ℕ) → term_at self.new r ≡ term_at self.old r }
         ensures limit { self.old.limit ≤ self.new.limit }
         ensures stays { more ≤ self.old.spare → self.new.limit ≡ self.old.limit }

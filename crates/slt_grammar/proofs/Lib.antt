@@ -60,3 +60,4 @@ pub mod Spreads
 pub mod TourLemmas
 pub mod TourWalking
 pub mod StopLemmas
+pub mod RankBounds

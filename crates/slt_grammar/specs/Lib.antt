@@ -29,3 +29,4 @@ pub mod Listing
 pub mod Building
 pub mod Automata
 pub mod OneState
+pub mod Ranks

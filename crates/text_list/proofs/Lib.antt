@@ -6,3 +6,4 @@ pub mod ChunkLemmas
 pub mod MovedLemmas
 pub mod GapLemmas
 pub mod NumberLemmas
+pub mod DifferentLemmas

@@ -3,3 +3,4 @@ pub mod RoomyNumbers
 pub mod Numbers
 pub mod Pieces
 pub mod Chunks
+pub mod Different

@@ -1,5 +1,5 @@
 // Texts in one run of bytes.
-ghost use Rattle.std.specs.Prelude.{◌≡◌, ◌<◌, ◌++◌, [], ◌∷◌, length, slice_get, slice_index_or, OnOk, OnErr};
+ghost use Rattle.std.specs.Prelude.{◌≡◌, ◌<◌, ◌^◌, ◌++◌, [], ◌∷◌, length, sum_by, slice_get, slice_index_or, OnOk, OnErr};
 ghost use Rattle.std.specs.Option.{option_copied};
 ghost use Rattle.text_list.specs.Pieces.{pieces, AreCut};
 
@@ -45,6 +45,7 @@ impl Blob {
     pub(crate) fn push(&mut self, text: &[u8]) -> Result<(), AllocError>
         ensures ok { OnOk result (self.new ≡ self.old ++ text.now ∷ []) }
         ensures err { OnErr result (self.new ≡ self.old) }
+        ensures short { OnOk result (sum_by length self.new < 2 ^ 32) }
     {
         let Ok(end) = u32::try_from(self.bytes.as_slice().len() + text.len()) else {
             return Err(AllocError);

@@ -2,6 +2,7 @@
 ghost use Rattle.std.specs.Prelude.{◌^◌, ◌≡◌, ◌+◌, ◌<◌, ◌≤◌, ◌++◌, length, slice_get, slice_range, slice_set, vec_len, vec_capacity, IfOk, IsOk, OnOk, OnErr};
 ghost use Rattle.std.specs.List.{insert_slice, remove_range};
 ghost use Rattle.std.specs.Option.{option_copied};
+ghost use Rattle.text_list.specs.Different.{different};
 
 use crate::blob::Blob;
 use crate::chunk::MOST_NUMBERS;
@@ -26,7 +27,7 @@ pub struct TextList {
 const MOST_TEXTS: usize = 1 << 32;
 
 impl Model for TextList {
-    ghost use Rattle.std.specs.Prelude.{◌-◌, ◌+◌, ◌++◌, length, min, vec_len, vec_capacity};
+    ghost use Rattle.std.specs.Prelude.{◌-◌, ◌+◌, ◌^◌, ◌≤◌, ◌++◌, length, min, vec_len, vec_capacity};
     ghost use Rattle.text_list.specs.RoomyTexts.{RoomyTexts, room_among};
     ghost use Rattle.text_list.specs.Numbers.{texts_at, AreWithin};
 
@@ -38,7 +39,7 @@ impl Model for TextList {
           (vec_capacity t.loose - vec_len t.loose) t.places.room;
     } };
 
-    ghost invariant = { λ t. AreWithin (t.kept ++ t.loose.items) t.places.numbers };
+    ghost invariant = { λ t. AreWithin (t.kept ++ t.loose.items) t.places.numbers × (length t.kept + vec_len t.loose ≤ 2 ^ 32) };
 }
 
 impl TextList {
@@ -65,7 +66,8 @@ impl TextList {
 
     /// How many more texts can be put in at one place without memory.
     pub fn room(&self) -> u64
-        ensures { result ≡ self.now.room }
+        ensures value { result ≡ self.now.room }
+        ensures few { length (different self.now.texts) + result ≤ 2 ^ 32 }
     {
         let numbers = MOST_TEXTS.saturating_sub(self.kept.len().saturating_add(self.loose.len()));
         let loose = self.loose.capacity() - self.loose.len();
@@ -90,6 +92,7 @@ impl TextList {
         ensures room { OnOk result (more ≤ self.new.room) }
         ensures grown { self.old.room ≤ self.new.room }
         ensures succeeds { more ≤ self.old.room → IsOk result }
+        ensures few { OnOk result (length (different self.new.texts) + more ≤ 2 ^ 32) }
     {
         if more <= self.room() {
             return Ok(());
@@ -107,6 +110,7 @@ impl TextList {
         ensures texts { OnOk result (self.new.texts ≡ insert_slice self.old.texts at texts) }
         ensures err { OnErr result (self.new.texts ≡ self.old.texts) }
         ensures succeeds { length texts ≤ self.old.room → IsOk result }
+        ensures few { OnOk result (length (different self.old.texts) + length texts ≤ 2 ^ 32) }
     {
         let added = texts.into_vec();
         let count = added.as_slice().len();
@@ -127,6 +131,7 @@ impl TextList {
         ensures texts { OnOk result (self.new.texts ≡ insert_slice self.old.texts at (slice_range self.old.texts at (at + count))) }
         ensures err { OnErr result (self.new.texts ≡ self.old.texts) }
         ensures succeeds { count ≤ self.old.room → IsOk result }
+        ensures few { OnOk result (length (different self.old.texts) + count ≤ 2 ^ 32) }
     {
         self.reserve(count)?;
         self.places.duplicate(at as usize, count as usize);
@@ -171,6 +176,7 @@ impl TextList {
         ensures texts { self.new.texts ≡ self.old.texts }
         ensures room { OnOk result (more ≤ self.new.room) }
         ensures grown { self.old.room ≤ self.new.room }
+        ensures few { OnOk result (length (different self.new.texts) + more ≤ 2 ^ 32) }
     {
         self.loose.reserve(more as usize)?;
         self.places.reserve(more as usize)?;
@@ -185,6 +191,7 @@ impl TextList {
         ensures texts { self.new.texts ≡ self.old.texts }
         ensures room { OnOk result (more ≤ self.new.room) }
         ensures grown { self.old.room ≤ self.new.room }
+        ensures few { OnOk result (length (different self.new.texts) + more ≤ 2 ^ 32) }
     {
         let room = more.max(self.room());
         let mut fresh = TextList::new(self.table()?);

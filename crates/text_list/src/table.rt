@@ -1,6 +1,7 @@
 // The texts of a document while it is read.
-ghost use Rattle.std.specs.Prelude.{◌≡◌, ◌++◌, [], ◌∷◌, ◌⊎◌, ℕ, Some, length, slice_get, OnOk, OnErr, IfOk};
+ghost use Rattle.std.specs.Prelude.{◌≡◌, ◌<◌, ◌≤◌, ◌^◌, ◌++◌, [], ◌∷◌, ◌⊎◌, ℕ, Some, length, sum_by, slice_get, OnOk, OnErr, IfOk};
 ghost use Rattle.std.specs.Option.{option_copied};
+ghost use Rattle.text_list.specs.Different.{different, CanKeep};
 ghost use Rattle.text_list.specs.Numbers.{texts_at, AreWithin};
 
 use crate::blob::Blob;
@@ -38,11 +39,13 @@ impl TextTable {
         }
     }
 
-    /// Adds a text at the end. It is refused for want of memory, and where there are 2^31 different texts, or they would have 2^32
-    /// bytes or more.
+    /// Adds a text at the end. It is refused for want of memory, and where 2^31 texts are kept, or those that are kept would have 2^32
+    /// bytes or more. Each different text is kept once, seldom one of them twice.
     pub fn push(&mut self, text: &[u8]) -> Result<(), AllocError>
         ensures ok { OnOk result (self.new ≡ self.old ++ text.now ∷ []) }
         ensures err { OnErr result (self.new ≡ self.old) }
+        ensures few { length (different self.new) ≤ 2 ^ 31 }
+        ensures short { sum_by length (different self.new) < 2 ^ 32 }
     {
         let number = self.texts.number_of(text)?;
         self.places.push(number)
@@ -68,6 +71,7 @@ impl TextTable {
     pub(crate) fn into_parts(self) -> (Blob, Places)
         ensures texts { texts_at result.0 result.1.numbers ≡ self }
         ensures within { AreWithin result.0 result.1.numbers }
+        ensures few { length result.0 ≤ 2 ^ 31 }
     {
         (self.texts.into_blob(), self.places)
     }
@@ -94,10 +98,13 @@ struct Interned {
 
 impl Model for Interned {
     ghost use Rattle.std.specs.Prelude.{List, ℕ};
+    ghost use Rattle.text_list.specs.Different.{CanKeep};
 
     ghost Value = { List (List ℕ) };
 
     ghost view = { λ s. s.texts };
+
+    ghost invariant = { λ s. CanKeep s.texts };
 }
 
 impl Interned {
@@ -117,7 +124,8 @@ impl Interned {
     }
 
     fn into_blob(self) -> Blob
-        ensures { result ≡ self }
+        ensures value { result ≡ self }
+        ensures few { CanKeep result }
     {
         self.texts
     }
@@ -126,6 +134,7 @@ impl Interned {
     fn number_of(&mut self, text: &[u8]) -> Result<u32, AllocError>
         ensures number { IfOk result (λ n. slice_get self.new n ≡ Some text.now) }
         ensures grown { (self.new ≡ self.old) ⊎ (self.new ≡ self.old ++ text.now ∷ []) }
+        ensures few { CanKeep self.new }
     {
         if self.texts.len() >= self.slots.len() / 2 {
             self.widen()?;

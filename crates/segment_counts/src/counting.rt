@@ -1,5 +1,5 @@
 // Counting along the tours of the bodies.
-ghost use Rattle.std.specs.Prelude.{◌≡◌, ◌<◌, ◌≤◌, ◌^◌, ℕ, [], length, get_or, sum_by, IfOk, IfSome, IfNone, Err, OnErr, OnOk, IsOk, true, false};
+ghost use Rattle.std.specs.Prelude.{◌≡◌, ◌<◌, ◌≤◌, ◌*◌, ◌^◌, ℕ, [], length, get_or, sum_by, IfOk, IfSome, IfNone, Err, OnErr, OnOk, IsOk, true, false};
 ghost use Rattle.slt_grammar.specs.Grammars.{IsSwept, value};
 ghost use Rattle.slt_grammar.specs.Keyed.{IsKeyed, rules_of};
 ghost use Rattle.slt_grammar.specs.Segments.{listed, preorder};
@@ -33,12 +33,13 @@ impl Counts {
     /// The counts of a swept grammar, with room for its rules. A symbol that isn't in `names` has no text.
     ///
     /// `TooMany` comes exactly where the grammar's value has more than 2^63 - 1 nodes that aren't bottom, and `Memory` only where memory
-    /// is refused, or where so many rules might have 2^32 segments or more.
+    /// is refused, or where so many rules might have 2^32 segments or more, nine a rule.
     pub fn new(alloc: Global, grammar: &Grammar, names: &Names) -> Result<Counts, CountError>
         requires swept { IsSwept (rules_of grammar.now.rules) }
         ensures counts { IfOk result (AreCounts names.now (rules_of grammar.now.rules)) }
         ensures few { OnOk result (sum_by node_weight (listed (value (rules_of grammar.now.rules)) []) < 2 ^ 63) }
         ensures many { result ≡ Err CountError.TooMany → 2 ^ 63 ≤ sum_by node_weight (listed (value (rules_of grammar.now.rules)) []) }
+        ensures segments { OnOk result (9 * length grammar.now.rules < 2 ^ 32) }
     {
         let mut counts = Counts::empty(alloc);
         let rules = grammar.rules();

@@ -1,5 +1,5 @@
 // The numbers that are kept of each rule's segments.
-ghost use Rattle.std.specs.Prelude.{◌≡◌, ◌<◌, ◌≤◌, ◌+◌, ◌-◌, ◌^◌, ℕ, List, [], ◌∷◌, get_or, length, set, slice_get, sum_by, IsOk, OnErr, OnOk};
+ghost use Rattle.std.specs.Prelude.{◌≡◌, ◌<◌, ◌≤◌, ◌+◌, ◌-◌, ◌*◌, ◌^◌, ℕ, List, [], ◌∷◌, get_or, length, set, slice_get, sum_by, IsOk, OnErr, OnOk};
 ghost use Rattle.plain_tree.specs.declared.kind.Kind.{Kind};
 ghost use Rattle.slt_grammar.specs.Bodies.{CallsBelow};
 ghost use Rattle.slt_grammar.specs.Grammars.{IsGrammar, value};
@@ -128,7 +128,7 @@ impl Counts {
     }
 
     /// Makes the room at least `rules`, and needs no memory where it is so already. What was counted stays. It is refused for
-    /// want of memory, and where so many rules might have 2^32 segments or more.
+    /// want of memory, and where so many rules might have 2^32 segments or more, nine a rule.
     pub fn reserve(&mut self, rules: usize) -> Result<(), AllocError>
         ensures room { OnOk result (rules ≤ length self.new.rows) }
         ensures grown { length self.old.rows ≤ length self.new.rows }
@@ -136,6 +136,7 @@ impl Counts {
         ensures kept { (q : ℕ) → q < length self.old.rows → get_or self.new.rows q no_row ≡ get_or self.old.rows q no_row }
         ensures refused { OnErr result (self.new ≡ self.old) }
         ensures succeeds { rules ≤ length self.old.rows → IsOk result }
+        ensures segments { OnOk result (9 * rules < 2 ^ 32) }
     {
         if rules <= self.room {
             return Ok(());

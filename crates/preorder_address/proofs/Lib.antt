@@ -22,6 +22,7 @@ pub mod Siting
 pub mod Sited
 pub mod TreeSites
 pub mod TreeKids
+pub mod Behind
 pub mod TreeAttributes
 pub mod ParentLists
 pub mod FirstTerms

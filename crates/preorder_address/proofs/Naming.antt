@@ -3,7 +3,7 @@ use Rattle.std.proofs.Common.{◌≡◌, ℕ, ◌-◌, ◌<◌, ◌≤◌, List,
 use Rattle.std.specs.Prelude.{slice_get, option_map}
 use Rattle.std.proofs.lemmas.Option.{slice_get_past, some_pair_parts}
 use Rattle.plain_tree.specs.declared.kind.Kind.{Kind}
-use Rattle.plain_tree.specs.Tree.{Tree, node, none, more, node_count}
+use Rattle.plain_tree.specs.Tree.{Tree, node, Trees, none, more, node_count}
 use Rattle.plain_tree.specs.Numbers.{nodes, kind_of}
 use Rattle.plain_tree.proofs.NodeCounts.{length-nodes}
 use Rattle.rule_arena.specs.declared.label.Label.{Label}
@@ -91,3 +91,12 @@ module _ (names : List (Kind × List ℕ)) (G : List KeyedRule) (t : Tree) (c : 
     never-unnamed d =
         let p : None ≡ Some (x.place.kind, x.place.name) = d ∙ ap (slice_get names) same-symbol ∙ x.place.pair in
         cc
+
+-- in the code of a list each symbol has a name
+pub named : (names : List (Kind × List ℕ)) (G : List KeyedRule) (ts : Trees) → Codes names ts (value (rules_of G)) → (n : ℕ) (label : Label) → IsAt node_weight (preorder (rules_of G) (length G - 1)) n label
+    → (f : ℕ) → Symbol f ≡ label → None ≡ slice_get names f → ⊥
+named names G ts c n label a f e d =
+    let s : listed (value (rules_of G)) [] ≡ a.before ++ Symbol f ∷ a.after = sym (value-last G) ∙ a.split ∙ ap (λ l. a.before ++ l ∷ a.after) (sym e) in
+    let p = node-place names ts (value (rules_of G)) c a.before f a.after s in
+    let x : None ≡ Some (p.kind, p.name) = d ∙ p.pair in
+    cc

@@ -61,6 +61,7 @@ pub fn next_sibling<L: Ledger>(
     requires counts { AreCountsOf (rules_of grammar.now.rules) counts.now }
     ensures next { (names : List (Kind × List ℕ)) (t : Tree) → Codes names (more t none) (value (rules_of grammar.now.rules))
         → result ≡ next_sibling_at t number }
+    ensures some { IsSome result ↔ number < told Nodes counts.now.rows (counts.now.rules - 1) 0 }
     ensures steps { steps.new ≤ steps.old + 14 * whole (rules_of grammar.now.rules) + 1 }
 {
     // The call tells what is true of every grammar.
@@ -113,6 +114,7 @@ pub fn after_attributes<L: Ledger>(
     requires counts { AreCountsOf (rules_of grammar.now.rules) counts.now }
     ensures after { (values : List (List ℕ)) (t : Tree) → StandsFor (rules_of grammar.now.rules) names.now values t
         → LeadsToPlace grammar.now.rules result (after_attributes_at t number) }
+    ensures some { IsSome result ↔ number < told Nodes counts.now.rows (counts.now.rules - 1) 0 }
     ensures inside { IfSome result (IsInside grammar.now.rules) }
     ensures steps { (values : List (List ℕ)) (t : Tree) → StandsFor (rules_of grammar.now.rules) names.now values t
         → steps.new ≤ steps.old + 10 * whole (rules_of grammar.now.rules) + (attributes_at t number + 1) * (4 * whole (rules_of grammar.now.rules) + 1) }

@@ -1,7 +1,7 @@
 // What stands at the node with a number.
-ghost use Rattle.std.specs.Prelude.{◌≡◌, ℕ, ◌≤◌, ◌+◌, ◌*◌, ◌-◌, ◌<◌, List, IsSome};
+ghost use Rattle.std.specs.Prelude.{◌≡◌, ◌↔◌, ℕ, ◌≤◌, ◌+◌, ◌*◌, ◌-◌, ◌<◌, List, IsSome};
 ghost use Rattle.plain_tree.specs.declared.kind.Kind.{Kind};
-ghost use Rattle.plain_tree.specs.Tree.{Tree, none, more};
+ghost use Rattle.plain_tree.specs.Tree.{Tree, Trees, none, more};
 ghost use Rattle.slt_grammar.specs.Coding.{Codes};
 ghost use Rattle.slt_grammar.specs.Grammars.{value, whole};
 ghost use Rattle.slt_grammar.specs.Keyed.{rules_of};
@@ -34,6 +34,8 @@ pub fn kind_of<L: Ledger>(
     requires counts { AreCountsOf (rules_of grammar.now.rules) counts.now }
     ensures kind { (t : Tree) → Codes names.now (more t none) (value (rules_of grammar.now.rules)) → result ≡ kind_at t number }
     ensures below { IsSome result → number < told Nodes counts.now.rows (counts.now.rules - 1) 0 }
+    ensures some { (ts : Trees) → Codes names.now ts (value (rules_of grammar.now.rules))
+        → (IsSome result ↔ number < told Nodes counts.now.rows (counts.now.rules - 1) 0) }
     ensures steps { steps.new ≤ steps.old + 4 * whole (rules_of grammar.now.rules) + 1 }
 {
     // The call tells what is true of every grammar.
@@ -57,6 +59,7 @@ pub fn text_rank<L: Ledger>(
 ) -> Option<u64>
     requires counts { AreCounts names.now (rules_of grammar.now.rules) counts.now }
     ensures rank { (t : Tree) → Codes names.now (more t none) (value (rules_of grammar.now.rules)) → result ≡ text_rank_at t number }
+    ensures some { IsSome result ↔ number < told Nodes counts.now.rows (counts.now.rules - 1) 0 }
     ensures steps { steps.new ≤ steps.old + 10 * whole (rules_of grammar.now.rules) }
 {
     // The call tells what is true of every grammar.
@@ -75,6 +78,7 @@ pub fn extent<L: Ledger>(
 ) -> Option<u64>
     requires counts { AreCountsOf (rules_of grammar.now.rules) counts.now }
     ensures extent { (names : List (Kind × List ℕ)) (t : Tree) → Codes names (more t none) (value (rules_of grammar.now.rules)) → result ≡ extent_at t number }
+    ensures some { IsSome result ↔ number < told Nodes counts.now.rows (counts.now.rules - 1) 0 }
     ensures steps { steps.new ≤ steps.old + 10 * whole (rules_of grammar.now.rules) }
 {
     // The call tells what is true of every grammar.

@@ -1,6 +1,7 @@
 use Rattle.std.proofs.Common.{◌/◌, refl, ap, arith, ◌+◌, ◌*◌, ℕ}
 use Rattle.slt_grammar.specs.Grammars.{whole}
 use Rattle.slt_grammar.specs.Keyed.{rules_of}
+use Rattle.preorder_address.proofs.Behind.{place-behind}
 use Rattle.preorder_address.proofs.Naming.{total-count}
 use Rattle.preorder_address.proofs.TreeKids.{all-fits, nodes-fit, site-fits, attributes-are, no-after, after-is, below-is, leads-inside, leads-place, no-place}
 use Rattle.preorder_address.proofs.TreeSites.{tree-node}
@@ -72,3 +73,11 @@ returns-clause-steps g c = λ values t stands.
     (c.leading_attributes-attributes.ensures.attributes t stands.code) in
     let w : ℕ = 4 * whole (rules_of a.grammar.now.rules) + 1 in
     omega (arith, ap (λ k. (k + 1) * w) e, c.leading_attributes-attributes.ensures.steps, c.in_ok-site.ensures.steps)
+
+pub returns-clause-some : goal.returns-clause-some
+returns-clause-some g c =
+    let a = c.args in
+    let s = c.in_ok-site.site in
+    let h = c.in_ok-site.ensures.some.0 refl in
+    let f = place-behind a.grammar.now.rules a.counts.now c.requires.counts c.limit-limit.ensures.keyed.grammar a.number s.before s.below h c.in_ok-site.ensures.before c.in_ok-site.ensures.below in
+    (λ _. h, λ _. c.locate_place.ensures.some.1 (omega (arith, f, c.leading_attributes-attributes.ensures.few)))

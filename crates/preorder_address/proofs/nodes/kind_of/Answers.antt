@@ -1,5 +1,5 @@
 use Rattle.std.proofs.Common.{◌∙◌, ◌-◌, sym, arith, length}
-use Rattle.preorder_address.proofs.Naming.{total-count, no-kind, numbered, kind-told, never-unnamed}
+use Rattle.preorder_address.proofs.Naming.{total-count, no-kind, numbered, kind-told, named, never-unnamed}
 use Rattle.preorder_address.proofs.nodes.kind_of.Goals as goal
 
 pub returns-in_err-descent-clause-kind : goal.returns-in_err-descent-clause-kind
@@ -21,3 +21,9 @@ returns-clause-kind g c = λ t code.
     let l = c.in_ok-descent.ensures.leads a.grammar.now c.limit-limit.ensures.keyed c.requires.counts in
     let x = numbered a.names.now a.grammar.now.rules t code a.number l.arrives.label l.arrives.counted l.arrives.there in
     kind-told a.names.now a.grammar.now.rules t code a.number l.arrives.label x c.in-Symbol.symbol (c.in-Symbol.ensures.label (length a.grammar.now.rules - 1) l.arrives.label l.arrives.chain) c.in_ok-kind.kind c.in_ok-kind._name.now c.in_ok-kind.ensures
+
+pub returns-in_err-kind-clause-some : goal.returns-in_err-kind-clause-some
+returns-in_err-kind-clause-some g c = λ ts code.
+    let a = c.args in
+    let l = c.in_ok-descent.ensures.leads a.grammar.now c.limit-limit.ensures.keyed c.requires.counts in
+    absurd (named a.names.now a.grammar.now.rules ts code a.number l.arrives.label l.arrives.there c.in-Symbol.symbol (c.in-Symbol.ensures.label (length a.grammar.now.rules - 1) l.arrives.label l.arrives.chain) c.in_err-kind.ensures)

@@ -2,7 +2,7 @@
 use Rattle.std.proofs.Common.{◌≡◌, ℕ, zero, suc, ◌+◌, ◌-◌, ◌<◌, ◌≤◌, List, [], ◌∷◌, ◌++◌, length, get_or, take, refl, ap, sym, ◌∙◌, arith, sum_by, subst, append_assoc, append-nil, ◌⊎◌, inl, inr}
 use Rattle.std.specs.Prelude.{max, set}
 use Rattle.std.proofs.lemmas.Bool.{cases_lt}
-use Rattle.std.proofs.lemmas.List.Sums.{sum_by-cons, sum_by-append}
+use Rattle.std.proofs.lemmas.List.Sums.{sum_by-cons, sum_by-append, sum_by-take-le}
 use Rattle.std.proofs.Math.Nat.{max-le, le-max_left, le-max_right}
 use Rattle.rule_arena.specs.declared.label.Label.{Label}
 use Rattle.rule_arena.specs.declared.label.Label.TheVariants.{Bottom, Symbol, Call, Param}
@@ -42,6 +42,41 @@ joined (x ∷ xs) ys o c most f g (suc n) =
 -- the rise of joined labels
 pub rise-joined : (xs ys : List Label) (a b most : ℕ) → RisesAtMost a xs → RisesAtMost b ys → a ≤ most → opens xs + b ≤ closes xs + most → RisesAtMost most (xs ++ ys)
 rise-joined xs ys a b most f g h k n = omega (arith, joined xs ys 0 0 most (λ j. omega (arith, f j)) (λ j. omega (arith, g j)) n)
+
+-- what joined labels rise to, the first of them do, and the others from there on
+front : (xs ys : List Label) (o c m : ℕ) → ((k : ℕ) → o + opens (take k (xs ++ ys)) ≤ c + closes (take k (xs ++ ys)) + m) → (n : ℕ) → o + opens (take n xs) ≤ c + closes (take n xs) + m
+front [] ys o c m f zero = f 0
+front [] ys o c m f (suc n) = f 0
+front (x ∷ xs) ys o c m f zero = f 0
+front (x ∷ xs) ys o c m f (suc n) =
+    omega (
+      arith,
+      sum_by-cons node_weight x (take n xs),
+      sum_by-cons close_weight x (take n xs),
+      front xs ys (o + node_weight x) (c + close_weight x) m (λ k. omega (arith, f (suc k), sum_by-cons node_weight x (take k (xs ++ ys)), sum_by-cons close_weight x (take k (xs ++ ys)))) n,
+    )
+
+back : (xs ys : List Label) (o c m : ℕ) → ((k : ℕ) → o + opens (take k (xs ++ ys)) ≤ c + closes (take k (xs ++ ys)) + m) → (n : ℕ) → o + opens xs + opens (take n ys) ≤ c + closes xs + closes (take n ys) + m
+back [] ys o c m f n = omega (arith, f n)
+back (x ∷ xs) ys o c m f n =
+    omega (
+      arith,
+      sum_by-cons node_weight x xs,
+      sum_by-cons close_weight x xs,
+      back xs ys (o + node_weight x) (c + close_weight x) m (λ k. omega (arith, f (suc k), sum_by-cons node_weight x (take k (xs ++ ys)), sum_by-cons close_weight x (take k (xs ++ ys)))) n,
+    )
+
+-- the least rise of joined labels
+pub least-joined : (xs ys : List Label) (a b m : ℕ) → IsRise a xs → IsRise b ys → RisesAtMost m (xs ++ ys) → (a ≤ m) × (opens xs + b ≤ closes xs + m)
+least-joined xs ys a b m f g h =
+    let before = front xs ys 0 0 m (λ k. omega (arith, h k)) in
+    let behind = back xs ys 0 0 m (λ k. omega (arith, h k)) in
+    let here : opens xs ≤ closes xs + m = omega (arith, behind 0) in
+    let b-least : b ≤ closes xs + m - opens xs = g.least (closes xs + m - opens xs) (λ n. omega (arith, behind n, here)) in (f.least m (λ n. omega (arith, before n)), omega (arith, b-least, here))
+
+-- labels rise to no more than they open in all
+pub rise-few : (most : ℕ) (ls : List Label) → IsRise most ls → most ≤ opens ls
+rise-few most ls r = r.least (opens ls) (λ n. omega (arith, sum_by-take-le node_weight ls n))
 
 no-segment : (i : ℕ) → segment i [] ≡ []
 no-segment zero = refl
@@ -133,11 +168,15 @@ pub record IsRising (all left : List Label) (s : Rising) : Type 0 where
   pub width : length s.most ≡ 9
 
 rise-none : IsRise 0 []
-rise-none = record { bound = λ n. none n; few = omega arith }
+rise-none = record { bound = λ n. none n; least = λ m h. omega arith }
   where
     none : (n : ℕ) → opens (take n []) ≤ closes (take n []) + 0
     none zero = omega arith
     none (suc n) = omega arith
+
+-- one label
+pub rise-symbol : (f : ℕ) → IsRise 1 (Symbol f ∷ [])
+rise-symbol f = record { bound = λ n. omega (arith, sum_by-take-le node_weight (Symbol f ∷ []) n); least = λ m h. omega (arith, h 1) }
 
 pub rising-start : (all : List Label) (s : Rising) → ((i : ℕ) → get_or s.most i 0 ≡ 0) → length s.most ≡ 9 → s.at ≡ 0 → s.opened ≡ 0 → s.closed ≡ 0 → IsRising all all s
 rising-start all s z n a o c = record {
@@ -178,10 +217,11 @@ module _ (all rest : List Label) (few : params all ≤ 8) where
         let here = segment s.at i.passed in
         let l : get_or s.most s.at 0 ≤ high = le-max_left (get_or s.most s.at 0) (s.opened + p.rise - s.closed) in
         let r : s.opened + p.rise - s.closed ≤ high = le-max_right (get_or s.most s.at 0) (s.opened + p.rise - s.closed) in
-        let a = sum_by-append node_weight here xs in
         record {
           bound = rise-joined here xs (get_or s.most s.at 0) p.rise high (i.each s.at).bound is.rise.bound l (omega (arith, r, i.opened, i.closed));
-          few = max-le (omega (arith, (i.each s.at).few, a)) (omega (arith, i.opened, is.rise.few, a));
+          least = λ m h.
+              let b = least-joined here xs (get_or s.most s.at 0) p.rise m (i.each s.at) is.rise h in
+              max-le b.0 (omega (arith, b.1, i.opened, i.closed));
         }
 
     rise-at : (j : ℕ) → (j < s.at) ⊎ (s.at ≤ j) → (s.at < j) ⊎ (j ≤ s.at) → IsRise (get_or (set s.most s.at high) j 0) (segment j (i.passed ++ xs))

@@ -20,10 +20,10 @@ use Rattle.segment_counts.specs.Weights.{all_weight}
 use Rattle.segment_counts.specs.declared.counts.Measure.TheVariants.{Nodes, All}
 use Rattle.segment_counts.proofs.Telling.{segment-whole}
 use Rattle.preorder_address.specs.Numberings.{AreCountsOf}
-use Rattle.value_cursor.specs.Rises.{AreRises, IsOf, IsRise, Passes, RisesAtMost, opens, risen}
+use Rattle.value_cursor.specs.Rises.{AreRises, IsOf, IsRise, Passes, opens, risen}
 use Rattle.value_cursor.specs.declared.rises.Passed.{Passed}
 use Rattle.value_cursor.specs.declared.rises.Rising.{Rising}
-use Rattle.value_cursor.proofs.RiseLemmas.{IsRising, closed-few, opened-few, opens-closes, place-few, rising-end, rising-start, rising-step}
+use Rattle.value_cursor.proofs.RiseLemmas.{IsRising, closed-few, opened-few, opens-closes, place-few, rise-few, rising-end, rising-start, rising-step}
 
 -- a walk along the tour of a rule, with the rises so far
 pub record RisesAlong (G : List KeyedRule) (r : ℕ) (walk : TourWalk) (s : Rising) (first steps : ℕ) : Type 0 where
@@ -77,7 +77,7 @@ module _ (g : Keyed) (k : IsKeyed g) (r : ℕ) (h : r < length g.rules) where
         omega (arith, all, is.opened, opened-few (preorder H r) (spread_nodes H i.left) few-params labels s rising-here)
 
     pub rise-here : s.opened + p.rise < 2 ^ 64
-    rise-here = omega (arith, opened-here, is.opened, is.rise.few)
+    rise-here = omega (arith, opened-here, is.opened, rise-few p.rise labels is.rise)
 
     pub closed-here : s.closed + p.closed < 2 ^ 64
     closed-here =
@@ -115,11 +115,11 @@ rises-more k G rows row n a b q i h = by_place (cases_lt q k)
         rw (e, row-last rows row, f) (b i)
 
 -- the rise of the whole value
-pub rise-whole : (G : List Rule) → IsGrammar G → (k : ℕ) (rows : List (List ℕ)) → length G ≤ k → AreRises k G rows → (most : ℕ) → most ≡ risen rows (length G - 1) 0 → RisesAtMost most (listed (value G) [])
+pub rise-whole : (G : List Rule) → IsGrammar G → (k : ℕ) (rows : List (List ℕ)) → length G ≤ k → AreRises k G rows → (most : ℕ) → most ≡ risen rows (length G - 1) 0 → IsRise most (listed (value G) [])
 rise-whole G g k rows h a most e =
     let r : ℕ = length G - 1 in
     let b : r < length G = omega (arith, g.some) in
     let z : params (preorder G r) ≡ 0 = omega (arith, params-preorder G r g b, (g.each r b).shaped.start (omega (arith, g.some))) in
     let whole : segment 0 (preorder G r) ≡ preorder G r = segment-whole (preorder G r) z in
     let rise : IsRise (risen rows r 0) (segment 0 (preorder G r)) = a r 0 (omega (arith, b, h)) in
-    rw e (subst (λ (ls : List Label). RisesAtMost (risen rows r 0) ls) whole rise.bound)
+    rw e (subst (λ (ls : List Label). IsRise (risen rows r 0) ls) whole rise)

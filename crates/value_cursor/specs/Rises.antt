@@ -24,10 +24,10 @@ closes = sum_by close_weight
 abbrev pub RisesAtMost : ℕ → List Label → Type 0
 RisesAtMost most ls = (n : ℕ) → opens (take n ls) ≤ closes (take n ls) + most
 
--- and that is no more than they open in all
+-- and that is the least such number
 pub record IsRise (most : ℕ) (ls : List Label) : Type 0 where
   pub bound : RisesAtMost most ls
-  pub few : most ≤ opens ls
+  pub least : (m : ℕ) → RisesAtMost m ls → most ≤ m
 
 -- what is known of labels that a walk passes
 pub record IsOf (p : Passed) (ls : List Label) : Type 0 where

@@ -35,8 +35,8 @@ pub(crate) struct Rising {
     pub(crate) closed: u64,
 }
 
-/// How many nodes are open at once at most while a cursor gives the tokens of any node. One pass over the rules; it fails only where
-/// memory is refused.
+/// How many nodes are open at once at most while a cursor gives the tokens of the whole value: the least number that is enough. It is
+/// enough for any other node too. One pass over the rules; it fails only where memory is refused.
 pub fn most_open<L: Ledger>(
     alloc: Global,
     grammar: &Grammar,
@@ -44,7 +44,8 @@ pub fn most_open<L: Ledger>(
     steps: &mut Steps<L>,
 ) -> Result<usize, AllocError>
     requires { AreCountsOf (rules_of grammar.now.rules) counts.now }
-    ensures { IfOk result (λ most. RisesAtMost most (listed (value (rules_of grammar.now.rules)) [])) }
+    ensures bound { IfOk result (λ most. RisesAtMost most (listed (value (rules_of grammar.now.rules)) [])) }
+    ensures least { IfOk result (λ most. (m : ℕ) → RisesAtMost m (listed (value (rules_of grammar.now.rules)) []) → most ≤ m) }
 {
     // The call tells what is true of every grammar.
     let _limit = grammar.limit();

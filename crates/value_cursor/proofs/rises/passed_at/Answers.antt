@@ -1,10 +1,10 @@
-use Rattle.std.proofs.Common.{[], ◌∷◌, arith, sym, subst}
+use Rattle.std.proofs.Common.{[], ◌∷◌, arith, refl, sym, subst}
 use Rattle.rule_arena.specs.declared.label.Label.{Label}
 use Rattle.slt_grammar.specs.Bodies.{CallsBelow}
 use Rattle.slt_grammar.specs.Segments.{part_of, preorder, segment}
 use Rattle.value_cursor.specs.Rises.{IsOf, IsRise}
 use Rattle.value_cursor.specs.declared.rises.Passed.{Passed}
-use Rattle.value_cursor.proofs.RiseLemmas.{opens-closes}
+use Rattle.value_cursor.proofs.RiseLemmas.{opens-closes, rise-symbol}
 use Rattle.value_cursor.proofs.rises.passed_at.Goals as goal
 
 pub returns-in-Call-default : goal.returns-in-Call-default
@@ -22,3 +22,6 @@ returns-in-Call-default c = λ k G h counts rises below.
       rise = subst (λ r. IsRise r ls) (sym c.rise_at.ensures) (rises q c.args.part b.0);
     } in
     subst (λ (l : Label). IsOf p (part_of G l c.args.part)) (sym e) made
+
+pub returns-in-Symbol-eq0 : goal.returns-in-Symbol-eq0
+returns-in-Symbol-eq0 c = λ k G h counts rises below. rw (c.in-Symbol-eq0.is-0, c.in-Symbol-eq0.is-1) (record { opened = refl; closed = refl; rise = rise-symbol c.in-Symbol-eq0.field-0-0 })

@@ -1,4 +1,3 @@
-pub mod Errors
 pub mod Queries
 pub mod Shown
 pub mod Names

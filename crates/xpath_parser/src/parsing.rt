@@ -18,9 +18,10 @@ use std::alloc::Global;
 /// steps outside filters, and at most 64 parts inside, which are steps, `or`, `and`, `|`, `not`, `true()` and `false()`. It is
 /// `Memory` for want of memory alone.
 pub fn parse(alloc: Global, bytes: &[u8]) -> Result<Query, QueryError>
-    ensures spelled { IfOk result (λ query. (ps : Paths) × Spells bytes.now ps × (IsLarge ps → ⊥) × (paths_of query.paths ≡ meant_paths bytes.now ps)) }
+    ensures spelled { IfOk result (λ query. (ps : Paths) × Spells bytes.now ps × (paths_of query.paths ≡ meant_paths bytes.now ps)) }
+    ensures small { IfOk result (λ query. (ps : Paths) → Spells bytes.now ps → IsLarge ps → ⊥) }
     ensures bad { result ≡ Err QueryError.Bad → (ps : Paths) → Spells bytes.now ps → ⊥ }
-    ensures large { result ≡ Err QueryError.Large → (ps : Paths) × Spells bytes.now ps × IsLarge ps }
+    ensures large { result ≡ Err QueryError.Large → ((ps : Paths) × Spells bytes.now ps) × ((ps : Paths) → Spells bytes.now ps → IsLarge ps) }
 {
     match postfix_of(alloc, bytes) {
         Ok(ops) => match build(alloc, bytes, &ops) {

@@ -31,7 +31,7 @@ impl Model for MemorySource {
 
 impl MemorySource {
     /// A source of these bytes that gives at most `piece` of them a read. The reads whose number, from 0, is among
-    /// `fails` fail, and no others.
+    /// `fails` fail, and no others. Each that fails counts as a fault.
     pub fn new(bytes: Vec<u8>, piece: usize, fails: Vec<u64>) -> MemorySource
         requires { 1 ≤ piece }
         ensures { result ≡ record { left = bytes.items; piece = piece; calls = record { fails = fails.items; made = 0; faults = 0 } } }
@@ -81,7 +81,8 @@ impl Model for MemorySink {
 }
 
 impl MemorySink {
-    /// An empty sink. The writes whose number, from 0, is among `fails` fail, and each that finds no memory.
+    /// An empty sink. The writes whose number, from 0, is among `fails` fail, and of the others each that finds no memory for
+    /// its bytes; one without bytes takes none. Each that fails counts as a fault.
     pub fn new(alloc: Global, fails: Vec<u64>) -> MemorySink
         ensures { result ≡ record { got = []; calls = record { fails = fails.items; made = 0; faults = 0 } } }
     {
@@ -106,7 +107,7 @@ impl Sink for MemorySink {
 
     ghost faults = { λ s. s.calls.faults };
 
-    // A write that fails adds nothing. One that is not due fails only for want of memory, and an empty one takes none.
+    // A write that fails adds nothing.
     fn write(&mut self, bytes: &[u8]) -> Result<(), Failed>
         ensures content { Writes (Some self.old.got) (Some self.new.got) result bytes.now }
         ensures kept { Keeps alone alone }

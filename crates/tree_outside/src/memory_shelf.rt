@@ -1,5 +1,5 @@
 // A shelf in memory, which fails at given calls.
-ghost use Rattle.std.specs.Prelude.{◌≡◌, ◌≤◌, ◌<◌, Some, length, OnOk, OnErr, IfOk, IsSome};
+ghost use Rattle.std.specs.Prelude.{◌≡◌, ◌≤◌, ◌<◌, [], Some, length, OnOk, OnErr, IfOk, IsSome, unwrap_or};
 ghost use Rattle.std.specs.Option.{option_copied};
 ghost use Rattle.std.specs.FinMap.{get, insert};
 ghost use Rattle.tree_outside.specs.Calls.{IsCounted};
@@ -48,7 +48,9 @@ impl Model for MemoryShelf {
 
 impl MemoryShelf {
     /// A shelf of these files, of which a read gives at most `piece` bytes. The calls whose number is among `fails`
-    /// fail, all but `close` counted together from 0, and each call that finds no memory.
+    /// fail, all but `close` counted together from 0, and of the others each that finds no memory for what it takes: `open` for a
+    /// file's bytes, `create` for a name, `append` for bytes where a file is pending, `seal` for a pending file. Where there is
+    /// none of these, as for an empty name or no bytes, and in `read`, no memory is taken. Each call that fails counts as a fault.
     pub fn new(
         alloc: Global,
         files: BTreeMap<String, Vec<u8>>,
@@ -86,7 +88,7 @@ impl Shelf for MemoryShelf {
     fn open(&mut self, name: &str) -> Result<bool, Failed>
         ensures content { Opens (Some self.old.told) (Some self.new.told) result name.now }
         ensures cause { HasCause self.old.calls.faults self.new.calls.faults result }
-        ensures calls { IsCounted self.old.calls self.new.calls result (IsSome (get self.old.told.files name.now)) }
+        ensures calls { IsCounted self.old.calls self.new.calls result (0 < length (unwrap_or (get self.old.told.files name.now) [])) }
         ensures same_piece { self.new.piece ≡ self.old.piece }
     {
         self.close();
@@ -126,17 +128,18 @@ impl Shelf for MemoryShelf {
     fn create(&mut self, name: &str) -> Result<(), Failed>
         ensures content { Changes (Some self.old.told) (Some self.new.told) result (created name.now) }
         ensures cause { HasCause self.old.calls.faults self.new.calls.faults result }
-        ensures calls { IsCounted self.old.calls self.new.calls result (Unit {0}) }
+        ensures calls { IsCounted self.old.calls self.new.calls result (0 < length name.now) }
         ensures same_piece { self.new.piece ≡ self.old.piece }
     {
         self.pending = None;
         if self.calls.begin() {
             return Err(self.calls.fail());
         }
-        let Ok(name) = String::from_str(self.alloc, name) else {
+        let mut copy = String::new(self.alloc);
+        if copy.push_str(name).is_err() {
             return Err(self.calls.fail());
-        };
-        self.name = name;
+        }
+        self.name = copy;
         self.pending = Some(Vec::new(self.alloc));
         Ok(())
     }
@@ -144,7 +147,7 @@ impl Shelf for MemoryShelf {
     fn append(&mut self, bytes: &[u8]) -> Result<(), Failed>
         ensures content { Changes (Some self.old.told) (Some self.new.told) result (appended bytes.now) }
         ensures cause { HasCause self.old.calls.faults self.new.calls.faults result }
-        ensures calls { IsCounted self.old.calls self.new.calls result (IsSome self.old.told.pending) }
+        ensures calls { IsCounted self.old.calls self.new.calls result (IsSome self.old.told.pending × 0 < length bytes.now) }
         ensures same_piece { self.new.piece ≡ self.old.piece }
     {
         let pending = self.pending.take();

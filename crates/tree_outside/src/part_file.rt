@@ -4,7 +4,7 @@ use std::alloc::{AllocError, Global};
 use std::fs::{self, OpenFile, OpenOptions, Permissions};
 use std::io::{self, BufWriter, Write};
 use std::os::unix::fs::{OpenOptionsExt, PermissionsExt};
-use std::path::PathBuf;
+use std::path::{Path, PathBuf};
 use std::rt::Files;
 
 /// How many bytes are gathered before they are written.
@@ -69,7 +69,21 @@ impl<R: Files> PartFile<R> {
     fn replace_target(&mut self, rt: &R) -> io::Result<()> {
         self.writer.flush()?;
         self.writer.get_ref().sync_all()?;
-        fs::rename(rt, self.path.as_str(), self.target.as_str())
+        fs::rename(rt, self.path.as_str(), self.target.as_str())?;
+        sync_folder(rt, &self.target);
+        Ok(())
+    }
+}
+
+// From then on a power cut leaves the new file. Its bytes have the name already, so a folder that can't be opened or synced
+// is no fault.
+fn sync_folder<R: Files>(rt: &R, target: &PathBuf) {
+    let folder = match target.parent() {
+        Some(folder) if !folder.as_os_str().is_empty() => folder,
+        _ => Path::new("."),
+    };
+    if let Ok(opened) = fs::open(rt, folder) {
+        let _ = opened.sync_all();
     }
 }
 

@@ -45,6 +45,7 @@ impl Unread {
     pub fn replace(&mut self, bytes: &[u8]) -> Result<(), AllocError>
         ensures ok { OnOk result (self.new ≡ bytes.now) }
         ensures err { OnErr result (self.new ≡ []) }
+        ensures memory { OnErr result (0 < length bytes.now) }
     {
         self.clear();
         self.bytes.extend_from_slice(bytes)

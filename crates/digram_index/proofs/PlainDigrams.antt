@@ -90,7 +90,7 @@ apart-disjoint G a b m n A B X = λ r. record {
 one-place : (g : Keyed) → IsKeyed g → (r p s q : ℕ) (k m : Key) → key_at g.rules r p ≡ Some k → key_at g.rules s q ≡ Some m → k.number ≡ m.number → (r ≡ s) × (p ≡ q)
 one-place g K r p s q k m a b e = K.once m r p s q (a ∙ ap Some (one-key k m e)) b
 
-disjoint-apart : (g : Keyed) → IsKeyed g → (a b : Occurrence) (m n : NodePair) → Shows g.rules a m → Shows g.rules b n → AreDisjoint a b → PairsShareNone m n
+pub disjoint-apart : (g : Keyed) → IsKeyed g → (a b : Occurrence) (m n : NodePair) → Shows g.rules a m → Shows g.rules b n → AreDisjoint a b → PairsShareNone m n
 disjoint-apart g K a b m n A B D = record {
   lows = λ e. let z = one-place g K a.rule a.lower b.rule b.lower A.low B.low A.low_there B.low_there (A.low_is ∙ e ∙ sym B.low_is) in (D z.0).lowers z.1;
   highs = λ e. let z = one-place g K a.rule a.upper b.rule b.upper A.high B.high A.high_there B.high_there (A.high_is ∙ e ∙ sym B.high_is) in (D z.0).uppers z.1;

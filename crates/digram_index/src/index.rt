@@ -143,8 +143,8 @@ impl Index {
         self.entries.count_all(pattern) as u64
     }
 
-    /// The lower node of a linked occurrence of a digram, and none exactly where none is linked. It is the one that was linked first of those
-    /// that are left.
+    /// The lower node of a linked occurrence of a digram, and none exactly where none is linked. Of several it is the one that was linked
+    /// first of those that are left, which no clause promises.
     pub fn first(&self, grammar: &Grammar, digram: Digram) -> Option<Key>
         requires { AreOccurrences grammar.now.rules self.now }
         ensures some { IfSome result (λ key. (o : Cell) × ((cell self.now key.number ≡ Some o) × (o.digram ≡ digram))) }

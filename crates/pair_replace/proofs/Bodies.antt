@@ -43,6 +43,11 @@ length-parameters : (k : ℕ) → length (parameters k) ≡ k
 length-parameters zero = refl
 length-parameters (suc k) = ap suc (length-parameters k)
 
+pub length-digram : (ranks : List ℕ) (u l : Label) (c : ℕ) → length (digram_body ranks u c l) ≡ 2 + (c + (arity ranks l + (arity ranks u - suc c)))
+length-digram ranks u l c =
+    let k : ℕ = arity ranks l + (arity ranks u - suc c) in
+    omega (arith, length-append (parameters c) (l ∷ parameters k), length-parameters c, length-parameters k)
+
 params-real : (l : Label) (ls : List Label) → l ≢ Param → params (l ∷ ls) ≡ params ls
 params-real Bottom ls n = refl
 params-real (Symbol f) ls n = refl
@@ -82,7 +87,7 @@ digram-lawful G place c n u l body e len fits small up low below =
     let z : c + suc (arity ranks u - suc c) ≡ arity ranks u + 0 = omega (arith, fits) in
     let t : AreTerms (arity ranks) (suc (arity ranks u - suc c)) (l ∷ parameters k) = only-parameters ranks k in
     let p : params made ≡ c + k = params-real u (parameters c ++ (l ∷ parameters k)) up ∙ params-append c (l ∷ parameters k) ∙ ap (λ (j : ℕ). c + j) (params-real l (parameters k) low ∙ params-only k) in
-    let s : length made ≡ 2 + (c + k) = omega (arith, length-append (parameters c) (l ∷ parameters k), length-parameters c, length-parameters k) in
+    let s : length made ≡ 2 + (c + k) = length-digram ranks u l c in
     let v : n ≡ c + k = omega (arith, len, ap length e, s) in
     subst (λ (ls : List Label). IsLawfulBefore G place n ls) (sym e) (record {
       earlier = below-both place u l c k below;

@@ -17,3 +17,4 @@ pub mod PutBack
 pub mod PutCounts
 pub mod PutDigrams
 pub mod PutRules
+pub mod DisjointLemmas

@@ -1,7 +1,7 @@
 -- A digram over parameters that was put among the rules.
-use Rattle.std.proofs.Common.{◌≡◌, ◌+◌, ◌-◌, ◌<◌, ◌≤◌, ℕ, zero, suc, List, [], ◌∷◌, ◌++◌, length, map, get_or, refl, ap, sym, ◌∙◌, subst, arith}
+use Rattle.std.proofs.Common.{◌≡◌, ◌+◌, ◌-◌, ◌<◌, ◌≤◌, ℕ, zero, suc, List, [], ◌∷◌, ◌++◌, length, insert, take, drop, map, get_or, refl, ap, sym, ◌∙◌, subst, arith}
 use Rattle.std.proofs.Math.ListN.{get_or-map}
-use Rattle.std.proofs.lemmas.List.{length-map}
+use Rattle.std.proofs.lemmas.List.{length-map, take-map, drop-map}
 use Rattle.rule_arena.specs.Terms.{Node}
 use Rattle.rule_arena.specs.declared.label.Label.{Label}
 use Rattle.slt_grammar.specs.Names.{Bottom, Symbol, Call, Param}
@@ -16,6 +16,7 @@ use Rattle.slt_grammar.specs.KeyedEdits.{shifted_keyed, rule_put, digram_body, p
 use Rattle.slt_grammar.specs.RulePuts.{IsLawfulBefore, IsPut}
 use Rattle.slt_grammar.specs.declared.digram.Digram.{Digram}
 use Rattle.slt_grammar.specs.declared.rules.Rule.{Rule}
+use Rattle.slt_grammar.proofs.Adding.{ranks-added}
 use Rattle.slt_grammar.proofs.Additions.{Fits, get-new, get-shifted, plain, put-is, put-calls, put-uncalled, put-length}
 use Rattle.slt_grammar.proofs.Agreeing.{Agree, agree-of}
 use Rattle.slt_grammar.proofs.Keeping.{shifted-before}
@@ -23,7 +24,7 @@ use Rattle.slt_grammar.proofs.KeyedLemmas.{body_at-rules_of, length-rules_of}
 use Rattle.slt_grammar.proofs.Values.{value_at-added}
 use Rattle.digram_index.specs.Settled.{HasTwoDisjoint}
 use Rattle.pair_replace.specs.NewRules.{IsAdded}
-use Rattle.pair_replace.proofs.Bodies.{digram-lawful}
+use Rattle.pair_replace.proofs.Bodies.{digram-lawful, length-digram}
 use Rattle.pair_replace.proofs.DigramBodies.{calls-digram}
 use Rattle.pair_replace.proofs.Digrams.{IsSound, sound}
 
@@ -136,6 +137,17 @@ module _ (g h : Keyed) (K : IsKeyed g) (M : IsKeyed h) (d : Digram) (place rank 
   pub upper-same : arity new-ranks d.upper ≡ arity old-ranks d.upper
   upper-same = (arity-before old-ranks new-ranks place ranks-same d.upper d.lower below).0
 
+  pub body-old : body_at (rules_of h.rules) place ≡ digram_body old-ranks d.upper (d.place - 1) d.lower
+  body-old = body_at-rules_of h.rules place ∙ ap labels_of nodes-new ∙ P.labels ∙ made
+
+  pub ranks-more : ranks_of (rules_of h.rules) ≡ insert old-ranks place rank
+  ranks-more =
+      let f : Rule → ℕ = λ S. S.rank in
+      ap (λ (G : List KeyedRule). ranks_of (rules_of G)) P.rules ∙ ap ranks_of (put-is g.rules place new L there F)
+      ∙ ranks-added (rules_of g.rules) place (plain new)
+      ∙ ap (λ (ks : List ℕ). ks ++ rank ∷ ranks_of (drop place (rules_of g.rules))) (sym (take-map f place (rules_of g.rules)))
+      ∙ ap (λ (ks : List ℕ). take place old-ranks ++ rank ∷ ks) (sym (drop-map f place (rules_of g.rules)))
+
 -- a digram's rule that was put before one that its labels do not call
 pub added : (g h : Keyed) → IsKeyed g → IsKeyed h → (d : Digram) → HasTwoDisjoint (rules_of g.rules) d → digram_rank (rules_of g.rules) d ≤ 8 → (place rank : ℕ) → CallsBelow place (d.upper ∷ d.lower ∷ [])
     → ((r : ℕ) → CallsBelow r (d.upper ∷ d.lower ∷ []) → place ≤ r) → (body : List Label) → body ≡ digram_body (ranks_of (rules_of g.rules)) d.upper (d.place - 1) d.lower → rank ≡ length body - 2
@@ -143,6 +155,11 @@ pub added : (g h : Keyed) → IsKeyed g → IsKeyed h → (d : Digram) → HasTw
 added g h K M d T small place rank below least body made many P = record {
   there = there;
   below = below;
+  made = record {
+    behind = below;
+    body = body-old g h K M d place rank body there below made W P;
+    ranks = ranks-more g h K M d place rank body there below made W P ∙ ap (insert (ranks_of (rules_of g.rules)) place) rank-is;
+  };
   rule = record { rank = rank; nodes = P.nodes };
   rules = P.rules;
   many = one-more g h K M d place rank body there below made W P;
@@ -156,6 +173,15 @@ added g h K M d T small place rank below least body made many P = record {
   where
     S : IsSound g d
     S = sound g K d T
+
+    rank-is : rank ≡ digram_rank (rules_of g.rules) d
+    rank-is =
+        let ranks : List ℕ = ranks_of (rules_of g.rules) in
+        let n = length-digram ranks d.upper d.lower (d.place - 1) in
+        let e = ap length made in
+        let f = S.first in
+        let l = S.last in
+        omega (arith, many, e, n, f, l)
 
     there : place < length g.rules
     there = let p = least S.rule S.below in let w = S.within in omega arith

@@ -44,6 +44,7 @@ round-same g I J d rule own first count R rules same cells spare = record {
   new = R.new;
   values = R.values;
   many = R.many;
+  ranks = R.ranks;
   size_left = R.size_left;
   calls = R.calls;
   called = R.called;
@@ -68,6 +69,7 @@ round-next g h K I J d rule own first count R spare low H made index others valu
       new = new-stays g h K d rule own low F m (ranks g h K low rule F m) (rules g h K low rule F m) R.new;
       values = λ r. values r ∙ R.values r;
       many = rules g h K low rule F m ∙ R.many;
+      ranks = ranks g h K low rule F m ∙ R.ranks;
       size_left = let s = R.size_left in omega (arith, s, less);
       calls = λ k z. let a = R.calls k z in let b = calls-kept g h K d rule own R.new low F m u l k z in omega (arith, a, b);
       called = let a = R.called in let b = called-more g h K d rule own R.new low F m u l in omega (arith, a, b);

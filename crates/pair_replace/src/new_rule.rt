@@ -11,7 +11,7 @@ ghost use Rattle.digram_index.specs.Keeping.{IsIndexBut};
 ghost use Rattle.digram_index.specs.Linked.{IsIndexOf, cell, cell_count, shifted_cell};
 ghost use Rattle.digram_index.specs.Settled.{HasApart, HasTwoDisjoint};
 ghost use Rattle.pair_replace.specs.Chains.{HasApartLinked};
-ghost use Rattle.pair_replace.specs.NewRules.{IsAdded, IsNewRule, IsSmall};
+ghost use Rattle.pair_replace.specs.NewRules.{IsAdded, IsNewRule, IsRuleOf, IsSmall};
 
 use digram_index::{Index, arity_of, item};
 use slt_grammar::{Body, Digram, Grammar, Key, Label};
@@ -38,6 +38,7 @@ pub(crate) fn add_new_rule(
     requires rank { digram_rank (rules_of grammar.old.rules) digram ≤ 8 }
     ensures index { IfOk result (λ new. IsIndexBut grammar.new index.new (λ k. k ≡ new.lower.number)) }
     ensures new { IfOk result (λ new. IsNewRule grammar.new.rules digram new.place new.lower) }
+    ensures made { IfOk result (λ new. IsRuleOf (rules_of grammar.old.rules) (rules_of grammar.new.rules) digram new.place) }
     ensures apart { OnOk result ((least : ℕ) → HasApart grammar.old.rules digram least → HasApartLinked index.new digram least) }
     ensures room { OnOk result (links ≤ index.new.spare_links) }
     ensures cells { OnOk result (grammar.new.limit ≤ length index.new.cells) }

@@ -1,16 +1,19 @@
 // Replacement of a digram.
-ghost use Rattle.std.specs.Prelude.{◌≡◌, ◌≢◌, ◌+◌, ◌<◌, ◌≤◌, ℕ, [], ◌∷◌, IfOk, OnOk, OnErr, length};
+ghost use Rattle.std.specs.Prelude.{◌≡◌, ◌≢◌, ◌+◌, ◌<◌, ◌≤◌, ℕ, List, [], ◌∷◌, IfOk, OnOk, OnErr, length, max};
+ghost use Rattle.slt_grammar.specs.Algebras.{ranks_of};
 ghost use Rattle.slt_grammar.specs.Bodies.{calls_in};
 ghost use Rattle.slt_grammar.specs.Editing.{shifted};
 ghost use Rattle.slt_grammar.specs.Grammars.{calls_of, size, value, value_at, IsSwept};
-ghost use Rattle.slt_grammar.specs.Digrams.{HasThreeDisjoint, digram_rank};
+ghost use Rattle.slt_grammar.specs.Digrams.{HasThreeDisjoint, Occurrence, Occurs, digram_rank};
 ghost use Rattle.slt_grammar.specs.Keyed.{Keyed, rules_of};
+ghost use Rattle.slt_grammar.specs.Ranks.{greatest_rank};
 ghost use Rattle.digram_index.specs.Keeping.{IsIndexBut};
 ghost use Rattle.digram_index.specs.Linked.{IsIndexOf, cell, cell_count};
 ghost use Rattle.digram_index.specs.Settled.{HasTwoDisjoint};
-ghost use Rattle.pair_replace.specs.Chains.{HasApartLinked, HasNoMoreApart, IsHead, LeavesApart};
+ghost use Rattle.pair_replace.specs.Chains.{HasApartLinked, HasNoMoreApart, IsHead, IsLinkedAs, LeavesApart};
 ghost use Rattle.pair_replace.specs.Turns.{IsRound, IsTurn};
-ghost use Rattle.pair_replace.specs.NewRules.{IsNewRule};
+ghost use Rattle.pair_replace.specs.NewRules.{IsNewRule, IsRuleOf};
+ghost use Rattle.pair_replace.specs.Disjoint.{OccurDisjoint};
 
 use crate::folding::fold_at;
 use crate::new_rule::{NewRule, add_new_rule};
@@ -32,8 +35,9 @@ pub struct Replaced {
 const NEAR: usize = 17;
 
 /// Makes a rule of a digram of which two occurrences share no node, and whose rank is at most 8: its body is the digram over parameters.
-/// Folds occurrences into calls of it, as many as share no node: where its labels differ, all. The value of each rule stays. It fails where memory is refused: the value stays then too, neither
-/// the size nor the size and the rules together are larger, and the index is the grammar's.
+/// Folds occurrences into calls of it, until the digram stands in the new rule alone: as many as share no node, and where its labels
+/// differ, all. The value of each rule stays. It fails where memory is refused: the value stays then too, neither the size nor the size
+/// and the rules together are larger, and the index is the grammar's.
 pub fn replace(
     alloc: Global,
     grammar: &mut Grammar,
@@ -46,6 +50,10 @@ pub fn replace(
     ensures index { IsIndexOf grammar.new index.new }
     ensures value { value (rules_of grammar.new.rules) ≡ value (rules_of grammar.old.rules) }
     ensures rules { OnOk result (length grammar.new.rules ≡ length grammar.old.rules + 1) }
+    ensures body { IfOk result (λ r. IsRuleOf (rules_of grammar.old.rules) (rules_of grammar.new.rules) digram r.rule) }
+    ensures ranks { greatest_rank (rules_of grammar.new.rules) ≤ max (digram_rank (rules_of grammar.old.rules) digram) (greatest_rank (rules_of grammar.old.rules)) }
+    ensures only { IfOk result (λ r. (o : Occurrence) → Occurs (rules_of grammar.new.rules) digram o → o.rule ≡ r.rule) }
+    ensures most { IfOk result (λ r. (os : List Occurrence) → OccurDisjoint (rules_of grammar.old.rules) digram os → length os ≤ r.count) }
     ensures count { IfOk result (λ r. 2 ≤ r.count) }
     ensures three { HasThreeDisjoint (rules_of grammar.old.rules) digram → IfOk result (λ r. 3 ≤ r.count) }
     ensures size { IfOk result (λ r. size (rules_of grammar.new.rules) + r.count ≡ size (rules_of grammar.old.rules) + 2) }
@@ -84,7 +92,9 @@ fn fold_all(
     ensures new { IsNewRule grammar.new.rules digram new.now.place new.now.lower }
     ensures values { (r : ℕ) → value_at (rules_of grammar.new.rules) r ≡ value_at (rules_of grammar.old.rules) r }
     ensures rules { length grammar.new.rules ≡ length grammar.old.rules }
+    ensures ranks { ranks_of (rules_of grammar.new.rules) ≡ ranks_of (rules_of grammar.old.rules) }
     ensures count { IfOk result (λ count. HasNoMoreApart index.old digram count) }
+    ensures none { OnOk result ((k : ℕ) → IsLinkedAs index.new digram k → ⊥) }
     ensures size { IfOk result (λ count. size (rules_of grammar.new.rules) + count ≡ size (rules_of grammar.old.rules)) }
     ensures calls { (r : ℕ) → calls_in r (digram.upper ∷ digram.lower ∷ []) ≡ 0 → calls_of (rules_of grammar.old.rules) r ≤ calls_of (rules_of grammar.new.rules) r }
     ensures called { 2 ≤ calls_of (rules_of grammar.new.rules) new.now.place }

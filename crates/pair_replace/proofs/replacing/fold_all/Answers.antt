@@ -31,3 +31,6 @@ returns-clause-differ c = λ d.
     let n = none-linked c.loop-next.index c.args.digram (turns-end c.loop-next.index c.args.digram c.loop-next.next c.loop-next.invariant.turn c.in_default.is) in
     let l = c.loop-next.invariant.left d in
     omega (arith, n, l)
+
+pub returns-clause-none : goal.returns-clause-none
+returns-clause-none c = turns-end c.loop-next.index c.args.digram c.loop-next.next c.loop-next.invariant.turn c.in_default.is

@@ -1,5 +1,8 @@
-use Rattle.std.proofs.Common.{arith}
+use Rattle.std.proofs.Common.{length, arith}
+use Rattle.slt_grammar.specs.Keyed.{rules_of}
+use Rattle.slt_grammar.proofs.RankBounds.{rank-added, rank-same}
 use Rattle.digram_index.proofs.PlainDigrams.{two-apart, three-apart}
+use Rattle.pair_replace.proofs.DisjointLemmas.{all-apart, occurs-there, rule-stays}
 use Rattle.pair_replace.proofs.Ends.{all-called, last-linked}
 use Rattle.pair_replace.proofs.replacing.replace.Goals as goal
 
@@ -43,3 +46,41 @@ returns-clause-three c = λ three.
     let m = t.1.1 in
     let n = c.in_ok-count.ensures.count t.0 t.1.0 in
     omega (arith, m, n)
+
+pub returns-clause-body : goal.returns-clause-body
+returns-clause-body c =
+    let n = c.in_ok-new.ensures in
+    let f = c.fold_all-count.ensures in
+    rule-stays (rules_of c.args.grammar.now.rules) c.add_new_rule.new.grammar.rules c.fold_all-count.new.grammar.rules c.args.digram c.in_ok-new.new.place c.in_ok-new.new.lower c.in_ok-new.new.lower n.new f.new f.ranks n.made
+
+pub returns-clause-only : goal.returns-clause-only
+returns-clause-only c =
+    let f = c.fold_all-count.ensures in
+    occurs-there c.fold_all-count.new.grammar c.limit-folded.ensures.keyed c.args.digram c.in_ok-new.new.place c.in_ok-new.new.lower f.new c.fold_all-count.new.index f.index c.in_ok-count.ensures.none
+
+pub returns-clause-most : goal.returns-clause-most
+returns-clause-most c = λ os D.
+    let t = c.in_ok-new.ensures.apart (length os) (all-apart c.args.grammar.now c.limit-limit.ensures.keyed c.args.digram os D) in
+    let m = t.1.1 in
+    let n = c.in_ok-count.ensures.count t.0 t.1.0 in
+    omega (arith, m, n)
+
+pub returns-clause-ranks : goal.returns-clause-ranks
+returns-clause-ranks c =
+    let old = rules_of c.args.grammar.now.rules in
+    let made = rules_of c.add_new_rule.new.grammar.rules in
+    omega (
+      arith,
+      rank-added old made c.in_ok-new.new.place _ c.in_ok-new.ensures.made.ranks,
+      rank-same made (rules_of c.fold_all-count.new.grammar.rules) c.fold_all-count.ensures.ranks,
+    )
+
+pub returns-in_err-count-clause-ranks : goal.returns-in_err-count-clause-ranks
+returns-in_err-count-clause-ranks c =
+    let old = rules_of c.args.grammar.now.rules in
+    let made = rules_of c.add_new_rule.new.grammar.rules in
+    omega (
+      arith,
+      rank-added old made c.in_ok-new.new.place _ c.in_ok-new.ensures.made.ranks,
+      rank-same made (rules_of c.fold_all-count.new.grammar.rules) c.fold_all-count.ensures.ranks,
+    )

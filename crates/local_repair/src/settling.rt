@@ -1,8 +1,9 @@
 // Replacing and pruning in turn.
-ghost use Rattle.std.specs.Prelude.{◌≡◌, ◌+◌, ◌-◌, ◌^◌, ◌≤◌, OnOk, length, min};
+ghost use Rattle.std.specs.Prelude.{◌≡◌, ◌+◌, ◌-◌, ◌^◌, ◌≤◌, OnOk, length, max, min};
 ghost use Rattle.slt_grammar.specs.Digrams.{IsSettled, digram_rank, HasThreeDisjoint};
 ghost use Rattle.slt_grammar.specs.Grammars.{size};
 ghost use Rattle.slt_grammar.specs.Keyed.{rules_of};
+ghost use Rattle.slt_grammar.specs.Ranks.{greatest_rank};
 ghost use Rattle.digram_index.specs.Linked.{IsIndexOf};
 ghost use Rattle.local_repair.specs.Settling.{IsLargerAtMost, IsNoLarger};
 ghost use Rattle.slt_grammar.specs.declared.digram.Digram.{Digram};
@@ -13,8 +14,9 @@ use rule_pruning::prune;
 use slt_grammar::Grammar;
 use std::alloc::{AllocError, Global};
 
-/// Settles a grammar for digrams of a rank within the bound, which is at most 8. The value stays, and the grammar isn't larger. It fails
-/// where memory is refused; the value is then the same too, and the grammar no larger.
+/// Settles a grammar for digrams of a rank within the bound, which is at most 8. The value stays, the grammar isn't larger, and the
+/// greatest rank of a rule is at most the bound, or what it was. It fails where memory is refused; the value, the size and the ranks are
+/// as told then too.
 ///
 /// A settled grammar can become smaller still where a part stands in two rules and nowhere else. So digrams that stand twice become rules
 /// too, once, as far as that takes no longer than settling did, and the grammar is settled again.
@@ -22,6 +24,7 @@ pub fn settle(alloc: Global, grammar: &mut Grammar, bound: usize) -> Result<(), 
     requires { bound ≤ 8 }
     ensures settled { OnOk result (IsSettled (rules_of grammar.new.rules) bound) }
     ensures kept { IsNoLarger (rules_of grammar.old.rules) (rules_of grammar.new.rules) }
+    ensures ranks { greatest_rank (rules_of grammar.new.rules) ≤ max bound (greatest_rank (rules_of grammar.old.rules)) }
 {
     let mut index = build(alloc, grammar)?;
     settle_touched(alloc, grammar, &mut index, bound)
@@ -38,6 +41,7 @@ pub fn settle_touched(
     requires index { IsIndexOf grammar.old index.old }
     ensures settled { OnOk result (IsSettled (rules_of grammar.new.rules) bound) }
     ensures kept { IsNoLarger (rules_of grammar.old.rules) (rules_of grammar.new.rules) }
+    ensures ranks { greatest_rank (rules_of grammar.new.rules) ≤ max bound (greatest_rank (rules_of grammar.old.rules)) }
     ensures index { IsIndexOf grammar.new index.new }
 {
     let begin = weight(grammar);
@@ -76,6 +80,7 @@ fn alternate(
     requires index { IsIndexOf grammar.old index.old }
     ensures settled { OnOk result (IsSettled (rules_of grammar.new.rules) bound) }
     ensures kept { IsNoLarger (rules_of grammar.old.rules) (rules_of grammar.new.rules) }
+    ensures ranks { greatest_rank (rules_of grammar.new.rules) ≤ max bound (greatest_rank (rules_of grammar.old.rules)) }
     ensures index { IsIndexOf grammar.new index.new }
 {
     prune(alloc, grammar, index)?;
@@ -98,6 +103,7 @@ fn replace_all(
     requires index { IsIndexOf grammar.old index.old }
     ensures rare { OnOk result ((d : Digram) → digram_rank (rules_of grammar.new.rules) d ≤ bound → HasThreeDisjoint (rules_of grammar.new.rules) d → ⊥) }
     ensures kept { IsNoLarger (rules_of grammar.old.rules) (rules_of grammar.new.rules) }
+    ensures ranks { greatest_rank (rules_of grammar.new.rules) ≤ max bound (greatest_rank (rules_of grammar.old.rules)) }
     ensures index { IsIndexOf grammar.new index.new }
 {
     while let Some(digram) = index.top(grammar, bound) {
@@ -118,6 +124,7 @@ fn replace_twice(
     requires bound { bound ≤ 8 }
     requires index { IsIndexOf grammar.old index.old }
     ensures kept { IsLargerAtMost times (rules_of grammar.old.rules) (rules_of grammar.new.rules) }
+    ensures ranks { greatest_rank (rules_of grammar.new.rules) ≤ max bound (greatest_rank (rules_of grammar.old.rules)) }
     ensures index { IsIndexOf grammar.new index.new }
 {
     for done in 0..times {

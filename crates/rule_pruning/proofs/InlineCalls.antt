@@ -3,6 +3,7 @@ use Rattle.std.proofs.Common.{◌≡◌, ◌≢◌, ℕ, suc, ◌+◌, ◌-◌, 
 use Rattle.rule_arena.specs.Terms.{Node}
 use Rattle.rule_arena.specs.declared.key.Key.{Key}
 use Rattle.rule_arena.specs.declared.label.Label.TheVariants.{Bottom, Call}
+use Rattle.slt_grammar.specs.Algebras.{ranks_of}
 use Rattle.slt_grammar.specs.Bodies.{calls_in, real_nodes}
 use Rattle.slt_grammar.specs.Grammars.{body_at, calls_of, size, value_at}
 use Rattle.slt_grammar.specs.Keyed.{Keyed, KeyedRule, IsKeyed, labels_of, nodes_at, rules_of}
@@ -11,11 +12,12 @@ use Rattle.slt_grammar.proofs.Agreeing.{label-is}
 use Rattle.slt_grammar.proofs.KeyedLemmas.{body_at-rules_of}
 use Rattle.slt_grammar.proofs.TourWalking.{node-key}
 use Rattle.rule_pruning.specs.Calls.{AreCallsOf, StandsAsCallOf}
-use Rattle.rule_pruning.proofs.Inlined.{callee-before, fewer-after, length-after, nodes-after, others-after, stands-after}
+use Rattle.rule_pruning.proofs.Inlined.{callee-before, fewer-after, length-after, nodes-after, others-after, ranks-after, stands-after}
 
 -- so many of a rule's calls are inlined
 pub record IsInlining (F G : List KeyedRule) (q : ℕ) (calls : List Key) (i : ℕ) : Type 0 where
   pub rules : length G ≡ length F
+  pub ranks : ranks_of (rules_of G) ≡ ranks_of (rules_of F)
   pub before : (r : ℕ) → r ≤ q → nodes_at G r ≡ nodes_at F r
   pub left : calls_of (rules_of G) q + i ≡ length calls
   pub stand : (j : ℕ) (key : Key) → i ≤ j → slice_get calls j ≡ Some key → StandsAsCallOf G q key
@@ -35,6 +37,7 @@ as-call G q key S = record {
 pub inlining-begins : (G : List KeyedRule) (q : ℕ) (calls : List Key) → AreCallsOf G q calls → IsInlining G G q calls 0
 inlining-begins G q calls A = record {
   rules = refl;
+  ranks = refl;
   before = λ r h. refl;
   left = omega (arith, A.many);
   stand = λ j key h e. A.each j key e;
@@ -87,6 +90,7 @@ module _ (F : List KeyedRule) (g : Keyed) (K : IsKeyed g) (q : ℕ) (calls : Lis
       let b = callee-before g K call C J.keys in
       record {
         rules = ap length J.rules ∙ length-after g K call C J.keys ∙ I.rules;
+        ranks = ap (λ (X : List KeyedRule). ranks_of (rules_of X)) J.rules ∙ ranks-after g K call C J.keys ∙ I.ranks;
         before = λ r h. ap (λ (X : List KeyedRule). nodes_at X r) J.rules ∙ nodes-after g K call C J.keys r (λ e. omega (arith, b, h, e)) ∙ I.before r h;
         left = omega (arith, ap (λ (X : List KeyedRule). calls_of (rules_of X) q) J.rules, fewer-after g K call C J.keys, I.left);
         stand = λ j key h e. subst (λ (X : List KeyedRule). StandsAsCallOf X q key) (sym J.rules)

@@ -15,7 +15,7 @@ use Rattle.slt_grammar.specs.Keyed.{KeyedRule, labels_of, nodes_at, rules_of}
 use Rattle.slt_grammar.specs.KeyedEdits.{StandsAsCall, with_nodes}
 use Rattle.slt_grammar.proofs.FoldedRules.{flat}
 use Rattle.slt_grammar.proofs.InlinedRules.{agree, behind, earlier, in-list, inlined-weighs, kids-holes}
-use Rattle.slt_grammar.proofs.KeyedEdits.{length-with_nodes, nodes-with_nodes, nodes-others, rules-with_nodes}
+use Rattle.slt_grammar.proofs.KeyedEdits.{length-with_nodes, nodes-with_nodes, nodes-others, ranks-with, rules-with_nodes}
 use Rattle.slt_grammar.proofs.KeyedLemmas.{body_at-rules_of, length-rules_of, nodes-are-term}
 use Rattle.slt_grammar.proofs.Weights.{weigh, call_weight, calls-weigh, total, calls-total, total-with_body}
 use Rattle.slt_grammar.specs.Keyed.{Keyed, IsKeyed}
@@ -100,6 +100,9 @@ module _ (g : Keyed) (K : IsKeyed g) (call : Key) (C : StandsAsCall g.rules call
 
   pub length-after : length H ≡ length g.rules
   length-after = length-with_nodes g.rules C.here.rule ms there-in
+
+  pub ranks-after : ranks_of (rules_of H) ≡ ranks_of (rules_of g.rules)
+  ranks-after = ranks-with g.rules C.here.rule ms L there-in
 
   pub nodes-after : (t : ℕ) → t ≢ C.here.rule → nodes_at H t ≡ nodes_at g.rules t
   nodes-after t d = nodes-others g.rules C.here.rule t ms there-in d

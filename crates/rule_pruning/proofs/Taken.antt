@@ -9,6 +9,7 @@ use Rattle.rule_arena.specs.Terms.{Node}
 use Rattle.rule_arena.specs.declared.key.Key.{Key}
 use Rattle.rule_arena.specs.declared.label.Label.{Label}
 use Rattle.rule_arena.specs.declared.label.Label.TheVariants.{Bottom, Symbol, Call, Param}
+use Rattle.slt_grammar.specs.Algebras.{ranks_of}
 use Rattle.slt_grammar.specs.Bodies.{calls_in, real_nodes}
 use Rattle.slt_grammar.specs.Digrams.{Saves}
 use Rattle.slt_grammar.specs.Editing.{shifted}
@@ -16,10 +17,12 @@ use Rattle.slt_grammar.specs.Grammars.{IsSwept, body_at, calls_of, size, value, 
 use Rattle.slt_grammar.specs.Keyed.{Keyed, KeyedRule, IsKeyed, labels_of, nodes_at, rules_of}
 use Rattle.slt_grammar.specs.KeyedEdits.{rule_dropped, unshifted_keyed}
 use Rattle.slt_grammar.specs.Placing.{unshifted, unshifted_node}
+use Rattle.slt_grammar.specs.Ranks.{greatest_rank}
 use Rattle.slt_grammar.specs.declared.rules.Rule.{Rule}
 use Rattle.slt_grammar.proofs.Keeping.{shifted-before, shifted-behind}
 use Rattle.slt_grammar.proofs.KeyedLemmas.{body_at-rules_of, length-rules_of}
 use Rattle.slt_grammar.proofs.KeyedRemovals.{rules-dropped}
+use Rattle.slt_grammar.proofs.RankBounds.{rank-dropped, rank-same}
 use Rattle.slt_grammar.proofs.Removals.{calls-past, calls-removed, get-left, length-left}
 use Rattle.rule_pruning.specs.Calls.{AreCallsOf, StandsAsCallOf}
 use Rattle.rule_pruning.proofs.InlineCalls.{as-call}
@@ -28,6 +31,7 @@ use Rattle.rule_pruning.proofs.Inlined.{callee-before}
 -- all n calls of a rule were inlined
 pub record AreInlined (F G : List KeyedRule) (q n : ℕ) : Type 0 where
   pub rules : length G ≡ length F
+  pub ranks : ranks_of (rules_of G) ≡ ranks_of (rules_of F)
   pub uncalled : calls_of (rules_of G) q ≡ 0
   pub before : (r : ℕ) → r ≤ q → nodes_at G r ≡ nodes_at F r
   pub called : (t : ℕ) → t ≢ q → calls_of (rules_of G) t ≡ calls_of (rules_of F) t + n * calls_in t (body_at (rules_of F) q)
@@ -194,6 +198,7 @@ pub record IsTaken (F H : List KeyedRule) (q : ℕ) : Type 0 where
   pub save : (r : ℕ) → r < q → Saves (rules_of F) r → Saves (rules_of H) r
   pub later : (t : ℕ) (keys : List Key) → q ≤ t → t < length H → AreCallsOf F (t + 1) keys → AreCallsOf H t keys
   pub size : size (rules_of H) ≤ size (rules_of F)
+  pub ranks : greatest_rank (rules_of H) ≤ greatest_rank (rules_of F)
 
 pub taken : (F : List KeyedRule) (g : Keyed) → IsKeyed g → (q n : ℕ) → AreInlined F g.rules q n → q + 1 < length F → n ≡ calls_of (rules_of F) q → IsSwept (rules_of F) → (Saves (rules_of F) q → ⊥)
     → (H : List KeyedRule) → H ≡ rule_dropped g.rules q → size (rules_of H) + real_nodes (body_at (rules_of g.rules) q) ≡ size (rules_of g.rules) → IsTaken F H q
@@ -205,4 +210,5 @@ taken F g K q n I h many swept useless H e left =
       save = saves-taken F g K q n I h many swept;
       later = calls-of-taken F g K q n I h many swept;
       size = size-taken F g K q n I h many swept useless (subst (λ (X : List KeyedRule). size (rules_of X) + real_nodes (body_at (rules_of g.rules) q) ≡ size (rules_of g.rules)) e left);
+      ranks = omega (arith, rank-dropped g.rules q, rank-same (rules_of F) (rules_of g.rules) I.ranks);
     })

@@ -7,6 +7,7 @@ use Rattle.slt_grammar.specs.Digrams.{Saves}
 use Rattle.slt_grammar.specs.Grammars.{IsSwept, size, value}
 use Rattle.slt_grammar.specs.Keyed.{KeyedRule, rules_of}
 use Rattle.slt_grammar.specs.KeyedEdits.{rule_dropped, unshifted_keyed}
+use Rattle.slt_grammar.specs.Ranks.{greatest_rank}
 use Rattle.slt_grammar.proofs.KeyedLemmas.{length-rules_of}
 use Rattle.slt_grammar.proofs.Removals.{length-left}
 use Rattle.rule_pruning.specs.Calls.{AreCallsOf}
@@ -23,6 +24,7 @@ pub record IsPruning (F : List KeyedRule) (lists : List (List Key)) (G : List Ke
   pub value : value (rules_of G) ≡ value (rules_of F)
   pub size : size (rules_of G) ≤ size (rules_of F)
   pub fewer : length G ≤ length F
+  pub ranks : greatest_rank (rules_of G) ≤ greatest_rank (rules_of F)
 
 same-calls : (G : List KeyedRule) (lists : List (List Key)) (q r t u : ℕ) → q ≡ r → t ≡ u → AreCallsOf G q (get_or lists t []) → AreCallsOf G r (get_or lists u [])
 same-calls G lists q r t u e f A = subst (λ (x : ℕ). AreCallsOf G x (get_or lists u [])) e (subst (λ (x : ℕ). AreCallsOf G q (get_or lists x [])) f A)
@@ -37,6 +39,7 @@ pruning-begins F lists many some swept calls = record {
   value = refl;
   size = omega arith;
   fewer = omega arith;
+  ranks = omega arith;
 }
 
 module _ (F : List KeyedRule) (lists : List (List Key)) (G : List KeyedRule) (rule turn : ℕ) (P : IsPruning F lists G rule turn) (more : turn + 1 < length lists) where
@@ -60,6 +63,7 @@ module _ (F : List KeyedRule) (lists : List (List Key)) (G : List KeyedRule) (ru
     value = P.value;
     size = P.size;
     fewer = P.fewer;
+    ranks = P.ranks;
   }
 
   -- another goes
@@ -75,6 +79,7 @@ module _ (F : List KeyedRule) (lists : List (List Key)) (G : List KeyedRule) (ru
     value = v ∙ P.value;
     size = omega (arith, T.size, P.size);
     fewer = omega (arith, T.rules, P.fewer);
+    ranks = omega (arith, T.ranks, P.ranks);
   }
 
 pub pruning-ends : (F : List KeyedRule) (lists : List (List Key)) (G : List KeyedRule) (rule turn : ℕ) → IsPruning F lists G rule turn → length lists ≤ turn + 1 → AllSave (rules_of G)

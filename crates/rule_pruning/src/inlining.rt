@@ -2,6 +2,7 @@
 ghost use Rattle.std.specs.Prelude.{◌≡◌, ◌≢◌, ◌+◌, ◌*◌, ◌<◌, ◌≤◌, ℕ, length, slice_get, Some};
 ghost use Rattle.rule_arena.specs.Terms.{Node};
 ghost use Rattle.rule_arena.specs.declared.key.Key.{Key};
+ghost use Rattle.slt_grammar.specs.Algebras.{ranks_of};
 ghost use Rattle.slt_grammar.specs.Bodies.{calls_in, real_nodes};
 ghost use Rattle.slt_grammar.specs.Grammars.{body_at, calls_of, size, value_at};
 ghost use Rattle.slt_grammar.specs.Keyed.{key_at, nodes_at, rules_of};
@@ -26,6 +27,7 @@ pub(crate) fn inline_calls(grammar: &mut Grammar, index: &mut Index, rule: usize
     requires links { length calls.now * length (nodes_at grammar.old.rules rule) ≤ index.old.spare_links }
     requires cells { grammar.old.limit ≤ length index.old.cells }
     ensures rules { length grammar.new.rules ≡ length grammar.old.rules }
+    ensures ranks { ranks_of (rules_of grammar.new.rules) ≡ ranks_of (rules_of grammar.old.rules) }
     ensures uncalled { calls_of (rules_of grammar.new.rules) rule ≡ 0 }
     ensures before { (r : ℕ) → r ≤ rule → nodes_at grammar.new.rules r ≡ nodes_at grammar.old.rules r }
     ensures called { (q : ℕ) → q ≢ rule → calls_of (rules_of grammar.new.rules) q

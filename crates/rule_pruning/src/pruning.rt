@@ -6,6 +6,7 @@ ghost use Rattle.slt_grammar.specs.Digrams.{Saves};
 ghost use Rattle.slt_grammar.specs.Grammars.{body_at, calls_of, size, value, IsSwept};
 ghost use Rattle.slt_grammar.specs.Keyed.{nodes_at, rules_of};
 ghost use Rattle.slt_grammar.specs.KeyedEdits.{rule_dropped};
+ghost use Rattle.slt_grammar.specs.Ranks.{greatest_rank};
 ghost use Rattle.digram_index.specs.Linked.{IsIndexOf};
 ghost use Rattle.rule_pruning.specs.Calls.{AreCallsOf};
 ghost use Rattle.rule_pruning.specs.Saving.{AllSave};
@@ -23,7 +24,8 @@ use std::sync::ledger::Blank;
 /// any other comes in the place of its calls; callees go first, since each makes the bodies of its callers larger. The nodes of rules
 /// that stay keep their keys, but for the calls that give way.
 ///
-/// It fails where memory is refused. Some rules may be gone then; the value is the same, and the index is the grammar's.
+/// It fails where memory is refused. Some rules may be gone then; the value is the same, and the index is the grammar's. Neither then nor
+/// else is the greatest rank of a rule greater than before.
 pub fn prune(alloc: Global, grammar: &mut Grammar, index: &mut Index) -> Result<(), AllocError>
     requires { IsIndexOf grammar.old index.old }
     ensures swept { OnOk result (IsSwept (rules_of grammar.new.rules)) }
@@ -31,6 +33,7 @@ pub fn prune(alloc: Global, grammar: &mut Grammar, index: &mut Index) -> Result<
     ensures value { value (rules_of grammar.new.rules) ≡ value (rules_of grammar.old.rules) }
     ensures size { size (rules_of grammar.new.rules) ≤ size (rules_of grammar.old.rules) }
     ensures rules { length grammar.new.rules ≤ length grammar.old.rules }
+    ensures ranks { greatest_rank (rules_of grammar.new.rules) ≤ greatest_rank (rules_of grammar.old.rules) }
     ensures index { IsIndexOf grammar.new index.new }
     ensures stays { IsSwept (rules_of grammar.old.rules) → IsSwept (rules_of grammar.new.rules) }
 {
@@ -48,6 +51,7 @@ fn sweep(grammar: &mut Grammar, index: &mut Index)
     ensures value { value (rules_of grammar.new.rules) ≡ value (rules_of grammar.old.rules) }
     ensures size { size (rules_of grammar.new.rules) ≤ size (rules_of grammar.old.rules) }
     ensures rules { length grammar.new.rules ≤ length grammar.old.rules }
+    ensures ranks { greatest_rank (rules_of grammar.new.rules) ≤ greatest_rank (rules_of grammar.old.rules) }
     ensures index { IsIndexOf grammar.new index.new }
 {
     // A rule calls earlier ones alone: once it is looked at, no later rule loses a call any more.
@@ -86,6 +90,7 @@ fn prune_swept(alloc: Global, grammar: &mut Grammar, index: &mut Index) -> Resul
     ensures value { value (rules_of grammar.new.rules) ≡ value (rules_of grammar.old.rules) }
     ensures size { size (rules_of grammar.new.rules) ≤ size (rules_of grammar.old.rules) }
     ensures rules { length grammar.new.rules ≤ length grammar.old.rules }
+    ensures ranks { greatest_rank (rules_of grammar.new.rules) ≤ greatest_rank (rules_of grammar.old.rules) }
     ensures index { IsIndexOf grammar.new index.new }
 {
     if all_save(grammar) {
@@ -124,6 +129,7 @@ fn take_away(
     ensures value { value (rules_of grammar.new.rules) ≡ value (rules_of grammar.old.rules) }
     ensures size { size (rules_of grammar.new.rules) ≤ size (rules_of grammar.old.rules) }
     ensures fewer { length grammar.new.rules ≤ length grammar.old.rules }
+    ensures ranks { greatest_rank (rules_of grammar.new.rules) ≤ greatest_rank (rules_of grammar.old.rules) }
     ensures index { IsIndexOf grammar.new index.new }
 {
     let keys = calls.as_slice();

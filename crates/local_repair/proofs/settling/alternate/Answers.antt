@@ -1,3 +1,4 @@
+use Rattle.std.proofs.Common.{arith}
 use Rattle.local_repair.proofs.Settlings.{no-larger-then, no-larger-replaced, no-larger-both, no-larger-pruned}
 use Rattle.local_repair.proofs.settling.alternate.Goals as goal
 
@@ -8,6 +9,7 @@ loop-digram-init c =
       swept = P.swept;
       save = P.save;
       kept = no-larger-pruned _ _ P.value P.stays P.size P.rules;
+      ranks = omega (arith, P.ranks);
       index = P.index;
     }
 
@@ -30,6 +32,7 @@ loop-digram-preserved c =
       swept = P.swept;
       save = P.save;
       kept = no-larger-then _ _ _ (no-larger-then _ _ _ (no-larger-then _ _ _ c.loop-digram.invariant.kept (no-larger-replaced _ _ R.value R.swept _ (R.three c.in-Some.ensures.three) R.rules R.size)) A.kept) (no-larger-pruned _ _ P.value P.stays P.size P.rules);
+      ranks = omega (arith, c.loop-digram.invariant.ranks, c.in-Some.ensures.within, R.ranks, A.ranks, P.ranks);
       index = P.index;
     }
 
@@ -39,3 +42,14 @@ returns-in_err-prune-2-clause-kept c =
     let A = c.in_ok-replace_all.ensures in
     let P = c.in_err-prune-2.ensures in
     no-larger-then _ _ _ (no-larger-then _ _ _ (no-larger-then _ _ _ c.loop-digram.invariant.kept (no-larger-replaced _ _ R.value R.swept _ (R.three c.in-Some.ensures.three) R.rules R.size)) A.kept) (no-larger-pruned _ _ P.value P.stays P.size P.rules)
+
+pub returns-in_err-replace-clause-ranks : goal.returns-in_err-replace-clause-ranks
+returns-in_err-replace-clause-ranks c = omega (arith, c.loop-digram.invariant.ranks, c.in-Some.ensures.within, c.in_err-replace.ensures.ranks)
+
+pub returns-in_err-replace_all-clause-ranks : goal.returns-in_err-replace_all-clause-ranks
+returns-in_err-replace_all-clause-ranks c =
+    omega (arith, c.loop-digram.invariant.ranks, c.in-Some.ensures.within, c.in_ok-replace.ensures.ranks, c.in_err-replace_all.ensures.ranks)
+
+pub returns-in_err-prune-2-clause-ranks : goal.returns-in_err-prune-2-clause-ranks
+returns-in_err-prune-2-clause-ranks c =
+    omega (arith, c.loop-digram.invariant.ranks, c.in-Some.ensures.within, c.in_ok-replace.ensures.ranks, c.in_ok-replace_all.ensures.ranks, c.in_err-prune-2.ensures.ranks)

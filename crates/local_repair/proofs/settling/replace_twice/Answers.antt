@@ -7,6 +7,7 @@ loop-done-preserved c =
     let R = c.in_ok-replace.ensures in
     record {
       kept = larger-then _ _ _ _ c.loop-done.invariant.kept (larger-replaced _ _ R.value R.swept _ R.count R.rules R.size);
+      ranks = omega (arith, c.loop-done.invariant.ranks, c.in-Some.ensures.within, R.ranks);
       index = R.index;
     }
 
@@ -14,3 +15,6 @@ pub returns-in_err-replace-clause-kept : goal.returns-in_err-replace-clause-kept
 returns-in_err-replace-clause-kept c =
     let R = c.in_err-replace.ensures in
     larger-within _ _ _ _ (omega arith) (larger-then _ _ _ _ c.loop-done.invariant.kept (larger-refused _ _ R.value R.swept R.refused R.refused_rules))
+
+pub returns-in_err-replace-clause-ranks : goal.returns-in_err-replace-clause-ranks
+returns-in_err-replace-clause-ranks c = omega (arith, c.loop-done.invariant.ranks, c.in-Some.ensures.within, c.in_err-replace.ensures.ranks)

@@ -28,7 +28,7 @@ loop-turn-preserved c =
       | then-saves w ↦ rw (w.grammar-is, w.index-is, w.rule-is) (record { pruning = pruning-stays F lists G rule turn I.pruning more w.if-saves.ensures; index = I.index })
       | else-saves+in_ok-take_away w ↦
           let E = w.in_ok-take_away.ensures in
-          let T : IsTaken G w.take_away.new.grammar.rules rule = record { rules = E.rules; swept = E.swept; save = E.save; later = E.later; size = E.size } in
+          let T : IsTaken G w.take_away.new.grammar.rules rule = record { rules = E.rules; swept = E.swept; save = E.save; later = E.later; size = E.size; ranks = E.ranks } in
           rw (w.grammar-is, w.index-is, w.rule-is) (record { pruning = pruning-takes F lists G rule turn I.pruning more w.take_away.new.grammar.rules T E.value; index = E.index })
     ]
 

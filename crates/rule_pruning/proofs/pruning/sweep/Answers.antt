@@ -1,8 +1,10 @@
 use Rattle.std.proofs.Common.{◌≡◌, ◌∙◌, ◌+◌, ◌-◌, ◌<◌, ℕ, List, length, ap, sym, refl, subst, arith}
 use Rattle.slt_grammar.specs.Grammars.{calls_of}
 use Rattle.slt_grammar.specs.Keyed.{KeyedRule, rules_of}
+use Rattle.slt_grammar.specs.Ranks.{greatest_rank}
 use Rattle.slt_grammar.proofs.KeyedLemmas.{length-rules_of}
 use Rattle.slt_grammar.proofs.KeyedRemovals.{called-on}
+use Rattle.slt_grammar.proofs.RankBounds.{rank-dropped}
 use Rattle.rule_pruning.proofs.Turns.{one-fewer}
 use Rattle.rule_pruning.proofs.pruning.sweep.Goals as goal
 
@@ -16,6 +18,7 @@ loop-rule-init c =
       value = refl;
       size = omega arith;
       fewer = omega arith;
+      ranks = omega arith;
       some = omega (arith, s, v, n);
       called = λ q h k. absurd (omega (arith, v, n, s, h, k));
     }
@@ -37,6 +40,7 @@ loop-rule-preserved-then-calls-eq0 c =
       value = E.value ∙ I.value;
       size = omega (arith, I.size, E.size);
       fewer = omega (arith, I.fewer, one-fewer c.loop-rule.grammar.rules p h, ap length e);
+      ranks = omega (arith, I.ranks, rank-dropped c.loop-rule.grammar.rules p, ap (λ (G : List KeyedRule). greatest_rank (rules_of G)) e);
       some = omega (arith, w.0, ap length e, h);
       called = λ q k l. subst (λ (G : List KeyedRule). 0 < calls_of (rules_of G) q) (sym e) (w.1 q k (omega (arith, l, ap length e)));
     }

@@ -6,7 +6,7 @@ is_taken : (c : goal.After-drop_uncalled) → IsTaken c.args.grammar.now.rules c
 is_taken c =
     let E = rw c.in_ok-make_room.ensures.rules at c.inline_calls.ensures in
     taken c.args.grammar.now.rules c.inline_calls.new.grammar c.limit-inlined.ensures.keyed c.args.rule (length c.as_slice-keys.result.now)
-    (record { rules = E.rules; uncalled = E.uncalled; before = E.before; called = E.called; kept = E.kept; values = E.values; size = E.size }) c.requires.there (ap length c.as_slice-keys.ensures ∙ c.requires.calls.many) c.requires.swept
+    (record { rules = E.rules; ranks = E.ranks; uncalled = E.uncalled; before = E.before; called = E.called; kept = E.kept; values = E.values; size = E.size }) c.requires.there (ap length c.as_slice-keys.ensures ∙ c.requires.calls.many) c.requires.swept
     c.requires.useless c.drop_uncalled.new.grammar.rules c.drop_uncalled.ensures.rules c.drop_uncalled.ensures.size
 
 pub returns-clause-rules : goal.returns-clause-rules
@@ -26,3 +26,6 @@ returns-clause-size c = (is_taken c).size
 
 pub returns-clause-fewer : goal.returns-clause-fewer
 returns-clause-fewer c = let r = (is_taken c).rules in omega (arith, r)
+
+pub returns-clause-ranks : goal.returns-clause-ranks
+returns-clause-ranks c = (is_taken c).ranks

@@ -57,6 +57,10 @@ module _ {S : Type 0} (A : Algebra S) (G : List Rule) where
         bound = omega (arith, sum-insert (λ (p : RuleStates S). length (body_at G p.0)) ks q ls);
       }
 
+  -- the same pairs are read with fewer steps
+  pub reads-fewer : (pairs : List (RuleStates S)) (n m : ℕ) → ReadsOnce A G pairs n → m ≤ n → ReadsOnce A G pairs m
+  reads-fewer pairs n m reads le = record { met = reads.met; distinct = reads.distinct; bound = (let b = reads.bound in omega arith) }
+
   -- the first pair
   pub reads-start : (n : ℕ) → IsGrammar G → n ≤ 2 * length (body_at G (length G - 1)) → ReadsOnce A G ((length G - 1, []) ∷ []) n
   reads-start n g le =

@@ -13,9 +13,7 @@ use Rattle.slt_grammar.proofs.Linear.{value_at-linear}
 use Rattle.rule_runs.specs.declared.descent.Descent.{Descent}
 use Rattle.rule_runs.specs.declared.descent.Mark.{Mark}
 use Rattle.rule_runs.specs.declared.listing.Part.{Part}
-use Rattle.rule_runs.specs.declared.spots.Handed.{Handed}
 use Rattle.rule_runs.specs.declared.spots.Spot.{Spot}
-use Rattle.rule_runs.specs.declared.told.Here.{Here}
 use Rattle.rule_runs.specs.Cuts.{Stretch, nothing, beside, cut}
 use Rattle.rule_runs.specs.Descents.{AreOpen, HasOutcome, Standing, Waiting, Asks, AreWaiting, triple_at, fall_cost}
 use Rattle.rule_runs.specs.Frames.{base}
@@ -34,6 +32,10 @@ use Rattle.rule_runs.proofs.Tellings.{told-only}
 -- nothing is read
 pub falls-none : {S D : Type 0} (A : Algebra S) (W : Downward S D) (G : List Rule) (n : ℕ) → n ≤ 0 → FallsOnce A W G [] n
 falls-none {S} {D} A W G n le = record { met = All-nil (λ (t : RuleStates S × D). Falls S D A W G t.0.0 t.0.1 t.1); distinct = λ i j d l m. absurd (omega arith); bound = omega arith }
+
+-- the same triples are read with fewer steps
+pub falls-fewer : {S D : Type 0} (A : Algebra S) (W : Downward S D) (G : List Rule) (triples : List (RuleStates S × D)) (n m : ℕ) → FallsOnce A W G triples n → m ≤ n → FallsOnce A W G triples m
+falls-fewer A W G triples n m reads le = record { met = reads.met; distinct = reads.distinct; bound = (let b = reads.bound in omega arith) }
 
 module _ {S D : Type 0} (A : Algebra S) (W : Downward S D) (G : List Rule) (ks : List (RuleStates S)) where
   abbrev pub known_triples : List (Spot D × Outcome D) → List (RuleStates S × D)
@@ -97,19 +99,19 @@ module _ {S D : Type 0} (A : Algebra S) (W : Downward S D) (G : List Rule) (ks :
   triples-return known spot outcome gs = rw (map-append (λ (e : Spot D × Outcome D). triple_at ks e.0) known ((spot, outcome) ∷ [])) (append_assoc (known_triples known) (triple_at ks spot ∷ []) (open_triples gs))
 
   -- a body goes on behind a call that has its outcome
-  pub stands-again : IsGrammar G → (lists : Listed) (f : Descent D) (spot : Spot D) (outcome : Outcome D) (before marks : List (Mark D)) (here : Here) (handed : Vec (Handed D) Global) → handed.items ≡ f.handed.items → IsPair G (pair_at ks f.spot.pair) → Waiting A W G ks lists f before spot → HasOutcome A W G ks lists spot outcome
-      → ((s : Stretch) (ms : List (Open D)) (ss : List Stretch) → IsTelling lists f.here s → AreOpen lists before ms → AreTold lists (tolds outcome) ss → IsTelling lists here (beside s (get_or ss 0 nothing)) × AreOpen lists marks (woven_marks (downs_handed outcome.handed) (drop 1 ss) ++ ms))
-      → Standing A W G ks lists (record { spot = f.spot; left = f.left; here = here; handed = handed }) marks
-  stands-again g lists f spot outcome before marks here handed same pair h ends entered =
+  pub stands-again : IsGrammar G → (lists : Listed) (f f' : Descent D) (spot : Spot D) (outcome : Outcome D) (before marks : List (Mark D)) → f'.spot ≡ f.spot → f'.left ≡ f.left → f'.handed.items ≡ f.handed.items → IsPair G (pair_at ks f.spot.pair) → Waiting A W G ks lists f before spot → HasOutcome A W G ks lists spot outcome
+      → ((s : Stretch) (ms : List (Open D)) (ss : List Stretch) → IsTelling lists f.here s → AreOpen lists before ms → AreTold lists (tolds outcome) ss → IsTelling lists f'.here (beside s (get_or ss 0 nothing)) × AreOpen lists marks (woven_marks (downs_handed outcome.handed) (drop 1 ss) ++ ms))
+      → Standing A W G ks lists f' marks
+  stands-again g lists f f' spot outcome before marks same_spot same_left same_handed pair h ends entered =
       let w = h.walks in
       let m = open-term lists spot.down before w.ms w.marked in
       let k : RuleStates S = pair_at ks spot.pair in
       let e = entered w.s m.0 (cut A W (value_at G k.0) k.1 spot.down) w.telling m.2 ends.finished in
       record {
         notes = h.notes;
-        noted = h.noted;
-        within = h.within;
-        walks = rw same (walk-call A W G ks lists (pair_at ks f.spot.pair) f.spot.down f.handed.items g pair spot.pair (reverse (take f.left h.notes)) before marks f.here here spot.down outcome w ends e.0 e.1);
+        noted = rw same_spot h.noted;
+        within = rw same_left h.within;
+        walks = rw (same_spot, same_left, same_handed) (walk-call A W G ks lists (pair_at ks f.spot.pair) f.spot.down f.handed.items g pair spot.pair (reverse (take f.left h.notes)) before marks f.here f'.here spot.down outcome w ends e.0 e.1);
       }
 
   pub fall-cost-begin : (f f' c : Descent D) (gs : List (Descent D)) (q : ℕ) → q < length G → q < (pair_at ks f.spot.pair).0 → f'.spot ≡ f.spot → f'.left < f.left → (pair_at ks c.spot.pair).0 ≡ q → c.left ≡ length (body_at G q)

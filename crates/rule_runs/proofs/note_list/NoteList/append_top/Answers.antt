@@ -1,4 +1,4 @@
-use Rattle.std.proofs.Common.{◌∙◌, ◌≡◌, ◌≤◌, [], ◌∷◌, ◌++◌, ap, sym, arith, append_assoc, append-nil, drop, length, reverse, refl, take}
+use Rattle.std.proofs.Common.{◌∙◌, ◌≡◌, [], ◌∷◌, ◌++◌, ap, sym, arith, append_assoc, append-nil, drop, length, reverse, refl, take}
 use Rattle.std.proofs.lemmas.List.{length-append}
 use Rattle.std.proofs.Math.Seq.{take-append_seam, drop-append_seam}
 use Rattle.rule_runs.proofs.Layering.{failed}

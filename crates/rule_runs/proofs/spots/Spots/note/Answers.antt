@@ -1,4 +1,4 @@
-use Rattle.std.proofs.Common.{◌≡◌, ◌≢◌, ◌∙◌, ap, arith, All}
+use Rattle.std.proofs.Common.{◌≢◌, ◌∙◌, ap, arith, All}
 use Rattle.std.proofs.lemmas.Result.{on_ok_weaker}
 use Rattle.rule_runs.specs.declared.spots.Passed.{Passed}
 use Rattle.rule_runs.specs.Outcomes.{outcomes_of}

@@ -1,4 +1,4 @@
-use Rattle.std.proofs.Common.{◌≡◌, ◌≤◌, ◌+◌, ◌-◌, ◌++◌, ◌∷◌, IsTrue, reverse, sum_by, All}
+use Rattle.std.proofs.Common.{◌≡◌, ◌≤◌, ◌+◌, ◌-◌, ◌*◌, ◌++◌, ◌∷◌, IsTrue, length, reverse, sum_by, All}
 use Rattle.slt_grammar.specs.Grammars.{body_at}
 use Rattle.slt_grammar.specs.Keyed.{rules_of}
 use Rattle.rule_runs.specs.Reached.{ReadsOnce}
@@ -7,7 +7,7 @@ use Rattle.rule_runs.specs.Risen.{IsPair, state_at, keys}
 use Rattle.rule_runs.specs.Frames.{AreFrames, AreStacked, keys_of, cost, AreNoting, IsClosing}
 use Rattle.rule_runs.specs.Notes.{AreNotesFrom}
 use Rattle.rule_runs.proofs.Keeping.{Keeps}
-use Rattle.rule_runs.proofs.rising.rise.Given as goal
+use Rattle.rule_runs.proofs.rising.run_on.Given as goal
 
 abbrev pub decreases-bodies : goal.decreases-bodies
 decreases-bodies g l = cost (rules_of l.grammar.rules) l.frame + sum_by (cost (rules_of l.grammar.rules)) (reverse l.frames.items)
@@ -21,7 +21,7 @@ invariant-bodies g l =
       pairs : All (IsPair G) (keys l.known);
       frames : AreFrames A G l.frame (reverse l.frames.items);
       stacked : AreStacked A G l.frame (reverse l.frames.items) (reverse l.stack.items) (reverse l.labels.items);
-      reads : ReadsOnce A G (keys l.known ++ (key_of l.frame.pair ∷ keys_of (reverse l.frames.items))) (l.steps - l.fn.steps);
+      reads : ReadsOnce A G (keys l.known ++ (key_of l.frame.pair ∷ keys_of (reverse l.frames.items))) (2 * length (body_at G l.fn.frame.pair.rule) + (l.steps - l.fn.steps));
       closing : IsClosing A G l.known l.frame (reverse l.frames.items);
       counted : l.fn.steps ≤ l.steps;
       kept : Keeps A G l.noted (keys l.known) l.bodies;

@@ -27,3 +27,4 @@ pub mod LeafSteps
 pub mod PairSteps
 pub mod PairLemmas
 pub mod PairShapes
+pub mod RankLemmas

@@ -1,11 +1,12 @@
 // A builder that folds what it gets.
-ghost use Rattle.std.specs.Prelude.{◌≡◌, ◌≤◌, ◌*◌, [], List, length, true, IfOk};
+ghost use Rattle.std.specs.Prelude.{◌≡◌, ◌≤◌, ◌*◌, [], List, length, max, true, IfOk};
 ghost use Rattle.plain_tree.specs.Tree.{Tree, none, more};
 ghost use Rattle.plain_tree.specs.Lawful.{IsDocument};
 ghost use Rattle.xml_nodes.specs.Machine.{events};
 ghost use Rattle.slt_grammar.specs.Coding.{Codes};
 ghost use Rattle.slt_grammar.specs.Grammars.{IsGrammar, IsSwept, size};
 ghost use Rattle.slt_grammar.specs.Keyed.{rules_of};
+ghost use Rattle.slt_grammar.specs.Ranks.{greatest_rank};
 ghost use Rattle.slt_grammar.specs.Standing.{StandsFor};
 ghost use Rattle.slt_grammar.specs.Terms.{Term};
 ghost use Rattle.fcns_encoding.specs.Interning.{Interns, pairs_of_tree};
@@ -78,6 +79,7 @@ impl Unchecked {
         ensures names { IfOk result (λ f. f.names ≡ self.names) }
         ensures grammar { IfOk result (λ f. IsGrammar f.rules) }
         ensures swept { IfOk result (λ f. IsSwept f.rules) }
+        ensures ranks { IfOk result (λ f. greatest_rank f.rules ≤ max 1 (greatest_rank self.rules)) }
     {
         let leaves = share_leaves(alloc, self.rules, self.names.len(), LEAVES)?;
         let rules = share_pairs(alloc, leaves, self.names.len(), PAIRS)?;
@@ -129,8 +131,9 @@ impl Folder {
         }
     }
 
-    /// The grammar of the document that has these calls, its names and its texts; each subterm that is used twice or more has a
-    /// rule. It is refused only for want of memory.
+    /// The grammar of the document that has these calls, its names and its texts. It has at most three times as many nodes as the code has
+    /// different subterms. That just the subterms that are used twice or more have a rule is promised by no clause. It is refused only for
+    /// want of memory.
     pub fn finish(self) -> Result<Folded, AllocError>
         requires sound { self.sound ≡ true }
         requires depth { self.depth ≡ 0 }
@@ -145,10 +148,10 @@ impl Folder {
         self.written(Sharing::of_uses(2))?.checked(alloc)
     }
 
-    /// The same, but a subterm has a rule only where `sharing` says so, and else is written out where it is used; a symbol that stands
-    /// over a bottom three times or more has a rule together with it, and so has a symbol with a call that is frequent in the start rule.
-    /// With fewer rules more of the document is written out: settling has more to do, and finds digrams that reach into what would be
-    /// rules. It is refused only for want of memory.
+    /// The same document with other rules, whose size is promised by no clause, and which they are neither: a subterm has a rule only
+    /// where `sharing` says so, and else is written out where it is used; a symbol that stands over a bottom three times or more has a rule
+    /// together with it, and so has a symbol with a call that is frequent in the start rule. With fewer rules more of the document is written
+    /// out: settling has more to do, and finds digrams that reach into what would be rules. It is refused only for want of memory.
     pub fn finish_with(self, sharing: Sharing) -> Result<Folded, AllocError>
         requires sound { self.sound ≡ true }
         requires depth { self.depth ≡ 0 }
@@ -156,6 +159,7 @@ impl Folder {
         ensures names { IfOk result (λ f. (t : Tree) → IsDocument t → self.log ≡ events t [] → Interns [] (pairs_of_tree t) f.names) }
         ensures grammar { IfOk result (λ f. IsGrammar (rules_of f.grammar.rules)) }
         ensures swept { IfOk result (λ f. IsSwept (rules_of f.grammar.rules)) }
+        ensures ranks { IfOk result (λ f. greatest_rank (rules_of f.grammar.rules) ≤ 1) }
     {
         let alloc = self.alloc;
         self.written(sharing)?.with_frequent(alloc)?.checked(alloc)
@@ -169,6 +173,7 @@ impl Folder {
         ensures names { IfOk result (λ f. (t : Tree) → IsDocument t → self.log ≡ events t [] → Interns [] (pairs_of_tree t) f.names) }
         ensures grammar { IfOk result (λ f. IsGrammar f.rules) }
         ensures swept { IfOk result (λ f. IsSwept f.rules) }
+        ensures ranks { IfOk result (λ f. greatest_rank f.rules ≡ 0) }
         ensures size { SharesTwice sharing → IfOk result (λ f. (t : Tree) (term : Term) (terms : List Term) → IsDocument t → self.log ≡ events t []
             → Codes f.names (more t none) term → AreSubterms terms term → size f.rules ≤ 3 * length terms) }
     {

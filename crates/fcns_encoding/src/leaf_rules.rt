@@ -1,8 +1,9 @@
 // Rules for leaves: the nodes without children are of few kinds and names, and there are many of each.
-ghost use Rattle.std.specs.Prelude.{◌≡◌, ◌+◌, ◌*◌, ◌^◌, ◌<◌, ◌≤◌, ◌∷◌, ◌++◌, ◌⊎◌, ℕ, List, length, drop, get_or, map, slice_get, Some, None, IfOk, IfSome, IfNone, OnOk};
+ghost use Rattle.std.specs.Prelude.{◌≡◌, ◌+◌, ◌*◌, ◌^◌, ◌<◌, ◌≤◌, ◌∷◌, ◌++◌, ◌⊎◌, ℕ, List, length, drop, get_or, map, max, slice_get, Some, None, IfOk, IfSome, IfNone, OnOk};
 ghost use Rattle.rule_arena.specs.declared.label.Label.TheVariants.{Bottom};
 ghost use Rattle.slt_grammar.specs.Bodies.{CallsBelow};
 ghost use Rattle.slt_grammar.specs.Grammars.{IsGrammar, IsSwept, body_at, value};
+ghost use Rattle.slt_grammar.specs.Ranks.{greatest_rank};
 ghost use Rattle.fcns_encoding.specs.Leaves.{joined, joined_rule, leaf_rule, HasLeaf, AreLeafRules, AreSeen};
 
 use slt_grammar::{Body, Label, Rule, RuleList};
@@ -23,6 +24,7 @@ pub(crate) fn share_leaves(
     ensures value { IfOk result (λ G. value G ≡ value rules) }
     ensures grammar { IfOk result (λ G. IsGrammar G) }
     ensures swept { IfOk result (λ G. IsSwept G) }
+    ensures ranks { IfOk result (λ G. greatest_rank G ≤ max 1 (greatest_rank rules)) }
 {
     let rules = rules.as_slice();
     let mut counts = vec![in alloc; 0; symbols]?;
@@ -54,6 +56,7 @@ fn share_counted(
     ensures value { IfOk result (λ G. value G ≡ value rules.now) }
     ensures grammar { IfOk result (λ G. IsGrammar G) }
     ensures swept { IfOk result (λ G. IsSwept G) }
+    ensures ranks { IfOk result (λ G. greatest_rank G ≤ max 1 (greatest_rank rules.now)) }
 {
     // The call tells that calls are small.
     let _few = rule_count(rules);

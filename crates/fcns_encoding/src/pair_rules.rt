@@ -1,7 +1,8 @@
 // Rules for pairs of a symbol and a call that is its first child, where the start rule has many of them.
-ghost use Rattle.std.specs.Prelude.{◌≡◌, ◌+◌, ◌-◌, ◌*◌, ◌^◌, ◌<◌, ◌≤◌, ◌↔◌, ◌∷◌, ◌++◌, ◌⊎◌, ℕ, length, drop, get_or, map, slice_get, Some, None, IsTrue, IfOk, IfSome, IfNone};
+ghost use Rattle.std.specs.Prelude.{◌≡◌, ◌+◌, ◌-◌, ◌*◌, ◌^◌, ◌<◌, ◌≤◌, ◌↔◌, ◌∷◌, ◌++◌, ◌⊎◌, ℕ, length, drop, get_or, map, max, slice_get, Some, None, IsTrue, IfOk, IfSome, IfNone};
 ghost use Rattle.indexmap.specs.IndexMap.{keys};
 ghost use Rattle.slt_grammar.specs.Grammars.{IsGrammar, IsSwept, rank_at, value};
+ghost use Rattle.slt_grammar.specs.Ranks.{greatest_rank};
 ghost use Rattle.fcns_encoding.specs.declared.pair_rules.Pair.{Pair};
 ghost use Rattle.fcns_encoding.specs.Pairs.{pair_rule, place_of, paired, with_pairs, StandsAt, AreFound, AreApart};
 
@@ -46,6 +47,7 @@ pub(crate) fn share_pairs(
     ensures value { IfOk result (λ G. value G ≡ value rules) }
     ensures grammar { IfOk result (λ G. IsGrammar G) }
     ensures swept { IfOk result (λ G. IsSwept G) }
+    ensures ranks { IfOk result (λ G. greatest_rank G ≤ max 1 (greatest_rank rules)) }
 {
     let Some((start, before)) = rules.as_slice().split_last() else {
         return Ok(rules);

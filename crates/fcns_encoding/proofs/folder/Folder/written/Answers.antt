@@ -1,7 +1,10 @@
 use Rattle.std.proofs.Common.{ap, sym, subst, ◌∙◌}
+use Rattle.slt_grammar.specs.Ranks.{greatest_rank}
 use Rattle.slt_grammar.specs.Standing.{StandsFor}
+use Rattle.fcns_encoding.specs.Marks.{marks_of}
 use Rattle.fcns_encoding.proofs.CellLemmas.{number_within}
 use Rattle.fcns_encoding.proofs.FinishLemmas.{finished}
+use Rattle.fcns_encoding.proofs.RankLemmas.{ranks-cells}
 use Rattle.fcns_encoding.proofs.StandLemmas.{folded-names, folded-stands, folded-small}
 use Rattle.fcns_encoding.proofs.folder.Folder.written.Goals as goal
 
@@ -23,5 +26,6 @@ returns c =
       names = λ t doc e. folded-names _ _ _ _ w.folds t doc (log ∙ e);
       grammar = w.grammar;
       swept = w.swept;
+      ranks = ap greatest_rank c.in_ok-rules.ensures.rules ∙ ranks-cells (marks_of c.args.sharing c.node.new.self) c.node.new.self;
       size = λ few t term terms doc e code are. folded-small _ _ _ _ w.folds t doc (log ∙ e) term terms code are (w.small few);
     }

@@ -20,6 +20,7 @@ use Rattle.selecting_automaton.specs.Sizes.{parts_inside, steps_outside}
 use Rattle.selecting_automaton.proofs.QuerySizes.{inside-meant, outside-meant}
 use Rattle.tree_outside.specs.Outside.{Gets, GetsFront}
 use Rattle.tree_outside.proofs.Beside.{Stays-refl}
+use Rattle.xpath_parser.specs.Laws.{SpellsOne}
 use Rattle.xpath_parser.specs.Limits.{IsLarge, inside, outside}
 use Rattle.xpath_parser.specs.Meant.{meant_paths}
 use Rattle.xpath_parser.specs.Spelled.{Spells}
@@ -28,16 +29,19 @@ use Rattle.xpath_parser.specs.Queries as queries
 use Rattle.xpath_parser.specs.declared.error.QueryError.{QueryError}
 use Rattle.xpath_parser.specs.declared.error.QueryError.TheVariants as error
 use Rattle.store_core.specs.Acts.{Act, Query, Count, query_asked}
-use Rattle.store_core.specs.Machine.{Queries, Counts, PrintsFirst}
+use Rattle.store_core.specs.Errors.{IsNoQuery, SaysOfQuery}
+use Rattle.store_core.specs.Machine.{Comes, Queries, Counts, PrintsFirst, Refuses}
 use Rattle.store_core.specs.Printed.{Gathers, hit_line, hit_lines}
 use Rattle.store_core.specs.Reads.{ReadsFew, most_reads}
 use Rattle.store_core.specs.Refusals.{Cause, IsReady}
 use Rattle.store_core.specs.Selecting.{HasSelected, Selects, SpellsNoQuery, SpellsLarge, SelectsSoMany}
-use Rattle.store_core.specs.Stopping.{query_refusal}
-use Rattle.store_core.specs.Texts.{answer_line, selected_line}
+use Rattle.store_core.specs.Texts.{answer_line, line_of, selected_line}
 use Rattle.store_core.specs.Worlds.{Parts, AreLawfulParts, State, World, Same}
+use Rattle.store_core.specs.declared.answer.Answer.{Answer}
 use Rattle.store_core.specs.declared.answer.Answer.TheVariants as ok
+use Rattle.store_core.specs.declared.answer.Refusal.{Refusal}
 use Rattle.store_core.specs.declared.answer.Refusal.TheVariants as no
+use Rattle.store_core.specs.declared.command.Settings.{Settings}
 use Rattle.store_core.proofs.HitLines.{lines-told}
 use Rattle.tree_outside.proofs.Sinks.{GetsFront-first}
 use Rattle.segment_counts.proofs.Coded.{weight-coded}
@@ -48,13 +52,27 @@ asks_ready (Query q) query parts old asked held = record { document = λ needs. 
 asks_ready (Count q) query parts old asked held = record { document = λ needs. rw held refl; file = λ name same. absurd (cc) }
 asks_ready act query parts old asked held = absurd (cc)
 
--- why no query was read is a cause to refuse the command
+-- why the text is no query is a cause to refuse the command
 pub query_refused :
-    (e : QueryError) (act : Act) (query : List ℕ) (parts : Parts) (old new : World) → (e ≡ error.Bad → SpellsNoQuery query) → (e ≡ error.Large → SpellsLarge query)
-    → query_asked act ≡ Some query → old.state ≡ Some parts → Cause (query_refusal e) act old new
-query_refused error.Bad act query parts old new bad large asked held = (query, asked, asks_ready act query parts old asked held, bad refl)
-query_refused error.Large act query parts old new bad large asked held = (query, asked, asks_ready act query parts old asked held, large refl)
-query_refused error.Memory act query parts old new bad large asked held = asks_ready act query parts old asked held
+    (refusal : Refusal) (act : Act) (query : List ℕ) (parts : Parts) (old new : World) → IsNoQuery refusal query → query_asked act ≡ Some query → old.state ≡ Some parts → Cause refusal act old new
+query_refused no.NoDocument act query parts old new why asked held = absurd why
+query_refused no.ReadFault act query parts old new why asked held = absurd why
+query_refused no.NoFile act query parts old new why asked held = absurd why
+query_refused no.WriteFault act query parts old new why asked held = absurd why
+query_refused no.LongFile act query parts old new why asked held = absurd why
+query_refused (no.BadXml at) act query parts old new why asked held = absurd why
+query_refused no.BadGrammar act query parts old new why asked held = absurd why
+query_refused no.BadQuery act query parts old new why asked held = (query, asked, asks_ready act query parts old asked held, why)
+query_refused no.LargeQuery act query parts old new why asked held = (query, asked, asks_ready act query parts old asked held, why)
+query_refused no.NoNode act query parts old new why asked held = absurd why
+query_refused no.TooMany act query parts old new why asked held = absurd why
+query_refused no.Memory act query parts old new why asked held = asks_ready act query parts old asked held
+
+-- what an error of the parser says of the text
+pub query_says : (e : QueryError) (query : List ℕ) → (e ≡ error.Bad → SpellsNoQuery query) → (e ≡ error.Large → SpellsLarge query) → SaysOfQuery e query
+query_says error.Bad query bad large = bad refl
+query_says error.Large query bad large = large refl
+query_says error.Memory query bad large = tt
 
 -- the value of rules that stand for a document has as few nodes
 pub few-nodes : (parts : Parts) → AreLawfulParts parts → nodes_in (value parts.rules) < 2 ^ 63
@@ -80,6 +98,13 @@ pub reads-spelled : (bytes : List ℕ) (ps : Paths) (qs : queries.Paths) (G : Li
 reads-spelled bytes ps qs G before now spelled same h =
     subst (λ (n : ℕ). now ≤ before + most_reads G n (outside ps)) (ap parts_inside same ∙ inside-meant bytes ps spelled)
     (subst (λ (n : ℕ). now ≤ before + most_reads G (parts_inside qs) n) (ap steps_outside same ∙ outside-meant bytes ps) h)
+
+-- where the bytes are a query, its reads are few
+pub reads-found : (bytes : List ℕ) (ps : Paths) (qs : queries.Paths) (G : List Rule) (before now : ℕ) → SpellsOne → Spells bytes ps → qs ≡ meant_paths bytes ps → now ≤ before + most_reads G (parts_inside qs) (steps_outside qs) → ReadsFew bytes G before now
+reads-found bytes ps qs G before now one spelled same h = record {
+  few = λ paths other. reads-spelled bytes paths qs G before now other (same ∙ (one bytes ps paths spelled other).0) h;
+  none = λ never. absurd (never ps spelled);
+}
 
 -- nothing changes
 pub same_world : (w : World) → Same w w
@@ -149,16 +174,16 @@ query_done query parts w hits before now count done u found g is e =
 
 -- those of some first nodes were
 pub query_stops : {E : Type 0} (query : List ℕ) (parts : Parts) (w : World) (hits : List Hit) (before now : Option (List ℕ)) (done : Result (Unit {0}) E) → IsFound query parts w hits → Gathers before now parts.names hits done []
-    → (text : List ℕ) × Gets before now text × (((text ≡ []) ⊎ ((no.Memory ≡ no.Memory) × PrintsFirst query w text)) × IsReady (Query query) w × Same w w)
+    → (text : List ℕ) × Gets before now text × Refuses (Query query) no.Memory w text w
 query_stops query parts w hits before now done found g =
     let first = first_told query parts found.tree hits g.first g.later g.got w g.whole found.selects found.lined (sym (g.lines ∙ append-nil g.got)) in
-    (g.got, g.gets, (inr (refl, first), asks_ready (Query query) query parts w refl found.held, same_world w))
+    (g.got, g.gets, record { begins = inr (refl, first); cause = asks_ready (Query query) query parts w refl found.held; same = same_world w })
 
 -- the sink failed meanwhile
-pub query_fails : (query : List ℕ) (parts : Parts) (w : World) (hits : List Hit) (before now : Option (List ℕ)) → IsFound query parts w hits → GetsFront before now (hit_lines parts.names hits) → (out : List ℕ) × GetsFront before now out × Queries query w out w
-query_fails query parts w hits before now found front =
+pub query_fails : (settings : Settings) (query : List ℕ) (parts : Parts) (w : World) (hits : List Hit) (before now : Option (List ℕ)) → IsFound query parts w hits → GetsFront before now (hit_lines parts.names hits) → (text : List ℕ) × (outcome : Result Answer Refusal) × GetsFront before now (text ++ line_of outcome) × Comes settings (Query query) w text outcome w
+query_fails settings query parts w hits before now found front =
     let line : List ℕ = answer_line (ok.Selected (length hits)) in
-    (hit_lines parts.names hits ++ line, GetsFront-first before now (hit_lines parts.names hits) line front, queries_told query parts found.tree hits (length hits) w found.selects found.lined refl)
+    (hit_lines parts.names hits, Ok (ok.Selected (length hits)), GetsFront-first before now (hit_lines parts.names hits) line front, queries_told query parts found.tree hits (length hits) w found.selects found.lined refl)
 
 -- few reads for the query and the rules that are held are few for those that a command names
 pub asks_few : (text query : List ℕ) (state : State) (parts other : Parts) (before now : ℕ) → ReadsFew text parts.rules before now → state ≡ Some parts → Some text ≡ Some query → state ≡ Some other → ReadsFew query other.rules before now

@@ -11,8 +11,11 @@ use Rattle.xml_profile.specs.Reading.{IsFed, IsFedOn, IsBad, count_of, answer_of
 use Rattle.xml_profile.specs.declared.error.XmlError.{XmlError}
 use Rattle.xml_profile.specs.declared.error.XmlError.TheVariants as xml
 use Rattle.xml_profile.specs.declared.reader.Reader.{Reader}
-use Rattle.store_core.specs.Feeding.{HasFed, FeedsFile}
-use Rattle.store_core.specs.Stopping.{StopsReading, refusal_of}
+use Rattle.store_core.specs.Errors.{IsNoDocument, RefusesDocument, SaysOfDocument}
+use Rattle.store_core.specs.Feeding.{HasFed, HasLeft, FeedsFile}
+use Rattle.store_core.specs.Stopping.{StopsDocument, StopsReading}
+use Rattle.store_core.specs.declared.answer.Refusal.{Refusal}
+use Rattle.store_core.specs.declared.answer.Refusal.TheVariants as no
 use Rattle.store_core.proofs.ReadSteps.{TakesFile-append}
 
 -- So many bytes were taken from the open file, and fed.
@@ -63,9 +66,43 @@ feeding_goes opened mid now old new before after piece fed count w takes has cou
 pub read_front : (count len : ℕ) (buffer behind : List ℕ) → count ≤ length buffer → count ≤ len → take count (take len (buffer ++ behind)) ≡ take count buffer
 read_front count len buffer behind within room = take-take count len (buffer ++ behind) room ∙ take-append-le count buffer behind within
 
+-- why the bytes that are left are no document stops the reading of one
+no_document-stops : (refusal : Refusal) (opened : Option Told) (bytes : List ℕ) (before now : ℕ) → HasLeft opened bytes → IsNoDocument refusal bytes → StopsDocument refusal opened before now
+no_document-stops no.NoDocument opened bytes before now left why = absurd why
+no_document-stops no.ReadFault opened bytes before now left why = absurd why
+no_document-stops no.NoFile opened bytes before now left why = absurd why
+no_document-stops no.WriteFault opened bytes before now left why = absurd why
+no_document-stops no.LongFile opened bytes before now left why = absurd why
+no_document-stops (no.BadXml at) opened bytes before now left why = (bytes, left, why)
+no_document-stops no.BadGrammar opened bytes before now left why = absurd why
+no_document-stops no.BadQuery opened bytes before now left why = absurd why
+no_document-stops no.LargeQuery opened bytes before now left why = absurd why
+no_document-stops no.NoNode opened bytes before now left why = absurd why
+no_document-stops no.TooMany opened bytes before now left why = absurd why
+no_document-stops no.Memory opened bytes before now left why = tt
+
+document_says : (error : XmlError) (bytes : List ℕ) → ((at : ℕ) → error ≡ xml.Bad at → IsBad bytes at) → SaysOfDocument error bytes
+document_says (xml.Bad at) bytes bad = bad at refl
+document_says xml.Memory bytes bad = tt
+
 -- bytes that spell no document stop the reading
 pub bad_stops :
-    (error : XmlError) (opened : Option Told) (reader : Reader) (built : Built) (before now : ℕ) → FeedsFile opened reader built
-    → ((at : ℕ) → error ≡ xml.Bad at → (calls : List Event) (fed : List ℕ) → IsFed reader calls fed → IsBad fed at) → StopsReading (refusal_of error) opened before now
-bad_stops (xml.Bad at) opened reader built before now feeds bad = (feeds.bytes, feeds.left, bad at refl feeds.fed.calls feeds.bytes feeds.fed.fed)
-bad_stops xml.Memory opened reader built before now feeds bad = tt
+    (error : XmlError) (refusal : Refusal) (opened : Option Told) (reader : Reader) (built : Built) (before now : ℕ) → FeedsFile opened reader built → RefusesDocument error refusal
+    → ((at : ℕ) → error ≡ xml.Bad at → (calls : List Event) (fed : List ℕ) → IsFed reader calls fed → IsBad fed at) → StopsDocument refusal opened before now
+bad_stops error refusal opened reader built before now feeds refuses bad =
+    no_document-stops refusal opened feeds.bytes before now feeds.left (refuses feeds.bytes (document_says error feeds.bytes (λ at same. bad at same feeds.fed.calls feeds.bytes feeds.fed.fed)))
+
+-- what stops the reading of a file stops that of a document
+pub stops-document : (refusal : Refusal) (opened : Option Told) (before now : ℕ) → StopsReading refusal opened before now → StopsDocument refusal opened before now
+stops-document no.NoDocument opened before now stops = stops
+stops-document no.ReadFault opened before now stops = stops
+stops-document no.NoFile opened before now stops = stops
+stops-document no.WriteFault opened before now stops = stops
+stops-document no.LongFile opened before now stops = stops
+stops-document (no.BadXml at) opened before now stops = absurd stops
+stops-document no.BadGrammar opened before now stops = stops
+stops-document no.BadQuery opened before now stops = stops
+stops-document no.LargeQuery opened before now stops = stops
+stops-document no.NoNode opened before now stops = stops
+stops-document no.TooMany opened before now stops = stops
+stops-document no.Memory opened before now stops = stops

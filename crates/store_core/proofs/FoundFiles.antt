@@ -5,13 +5,13 @@ use Rattle.std.proofs.lemmas.List.{length-replicate}
 use Rattle.std.specs.FinMap.{get}
 use Rattle.tree_outside.specs.Files.{Told}
 use Rattle.tree_outside.specs.Shelf.{Becomes, file_opened}
-use Rattle.store_core.specs.Acts.{Act, Load, LoadGrammar, needs_document}
+use Rattle.store_core.specs.Acts.{Act, Load, LoadGrammar, file_read, needs_document}
 use Rattle.store_core.specs.Opening.{Finds, LoadsFile}
 use Rattle.store_core.specs.Worlds.{State, World, HasFile, HasNoFile, world}
 use Rattle.store_core.specs.Refusals.{IsReady, IsInput, Cause}
 use Rattle.store_core.specs.Feeding.{HasLeft, ReadsDocument}
 use Rattle.store_core.specs.Machine.{HoldsDocument}
-use Rattle.store_core.specs.Stopping.{StopsReading}
+use Rattle.store_core.specs.Stopping.{StopsDocument, StopsReading}
 use Rattle.plain_tree.specs.Tree.{Tree, node_count}
 use Rattle.plain_tree.specs.Lawful.{IsDocument}
 use Rattle.xml_nodes.proofs.Bytes.{spells-document}
@@ -61,7 +61,7 @@ some_long n = let zero : ℕ = 0 in (replicate n zero, omega (arith, length-repl
 -- a file that gave so many bytes is a long one
 long_file :
     (act : Act) (old opening : Option Told) (name : List ℕ) (state : State) (count : ℕ) → LoadsFile act name → Finds old name true → Becomes old opening (file_opened name)
-    → IfSome opening (λ t. 2 ^ 30 ≤ length t.left) → (bytes : List ℕ) × IsInput act (world state old count) bytes × (2 ^ 30 ≤ length bytes)
+    → IfSome opening (λ t. 2 ^ 30 ≤ length t.left) → (bytes : List ℕ) × IsInput (file_read act) (world state old count) bytes × (2 ^ 30 ≤ length bytes)
 long_file act None opening name state count reads finds opens left =
     let some = some_long (2 ^ 30) in
     (some.0, record { name = name; reads = reads.reads; file = tt }, some.1)
@@ -103,11 +103,28 @@ stops_loading no.ReadFault act old opening name state count before now new reads
 stops_loading no.NoFile act old opening name state count before now new reads finds opens b n stops = absurd stops
 stops_loading no.WriteFault act old opening name state count before now new reads finds opens b n stops = absurd stops
 stops_loading no.LongFile act old opening name state count before now new reads finds opens b n stops = long_file act old opening name state count reads finds opens stops
-stops_loading (no.BadXml at) act old opening name state count before now new reads finds opens b n (bytes, left, bad) =
-    (bytes, record { name = name; reads = reads.reads; file = found_file old opening name state count bytes finds opens left }, left.short, bad)
+stops_loading (no.BadXml at) act old opening name state count before now new reads finds opens b n stops = absurd stops
 stops_loading no.BadGrammar act old opening name state count before now new reads finds opens b n stops = absurd stops
 stops_loading no.BadQuery act old opening name state count before now new reads finds opens b n stops = absurd stops
 stops_loading no.LargeQuery act old opening name state count before now new reads finds opens b n stops = absurd stops
 stops_loading no.NoNode act old opening name state count before now new reads finds opens b n stops = absurd stops
 stops_loading no.TooMany act old opening name state count before now new reads finds opens b n stops = absurd stops
 stops_loading no.Memory act old opening name state count before now new reads finds opens b n stops = found_to_load act old name state count reads finds
+
+-- and so is what stops the reading of a document
+pub stops_document :
+    (refusal : Refusal) (old opening : Option Told) (name : List ℕ) (state : State) (count before now : ℕ) (new : World) → Finds old name true
+    → Becomes old opening (file_opened name) → count ≤ before → now ≤ new.count → StopsDocument refusal opening before now → Cause refusal (Load name) (world state old count) new
+stops_document (no.BadXml at) old opening name state count before now new finds opens b n (bytes, left, bad) =
+    (bytes, record { input = record { name = name; reads = refl; file = found_file old opening name state count bytes finds opens left }; short = left.short }, bad)
+stops_document no.ReadFault old opening name state count before now new finds opens b n stops = stops_loading no.ReadFault (Load name) old opening name state count before now new (load_reads name) finds opens b n stops
+stops_document no.LongFile old opening name state count before now new finds opens b n stops = stops_loading no.LongFile (Load name) old opening name state count before now new (load_reads name) finds opens b n stops
+stops_document no.Memory old opening name state count before now new finds opens b n stops = stops_loading no.Memory (Load name) old opening name state count before now new (load_reads name) finds opens b n stops
+stops_document no.NoDocument old opening name state count before now new finds opens b n stops = absurd stops
+stops_document no.NoFile old opening name state count before now new finds opens b n stops = absurd stops
+stops_document no.WriteFault old opening name state count before now new finds opens b n stops = absurd stops
+stops_document no.BadGrammar old opening name state count before now new finds opens b n stops = absurd stops
+stops_document no.BadQuery old opening name state count before now new finds opens b n stops = absurd stops
+stops_document no.LargeQuery old opening name state count before now new finds opens b n stops = absurd stops
+stops_document no.NoNode old opening name state count before now new finds opens b n stops = absurd stops
+stops_document no.TooMany old opening name state count before now new finds opens b n stops = absurd stops

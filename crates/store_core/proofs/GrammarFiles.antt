@@ -7,22 +7,23 @@ use Rattle.slt_grammar.specs.declared.rules.Rule.{Rule}
 use Rattle.grammar_file.specs.Files.{IsFileOf}
 use Rattle.grammar_file.specs.declared.error.FileError.{FileError}
 use Rattle.grammar_file.specs.declared.error.FileError.TheVariants as file
+use Rattle.store_core.specs.Errors.{SaysOfFile}
 use Rattle.store_core.specs.GrammarStores.{IsNoStore}
 use Rattle.store_core.specs.Acts.{LoadGrammar}
 use Rattle.store_core.specs.Refusals.{Cause}
-use Rattle.store_core.specs.Stopping.{refusal_of_file}
 use Rattle.store_core.specs.Worlds.{World, HasFile}
 use Rattle.store_core.specs.declared.answer.Refusal.{Refusal}
 use Rattle.store_core.specs.declared.answer.Refusal.TheVariants as no
 use Rattle.store_core.proofs.FoundFiles.{ready_to_load, load_grammar_reads}
 
-pub file_refused :
+-- what an error of the reader says of the bytes
+pub file_says :
     (error : FileError) (bytes : List ℕ)
     → (error ≡ file.Bad → (names : List (Kind × List ℕ)) (G : List Rule) (texts : List (List ℕ)) (t : Tree) → IsFileOf bytes names G texts → StandsFor G names texts t → ⊥)
     → (error ≡ file.TooMany → (names : List (Kind × List ℕ)) × (G : List Rule) × (texts : List (List ℕ)) × (t : Tree) × IsFileOf bytes names G texts × StandsFor G names texts t × (2 ^ 63 ≤ node_count t))
-    → IsNoStore (refusal_of_file error) bytes
-file_refused file.Bad bytes bad many = λ parts tree f. bad refl parts.names parts.rules parts.texts tree f.file f.stand
-file_refused file.TooMany bytes bad many =
+    → SaysOfFile error bytes
+file_says file.Bad bytes bad many = λ parts tree f. bad refl parts.names parts.rules parts.texts tree f.file f.stand
+file_says file.TooMany bytes bad many =
     let (names, G, texts, t, f, stand, more) = many refl in
     record {
       parts = record { names = names; rules = G; texts = texts };
@@ -30,7 +31,7 @@ file_refused file.TooMany bytes bad many =
       file = record { file = f; stand = stand };
       many = more;
     }
-file_refused file.Memory bytes bad many = tt
+file_says file.Memory bytes bad many = tt
 
 -- why no store is made of a file is a cause to refuse the loading
 pub no_store :
@@ -41,9 +42,9 @@ no_store no.NoFile name bytes old new has short why = absurd why
 no_store no.WriteFault name bytes old new has short why = absurd why
 no_store no.LongFile name bytes old new has short why = absurd why
 no_store (no.BadXml at) name bytes old new has short why = absurd why
-no_store no.BadGrammar name bytes old new has short why = (bytes, record { name = name; reads = refl; file = has }, short, why)
+no_store no.BadGrammar name bytes old new has short why = (bytes, record { input = record { name = name; reads = refl; file = has }; short = short }, why)
 no_store no.BadQuery name bytes old new has short why = absurd why
 no_store no.LargeQuery name bytes old new has short why = absurd why
 no_store no.NoNode name bytes old new has short why = absurd why
-no_store no.TooMany name bytes old new has short why = (bytes, record { name = name; reads = refl; file = has }, short, why)
+no_store no.TooMany name bytes old new has short why = (bytes, record { input = record { name = name; reads = refl; file = has }; short = short }, why)
 no_store no.Memory name bytes old new has short why = ready_to_load (LoadGrammar name) old name bytes (load_grammar_reads name) has

@@ -1,5 +1,5 @@
 -- What commands print, as steps of the machine.
-use Rattle.std.proofs.Common.{◌≡◌, ◌≤◌, ℕ, List, ◌++◌, Some, Result, Ok, Err, inl, inr, refl}
+use Rattle.std.proofs.Common.{◌≡◌, ◌≤◌, ℕ, List, ◌++◌, Some, Result, refl}
 use Rattle.plain_tree.specs.Tree.{Tree}
 use Rattle.tree_outside.proofs.Beside.{Stays-refl}
 use Rattle.store_core.specs.Acts.{Act}
@@ -9,16 +9,19 @@ use Rattle.store_core.specs.Worlds.{AreLawfulParts, IsLawfulState, Parts, PartsS
 use Rattle.store_core.specs.declared.answer.Answer.{Answer}
 use Rattle.store_core.specs.declared.answer.Answer.TheVariants as ok
 use Rattle.store_core.specs.declared.answer.Refusal.{Refusal}
+use Rattle.store_core.specs.declared.command.Settings.{Settings}
 
 -- a command that comes to an outcome behind a text prints both
-pub comes_step : (act : Act) (old new : World) (text : List ℕ) (outcome : Result Answer Refusal) → IsLawfulState old.state → IsLawfulState new.state → old.count ≤ new.count
-    → Comes act old text outcome new → Step act old (text ++ line_of outcome) new
-comes_step act old new text (Ok answer) before after later comes = record { before = before; after = after; later = later; done = inl comes }
-comes_step act old new text (Err refusal) before after later comes = record {
+pub comes_step : (settings : Settings) (act : Act) (old new : World) (text : List ℕ) (outcome : Result Answer Refusal) → IsLawfulState old.state → IsLawfulState new.state → old.count ≤ new.count
+    → Comes settings act old text outcome new → Step settings act old (text ++ line_of outcome) new
+comes_step settings act old new text outcome before after later comes = record {
   before = before;
   after = after;
   later = later;
-  done = inr (record { refusal = refusal; cause = comes.1; same = comes.2; text = text; begins = comes.0; printed = refl });
+  outcome = outcome;
+  text = text;
+  comes = comes;
+  printed = refl;
 }
 
 -- bytes that show the node, and the line behind them, are what is printed of it

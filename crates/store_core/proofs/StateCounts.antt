@@ -12,7 +12,8 @@ use Rattle.rule_runs.specs.Reached.{RuleStates, Uses, Falls, ReadsOnce, FallsOnc
 use Rattle.selecting_automaton.specs.Bounds.{IsUpOf, AreMarksBelow, HasFewStates}
 use Rattle.selecting_automaton.specs.declared.states.Up.{Up}
 use Rattle.selecting_automaton.specs.declared.states.Down.{Down}
-use Rattle.store_core.specs.Reads.{greatest_rank, most_reads}
+use Rattle.slt_grammar.specs.Ranks.{greatest_rank}
+use Rattle.store_core.specs.Reads.{most_reads}
 use Rattle.store_core.proofs.Distinct.{digit-one, digit-lt, sum-apart}
 use Rattle.store_core.proofs.StatesWithin.{KeepsUp, KeepsDown, used-kept, used-there, fallen-used, fallen-kept}
 

@@ -19,36 +19,33 @@ pub data Act : Type 0 where
   -- the grammar is settled
   Repair : Act
 
+-- whether the command needs a document that is loaded
 abbrev pub needs_document : Act → Bool
 needs_document (Load name) = false
 needs_document (LoadGrammar name) = false
-needs_document (Save name) = true
-needs_document (SaveGrammar name) = true
-needs_document (Show number) = true
-needs_document (Query query) = true
-needs_document (Count query) = true
-needs_document Repair = true
+needs_document act = true
 
--- the name of the file that the command reads
+-- the name of the file in which the command reads a document
+abbrev pub document_read : Act → Option (List ℕ)
+document_read (Load name) = Some name
+document_read act = None
+
+-- the name of the file in which the command reads a grammar
+abbrev pub grammar_read : Act → Option (List ℕ)
+grammar_read (LoadGrammar name) = Some name
+grammar_read act = None
+
+-- the name of the file that the command reads, whatever it reads there
 abbrev pub file_read : Act → Option (List ℕ)
 file_read (Load name) = Some name
 file_read (LoadGrammar name) = Some name
-file_read (Save name) = None
-file_read (SaveGrammar name) = None
-file_read (Show number) = None
-file_read (Query query) = None
-file_read (Count query) = None
-file_read Repair = None
+file_read act = None
 
+-- whether the command writes a file
 abbrev pub writes_file : Act → Bool
-writes_file (Load name) = false
-writes_file (LoadGrammar name) = false
 writes_file (Save name) = true
 writes_file (SaveGrammar name) = true
-writes_file (Show number) = false
-writes_file (Query query) = false
-writes_file (Count query) = false
-writes_file Repair = false
+writes_file act = false
 
 -- the number of the node that the command asks for
 abbrev pub node_asked : Act → Option ℕ

@@ -1,5 +1,5 @@
 -- One step of the plain tree machine: what a command prints and what it leaves.
-use Rattle.std.specs.Prelude.{◌≡◌, ◌≤◌, ◌<◌, ◌⊎◌, ◌^◌, ℕ, zero, suc, List, [], ◌∷◌, ◌++◌, length, Option, Some, IfSome, Result, MatchResult, slice_get}
+use Rattle.std.specs.Prelude.{◌≡◌, ◌≤◌, ◌<◌, ◌⊎◌, ◌^◌, ℕ, zero, suc, max, List, [], ◌∷◌, ◌++◌, length, Option, Some, IfSome, Result, MatchResult, slice_get}
 use Rattle.std.specs.FinMap.{insert}
 use Rattle.std.specs.List.{flat_map}
 use Rattle.tree_outside.specs.Outside.{Gets, GetsFront, Stays}
@@ -10,24 +10,28 @@ use Rattle.xml_nodes.specs.Saved.{saved_bytes, spelling}
 use Rattle.slt_grammar.specs.declared.rules.Rule.{Rule}
 use Rattle.slt_grammar.specs.Digrams.{IsSettled}
 use Rattle.slt_grammar.specs.Grammars.{size}
+use Rattle.slt_grammar.specs.Ranks.{greatest_rank}
 use Rattle.fcns_encoding.specs.Interning.{Interns, pairs_of_tree}
 use Rattle.grammar_file.specs.FileBytes.{file_bytes}
 use Rattle.store_core.specs.Acts.{Act, Load, LoadGrammar, Save, SaveGrammar, Show, Query, Count, Repair}
 use Rattle.store_core.specs.GrammarFiles.{IsFileOfDocument}
 use Rattle.store_core.specs.Selecting.{Selects}
 use Rattle.store_core.specs.Worlds.{Parts, with_rules, PartsStandFor, IsLawfulState, World, Same, HasFile}
-use Rattle.store_core.specs.Texts.{answer_line, refusal_line, selected_line}
+use Rattle.store_core.specs.Texts.{answer_line, line_of, selected_line}
 use Rattle.store_core.specs.Refusals.{Cause}
 use Rattle.store_core.specs.declared.answer.Answer.{Answer}
 use Rattle.store_core.specs.declared.answer.Answer.TheVariants as ok
 use Rattle.store_core.specs.declared.answer.Refusal.{Refusal}
 use Rattle.store_core.specs.declared.answer.Refusal.TheVariants as no
+use Rattle.store_core.specs.declared.command.Settings.{Settings}
 
--- what a loading makes of a document: names in the order of their first nodes, and a settled grammar
-pub record Encodes (tree : Tree) (parts : Parts) : Type 0 where
+-- what a loading makes of a document: names in the order of their first nodes, and a grammar that is settled for a rank and has no
+-- rule of a greater one
+pub record Encodes (rank : ℕ) (tree : Tree) (parts : Parts) : Type 0 where
   pub stand : PartsStandFor parts tree
   pub names : Interns [] (pairs_of_tree tree) parts.names
-  pub settled : IsSettled parts.rules 4
+  pub settled : IsSettled parts.rules rank
+  pub ranks : greatest_rank parts.rules ≤ rank
 
 -- the document is the one that the file's bytes, fewer than 2^30, spell
 pub record HoldsDocument (name : List ℕ) (w : World) (tree : Tree) : Type 0 where
@@ -37,11 +41,11 @@ pub record HoldsDocument (name : List ℕ) (w : World) (tree : Tree) : Type 0 wh
   pub spelled : Spells bytes tree
 
 -- the document becomes that of the file
-pub record Loads (name : List ℕ) (old : World) (out : List ℕ) (new : World) : Type 0 where
+pub record Loads (rank : ℕ) (name : List ℕ) (old : World) (out : List ℕ) (new : World) : Type 0 where
   pub tree : Tree
   pub parts : Parts
   pub held : HoldsDocument name old tree
-  pub encoded : Encodes tree parts
+  pub encoded : Encodes rank tree parts
   pub state : new.state ≡ Some parts
   pub files : Stays old.files new.files
   pub printed : out ≡ answer_line (ok.Nodes (node_count tree))
@@ -111,8 +115,9 @@ pub record Counts (query : List ℕ) (old : World) (out : List ℕ) (new : World
   pub same : Same old new
   pub printed : out ≡ answer_line (ok.Selected (length answer))
 
--- the rules become settled ones that stand for the same document and have no more nodes, and nothing else changes
-pub record Repairs (old : World) (out : List ℕ) (new : World) : Type 0 where
+-- The rules become ones that are settled for a rank, stand for the same document and have no more nodes; none has a rank that is greater
+-- than that one and than all there were. Nothing else changes.
+pub record Repairs (rank : ℕ) (old : World) (out : List ℕ) (new : World) : Type 0 where
   pub parts : Parts
   pub tree : Tree
   pub rules : List Rule
@@ -120,21 +125,22 @@ pub record Repairs (old : World) (out : List ℕ) (new : World) : Type 0 where
   pub stand : PartsStandFor parts tree
   pub state : new.state ≡ Some (with_rules parts rules)
   pub still : PartsStandFor (with_rules parts rules) tree
-  pub settled : IsSettled rules 4
+  pub settled : IsSettled rules rank
+  pub ranks : greatest_rank rules ≤ max rank (greatest_rank parts.rules)
   pub smaller : size rules ≤ size parts.rules
   pub files : Stays old.files new.files
   pub printed : out ≡ answer_line (ok.Repaired (length rules) (size rules))
 
--- the command is done
-abbrev pub Does : Act → World → List ℕ → World → Type 0
-Does (Load name) old out new = Loads name old out new
-Does (LoadGrammar name) old out new = LoadsGrammar name old out new
-Does (Save name) old out new = Saves name old out new
-Does (SaveGrammar name) old out new = SavesGrammar name old out new
-Does (Show number) old out new = Shows number old out new
-Does (Query query) old out new = Queries query old out new
-Does (Count query) old out new = Counts query old out new
-Does Repair old out new = Repairs old out new
+-- the command is done, by these settings
+abbrev pub Does : Settings → Act → World → List ℕ → World → Type 0
+Does settings (Load name) old out new = Loads settings.rank name old out new
+Does settings (LoadGrammar name) old out new = LoadsGrammar name old out new
+Does settings (Save name) old out new = Saves name old out new
+Does settings (SaveGrammar name) old out new = SavesGrammar name old out new
+Does settings (Show number) old out new = Shows number old out new
+Does settings (Query query) old out new = Queries query old out new
+Does settings (Count query) old out new = Counts query old out new
+Does settings Repair old out new = Repairs settings.rank old out new
 
 -- the text is the lines of some first nodes that the query selects
 pub record PrintsFirst (query : List ℕ) (old : World) (text : List ℕ) : Type 0 where
@@ -149,29 +155,31 @@ abbrev pub Begins : Act → Refusal → World → List ℕ → Type 0
 Begins (Query query) refusal old text = (text ≡ []) ⊎ ((refusal ≡ no.Memory) × PrintsFirst query old text)
 Begins act refusal old text = text ≡ []
 
--- what a command comes to that printed this text: it is done, or it is refused for this cause and changes nothing
-abbrev pub Comes : Act → World → List ℕ → Result Answer Refusal → World → Type 0
-Comes act old text outcome new = MatchResult outcome (λ answer. Does act old (text ++ answer_line answer) new) (λ refusal. Begins act refusal old text × Cause refusal act old new × Same old new)
-
--- it printed the text before its line, or the sink failed and got a front of what it prints
-abbrev pub Prints : {E : Type 0} → Act → World → Option (List ℕ) → Option (List ℕ) → Result (Result Answer Refusal) E → World → Type 0
-Prints act old got now result new = MatchResult result
-    (λ outcome. (text : List ℕ) × Gets got now text × Comes act old text outcome new)
-    (λ _. (out : List ℕ) × GetsFront got now out × Does act old out new)
-
--- the command is refused for this cause, and changes nothing
-pub record Refuses (act : Act) (old : World) (out : List ℕ) (new : World) : Type 0 where
-  pub refusal : Refusal
+-- the command is refused for this cause, and changes nothing; it printed this text before its line
+pub record Refuses (act : Act) (refusal : Refusal) (old : World) (text : List ℕ) (new : World) : Type 0 where
+  pub begins : Begins act refusal old text
   pub cause : Cause refusal act old new
   pub same : Same old new
-  pub text : List ℕ
-  pub begins : Begins act refusal old text
-  pub printed : out ≡ text ++ refusal_line refusal
 
--- One command: the states before and after it are lawful, the count of the shelf's faults doesn't fall, and the command is done
--- or refused.
-pub record Step (act : Act) (old : World) (out : List ℕ) (new : World) : Type 0 where
+-- what a command comes to that printed this text before its line: it is done, or it is refused
+abbrev pub Comes : Settings → Act → World → List ℕ → Result Answer Refusal → World → Type 0
+Comes settings act old text outcome new = MatchResult outcome
+    (λ answer. Does settings act old (text ++ answer_line answer) new)
+    (λ refusal. Refuses act refusal old text new)
+
+-- it printed the text before its line, or the sink failed and got a front of what it prints
+abbrev pub Prints : {E : Type 0} → Settings → Act → World → Option (List ℕ) → Option (List ℕ) → Result (Result Answer Refusal) E → World → Type 0
+Prints settings act old got now result new = MatchResult result
+    (λ outcome. (text : List ℕ) × Gets got now text × Comes settings act old text outcome new)
+    (λ _. (text : List ℕ) × (outcome : Result Answer Refusal) × GetsFront got now (text ++ line_of outcome) × Comes settings act old text outcome new)
+
+-- One command: the states before and after it are lawful, the count of the shelf's faults doesn't fall, and the command comes to this
+-- outcome, an answer or a refusal. It prints a text and the outcome's line.
+pub record Step (settings : Settings) (act : Act) (old : World) (out : List ℕ) (new : World) : Type 0 where
   pub before : IsLawfulState old.state
   pub after : IsLawfulState new.state
   pub later : old.count ≤ new.count
-  pub done : Does act old out new ⊎ Refuses act old out new
+  pub outcome : Result Answer Refusal
+  pub text : List ℕ
+  pub comes : Comes settings act old text outcome new
+  pub printed : out ≡ text ++ line_of outcome

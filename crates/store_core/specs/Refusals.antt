@@ -1,9 +1,10 @@
--- Refusals and their causes, in the order in which they are tried: each yields to those above it.
-use Rattle.std.specs.Prelude.{◌≡◌, ◌≤◌, ◌<◌, ◌^◌, ℕ, List, length, IsTrue, Some, IsSome, IsNone}
+-- Refusals and their causes, in the order in which they are tried: each yields to those above it. A cause speaks of its command: what
+-- is wrong with a document is a cause only for a command that reads a document.
+use Rattle.std.specs.Prelude.{◌≡◌, ◌≤◌, ◌<◌, ◌^◌, ℕ, List, length, IsTrue, Option, Some, IsSome, IsNone}
 use Rattle.tree_outside.specs.Outside.{Rose}
 use Rattle.xml_profile.specs.Reading.{IsBad}
 use Rattle.store_core.specs.GrammarFiles.{IsNoFile, IsFileOfMany}
-use Rattle.store_core.specs.Acts.{Act, needs_document, file_read, node_asked, query_asked, writes_file}
+use Rattle.store_core.specs.Acts.{Act, needs_document, document_read, grammar_read, file_read, node_asked, query_asked, writes_file}
 use Rattle.store_core.specs.Selecting.{SpellsNoQuery, SpellsLarge}
 use Rattle.store_core.specs.Worlds.{World, HasFile, HasNoFile, LacksNode}
 use Rattle.store_core.specs.declared.answer.Refusal.{Refusal}
@@ -14,22 +15,28 @@ pub record IsReady (act : Act) (old : World) : Type 0 where
   pub document : IsTrue (needs_document act) → IsSome old.state
   pub file : (name : List ℕ) → file_read act ≡ Some name → (bytes : List ℕ) × HasFile old name bytes
 
--- these are the bytes of the file that the command reads
-pub record IsInput (act : Act) (old : World) (bytes : List ℕ) : Type 0 where
+-- these are the bytes of the file that is read, which has this name
+pub record IsInput (read : Option (List ℕ)) (old : World) (bytes : List ℕ) : Type 0 where
   pub name : List ℕ
-  pub reads : file_read act ≡ Some name
+  pub reads : read ≡ Some name
   pub file : HasFile old name bytes
 
+-- they are fewer than 2^30, as a file must have
+pub record IsShortInput (read : Option (List ℕ)) (old : World) (bytes : List ℕ) : Type 0 where
+  pub input : IsInput read old bytes
+  pub short : length bytes < 2 ^ 30
+
+-- the command is refused so only where this holds
 abbrev pub Cause : Refusal → Act → World → World → Type 0
 Cause no.NoDocument act old new = IsTrue (needs_document act) × IsNone old.state
 Cause no.ReadFault act old new = IsSome (file_read act) × Rose old.count new.count
 Cause no.NoFile act old new = (name : List ℕ) × (file_read act ≡ Some name) × HasNoFile old name
 Cause no.WriteFault act old new = IsTrue (writes_file act) × IsReady act old × Rose old.count new.count
-Cause no.LongFile act old new = (bytes : List ℕ) × IsInput act old bytes × (2 ^ 30 ≤ length bytes)
-Cause (no.BadXml at) act old new = (bytes : List ℕ) × IsInput act old bytes × (length bytes < 2 ^ 30) × IsBad bytes at
-Cause no.BadGrammar act old new = (bytes : List ℕ) × IsInput act old bytes × (length bytes < 2 ^ 30) × IsNoFile bytes
+Cause no.LongFile act old new = (bytes : List ℕ) × IsInput (file_read act) old bytes × (2 ^ 30 ≤ length bytes)
+Cause (no.BadXml at) act old new = (bytes : List ℕ) × IsShortInput (document_read act) old bytes × IsBad bytes at
+Cause no.BadGrammar act old new = (bytes : List ℕ) × IsShortInput (grammar_read act) old bytes × IsNoFile bytes
 Cause no.BadQuery act old new = (query : List ℕ) × (query_asked act ≡ Some query) × IsReady act old × SpellsNoQuery query
 Cause no.LargeQuery act old new = (query : List ℕ) × (query_asked act ≡ Some query) × IsReady act old × SpellsLarge query
 Cause no.NoNode act old new = (number : ℕ) × (node_asked act ≡ Some number) × LacksNode old number
-Cause no.TooMany act old new = (bytes : List ℕ) × IsInput act old bytes × (length bytes < 2 ^ 30) × IsFileOfMany bytes
+Cause no.TooMany act old new = (bytes : List ℕ) × IsShortInput (grammar_read act) old bytes × IsFileOfMany bytes
 Cause no.Memory act old new = IsReady act old

@@ -68,10 +68,9 @@ impl From<AllocError> for Refusal {
 }
 
 impl From<XmlError> for Refusal {
-    ghost use Rattle.std.specs.Prelude.{◌≡◌};
-    ghost use Rattle.store_core.specs.Stopping.{refusal_of};
+    ghost use Rattle.store_core.specs.Errors.{RefusesDocument};
 
-    ghost from_gives = { λ error refusal. refusal ≡ refusal_of error };
+    ghost from_gives = { RefusesDocument };
 
     fn from(error: XmlError) -> Refusal {
         match error {
@@ -82,10 +81,9 @@ impl From<XmlError> for Refusal {
 }
 
 impl From<FileError> for Refusal {
-    ghost use Rattle.std.specs.Prelude.{◌≡◌};
-    ghost use Rattle.store_core.specs.Stopping.{refusal_of_file};
+    ghost use Rattle.store_core.specs.Errors.{RefusesFile};
 
-    ghost from_gives = { λ error refusal. refusal ≡ refusal_of_file error };
+    ghost from_gives = { RefusesFile };
 
     fn from(error: FileError) -> Refusal {
         match error {
@@ -97,10 +95,9 @@ impl From<FileError> for Refusal {
 }
 
 impl From<QueryError> for Refusal {
-    ghost use Rattle.std.specs.Prelude.{◌≡◌};
-    ghost use Rattle.store_core.specs.Stopping.{query_refusal};
+    ghost use Rattle.store_core.specs.Errors.{RefusesQuery};
 
-    ghost from_gives = { λ error refusal. refusal ≡ query_refusal error };
+    ghost from_gives = { RefusesQuery };
 
     fn from(error: QueryError) -> Refusal {
         match error {

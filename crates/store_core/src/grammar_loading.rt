@@ -12,10 +12,9 @@ ghost use Rattle.store_core.specs.Texts.{answer_line};
 ghost use Rattle.store_core.specs.Worlds.{State, AreLawfulParts, HasFile, IsIdle, told_files, world};
 
 use crate::answer::{Answer, Refusal};
-use crate::loading::{ReadDocument, counts_of, open_file};
+use crate::loading::{ReadDocument, open_file, tables_of};
 use crate::reading::{FILE_LIMIT, PIECE};
-use crate::store::Store;
-use digram_index::build;
+use crate::store::{Store, Tables};
 use grammar_file::{Parts, read};
 use std::alloc::Global;
 use tree_outside::{Failed, Shelf};
@@ -90,8 +89,7 @@ fn store_of_file(alloc: Global, bytes: &[u8]) -> Result<Store, Refusal>
         names,
         texts,
     } = read(alloc, bytes)?;
-    let counts = counts_of(alloc, &grammar, &names)?;
-    let index = build(alloc, &grammar)?;
+    let Tables { counts, index } = tables_of(alloc, &grammar, &names)?;
     Ok(Store {
         grammar,
         names,

@@ -4,7 +4,7 @@ ghost use Rattle.tree_outside.specs.Outside.{Stays};
 ghost use Rattle.store_core.specs.Worlds.{told_files};
 ghost use Rattle.store_core.specs.Feeding.{HasFed, FeedsFile, OnlyReads};
 ghost use Rattle.store_core.specs.Folding.{FoldsOpen};
-ghost use Rattle.store_core.specs.Stopping.{StopsReading};
+ghost use Rattle.store_core.specs.Stopping.{StopsDocument, StopsReading};
 
 use crate::answer::Refusal;
 use fcns_encoding::{Folded, Folder, Sharing};
@@ -32,7 +32,7 @@ pub(crate) fn read_document<F: Shelf>(alloc: Global, shelf: &mut F) -> Result<Fo
     ensures files { Stays (told_files (F.told shelf.old)) (told_files (F.told shelf.new)) }
     ensures only { OnlyReads (F.told shelf.old) (F.told shelf.new) }
     ensures document { IfOk result (FoldsOpen (F.told shelf.old)) }
-    ensures refused { IfErr result (λ refusal. StopsReading refusal (F.told shelf.old) (F.faults shelf.old) (F.faults shelf.new)) }
+    ensures refused { IfErr result (λ refusal. StopsDocument refusal (F.told shelf.old) (F.faults shelf.old) (F.faults shelf.new)) }
 {
     let mut reader = Reader::new(alloc)?;
     let mut folder = Folder::new(alloc);

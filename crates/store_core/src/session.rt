@@ -3,6 +3,7 @@ ghost use Rattle.std.specs.Prelude.{◌≡◌, ◌≤◌, List, [], ℕ, Option,
 ghost use Rattle.tree_outside.specs.Files.{Told};
 ghost use Rattle.tree_outside.specs.Outside.{HasCause, Writes};
 ghost use Rattle.tree_outside.specs.Shelf.{Keeps};
+ghost use Rattle.store_core.specs.declared.command.Settings.{Settings};
 
 use crate::answer::{Answer, Refusal, write_line};
 use crate::command::{Command, Settings};
@@ -79,11 +80,14 @@ impl Session {
         self.store.as_ref()
     }
 
-    /// Does one command and prints its text, whose last line is one write of the sink. `SinkFailed` comes only where the sink
-    /// failed; session and shelf are then as after the command, and the sink got a front of the text. Where the shelf tells that
-    /// no file was open and none pending, that is so after the command too.
+    /// Does one command and prints its text, the last of which is a line that says what it came to. After a loading no rule has a greater
+    /// rank than the settings say, from 1 to 8, and after a repair none a greater one than that and than any had before.
     ///
-    /// The counter counts the reads of `save`, `show`, `query` and `count`. The settings serve edits, of which there is none yet.
+    /// `SinkFailed` comes only where the sink failed; session and shelf are then as after the command, and the sink got a front of the
+    /// text. Where the shelf tells that no file was open and none pending, that is so after the command too.
+    ///
+    /// `query` and `count` take few reads on this counter (`reads`). No clause says of others what they read, nor that the last line is one
+    /// write of the sink.
     pub fn command<K: Sink, F: Shelf, L: Ledger>(
         &mut self,
         alloc: Global,
@@ -95,7 +99,7 @@ impl Session {
     ) -> Result<(), SinkFailed>
         requires rank { (1 ≤ settings.rank) × (settings.rank ≤ 8) }
         ensures step { (out : List ℕ)
-            × Step (act_of command.entry)
+            × Step settings (act_of command.entry)
             (world self.old (F.told shelf.old) (F.faults shelf.old)) out
             (world self.new (F.told shelf.new) (F.faults shelf.new))
             × Writes (K.got sink.old) (K.got sink.new) result out }
@@ -104,7 +108,7 @@ impl Session {
         ensures cause { HasCause (K.faults sink.old) (K.faults sink.new) result }
         ensures reads { AsksFew (act_of command.entry) self.old steps.old steps.new }
     {
-        let outcome = self.outcome(alloc, command, sink, shelf, steps)?;
+        let outcome = self.outcome(alloc, command, settings, sink, shelf, steps)?;
         write_line(outcome, sink)?;
         Ok(())
     }
@@ -114,27 +118,29 @@ impl Session {
         &mut self,
         alloc: Global,
         command: Command<'_>,
+        settings: Settings,
         sink: &mut K,
         shelf: &mut F,
         steps: &mut Steps<L>,
     ) -> Result<Result<Answer, Refusal>, Failed>
+        requires rank { (1 ≤ settings.rank) × (settings.rank ≤ 8) }
         ensures lawful { IsLawfulState self.old × IsLawfulState self.new }
         ensures later { F.faults shelf.old ≤ F.faults shelf.new }
         ensures idle { IsIdle (F.told shelf.old) → IsIdle (F.told shelf.new) }
-        ensures prints { Prints (act_of command.entry) (world self.old (F.told shelf.old) (F.faults shelf.old)) (K.got sink.old) (K.got sink.new) result (world self.new (F.told shelf.new) (F.faults shelf.new)) }
+        ensures prints { Prints settings (act_of command.entry) (world self.old (F.told shelf.old) (F.faults shelf.old)) (K.got sink.old) (K.got sink.new) result (world self.new (F.told shelf.new) (F.faults shelf.new)) }
         ensures kept { Keeps (K.kept sink.old) (K.kept sink.new) }
         ensures cause { HasCause (K.faults sink.old) (K.faults sink.new) result }
         ensures reads { AsksFew (act_of command.entry) self.old steps.old steps.new }
     {
         match command {
-            Command::Load { name } => Ok(self.load(alloc, name, shelf)),
+            Command::Load { name } => Ok(self.load(alloc, name, settings, shelf)),
             Command::LoadGrammar { name } => Ok(self.load_grammar(alloc, name, shelf)),
             Command::Save { name } => Ok(self.save(alloc, name, shelf, steps)),
             Command::SaveGrammar { name } => Ok(self.save_grammar(name, shelf)),
             Command::Show { number } => self.show(alloc, number, sink, steps),
             Command::Query { text } => self.query(alloc, text, sink, steps),
             Command::Count { text } => Ok(self.count(alloc, text, steps)),
-            Command::Repair => Ok(self.repair(alloc)),
+            Command::Repair => Ok(self.repair(alloc, settings)),
         }
     }
 
@@ -142,16 +148,18 @@ impl Session {
         &mut self,
         alloc: Global,
         name: &str,
+        settings: Settings,
         shelf: &mut F,
     ) -> Result<Answer, Refusal>
+        requires rank { (1 ≤ settings.rank) × (settings.rank ≤ 8) }
         ensures lawful { IsLawfulState self.old × IsLawfulState self.new }
         ensures later { F.faults shelf.old ≤ F.faults shelf.new }
         ensures idle { IsIdle (F.told shelf.old) → IsIdle (F.told shelf.new) }
-        ensures comes { Comes (act.Load name.now) (world self.old (F.told shelf.old) (F.faults shelf.old)) [] result (world self.new (F.told shelf.new) (F.faults shelf.new)) }
+        ensures comes { Comes settings (act.Load name.now) (world self.old (F.told shelf.old) (F.faults shelf.old)) [] result (world self.new (F.told shelf.new) (F.faults shelf.new)) }
     {
         // A look at the field tells that what was held is lawful, also where the loading is refused.
         let _ = &self.store;
-        let loaded = load_document(alloc, name, shelf)?;
+        let loaded = load_document(alloc, name, settings.rank, shelf)?;
         self.store = Some(loaded.store);
         Ok(Answer::Nodes(loaded.count))
     }
@@ -165,7 +173,7 @@ impl Session {
         ensures lawful { IsLawfulState self.old × IsLawfulState self.new }
         ensures later { F.faults shelf.old ≤ F.faults shelf.new }
         ensures idle { IsIdle (F.told shelf.old) → IsIdle (F.told shelf.new) }
-        ensures comes { Comes (act.LoadGrammar name.now) (world self.old (F.told shelf.old) (F.faults shelf.old)) [] result (world self.new (F.told shelf.new) (F.faults shelf.new)) }
+        ensures comes { (settings : Settings) → Comes settings (act.LoadGrammar name.now) (world self.old (F.told shelf.old) (F.faults shelf.old)) [] result (world self.new (F.told shelf.new) (F.faults shelf.new)) }
     {
         let _ = &self.store;
         let loaded = load_grammar(alloc, name, shelf)?;
@@ -183,7 +191,7 @@ impl Session {
         ensures lawful { IsLawfulState self.now }
         ensures later { F.faults shelf.old ≤ F.faults shelf.new }
         ensures idle { IsIdle (F.told shelf.old) → IsIdle (F.told shelf.new) }
-        ensures comes { Comes (act.Save name.now) (world self.now (F.told shelf.old) (F.faults shelf.old)) [] result (world self.now (F.told shelf.new) (F.faults shelf.new)) }
+        ensures comes { (settings : Settings) → Comes settings (act.Save name.now) (world self.now (F.told shelf.old) (F.faults shelf.old)) [] result (world self.now (F.told shelf.new) (F.faults shelf.new)) }
     {
         match &self.store {
             None => Err(Refusal::NoDocument),
@@ -198,7 +206,7 @@ impl Session {
         ensures lawful { IsLawfulState self.now }
         ensures later { F.faults shelf.old ≤ F.faults shelf.new }
         ensures idle { IsIdle (F.told shelf.old) → IsIdle (F.told shelf.new) }
-        ensures comes { Comes (act.SaveGrammar name.now) (world self.now (F.told shelf.old) (F.faults shelf.old)) [] result (world self.now (F.told shelf.new) (F.faults shelf.new)) }
+        ensures comes { (settings : Settings) → Comes settings (act.SaveGrammar name.now) (world self.now (F.told shelf.old) (F.faults shelf.old)) [] result (world self.now (F.told shelf.new) (F.faults shelf.new)) }
     {
         match &self.store {
             None => Err(Refusal::NoDocument),
@@ -206,13 +214,14 @@ impl Session {
         }
     }
 
-    fn repair(&mut self, alloc: Global) -> Result<Answer, Refusal>
+    fn repair(&mut self, alloc: Global, settings: Settings) -> Result<Answer, Refusal>
+        requires rank { settings.rank ≤ 8 }
         ensures lawful { IsLawfulState self.old × IsLawfulState self.new }
-        ensures comes { (told : Option Told) (count : ℕ) → Comes act.Repair (world self.old told count) [] result (world self.new told count) }
+        ensures comes { (told : Option Told) (count : ℕ) → Comes settings act.Repair (world self.old told count) [] result (world self.new told count) }
     {
         match &mut self.store {
             None => Err(Refusal::NoDocument),
-            Some(store) => Ok(repair_store(alloc, store)?),
+            Some(store) => Ok(repair_store(alloc, store, settings.rank)?),
         }
     }
 
@@ -225,7 +234,7 @@ impl Session {
         steps: &mut Steps<L>,
     ) -> Result<Result<Answer, Refusal>, Failed>
         ensures lawful { IsLawfulState self.now }
-        ensures prints { (told : Option Told) (count : ℕ) → Prints (act.Show number) (world self.now told count) (K.got sink.old) (K.got sink.new) result (world self.now told count) }
+        ensures prints { (settings : Settings) (told : Option Told) (count : ℕ) → Prints settings (act.Show number) (world self.now told count) (K.got sink.old) (K.got sink.new) result (world self.now told count) }
         ensures kept { Keeps (K.kept sink.old) (K.kept sink.new) }
         ensures cause { HasCause (K.faults sink.old) (K.faults sink.new) result }
     {
@@ -249,7 +258,7 @@ impl Session {
         steps: &mut Steps<L>,
     ) -> Result<Result<Answer, Refusal>, Failed>
         ensures lawful { IsLawfulState self.now }
-        ensures prints { (told : Option Told) (count : ℕ) → Prints (act.Query text.now) (world self.now told count) (K.got sink.old) (K.got sink.new) result (world self.now told count) }
+        ensures prints { (settings : Settings) (told : Option Told) (count : ℕ) → Prints settings (act.Query text.now) (world self.now told count) (K.got sink.old) (K.got sink.new) result (world self.now told count) }
         ensures kept { Keeps (K.kept sink.old) (K.kept sink.new) }
         ensures cause { HasCause (K.faults sink.old) (K.faults sink.new) result }
         ensures reads { AsksFew (act.Query text.now) self.now steps.old steps.new }
@@ -275,7 +284,7 @@ impl Session {
         steps: &mut Steps<L>,
     ) -> Result<Answer, Refusal>
         ensures lawful { IsLawfulState self.now }
-        ensures comes { (told : Option Told) (count : ℕ) → Comes (act.Count text.now) (world self.now told count) [] result (world self.now told count) }
+        ensures comes { (settings : Settings) (told : Option Told) (count : ℕ) → Comes settings (act.Count text.now) (world self.now told count) [] result (world self.now told count) }
         ensures reads { AsksFew (act.Count text.now) self.now steps.old steps.new }
     {
         let Some(store) = &self.store else {

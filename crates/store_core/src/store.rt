@@ -5,9 +5,6 @@ use segment_counts::Counts;
 use slt_grammar::Grammar;
 use text_list::TextList;
 
-/// The greatest rank of a rule that a settling makes.
-pub(crate) const RULE_RANK: usize = 4;
-
 /// A document, held as a grammar over a table of names beside its texts, with the counts of the grammar's segments and the index of its
 /// digrams.
 #[derive(Drop)]
@@ -15,6 +12,13 @@ pub struct Store {
     pub grammar: Grammar,
     pub names: Names,
     pub texts: TextList,
+    pub counts: Counts,
+    pub index: Index,
+}
+
+/// What is told of a grammar beside its rules.
+#[derive(Drop)]
+pub(crate) struct Tables {
     pub counts: Counts,
     pub index: Index,
 }

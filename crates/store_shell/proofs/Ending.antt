@@ -5,6 +5,7 @@ use Rattle.std.proofs.lemmas.List.{append_assoc, append-nil, take-append-le, len
 use Rattle.tree_outside.specs.Outside.{Stays, Takes}
 use Rattle.store_core.specs.Worlds.{World}
 use Rattle.store_shell.specs.Lines.{IsCut}
+use Rattle.store_core.specs.declared.command.Settings.{Settings}
 use Rattle.store_shell.specs.Feeding.{Ends, Feeds}
 use Rattle.store_shell.specs.Serving.{Script, IsWhole, Serves}
 use Rattle.store_shell.specs.declared.script.Flow.{Flow}
@@ -47,9 +48,9 @@ no_script = record { bytes = []; within = omega arith; lines = []; tail = []; cu
 abbrev pub script_of : (bytes : List ℕ) (lines : List (List ℕ)) (tail : List ℕ) → IsCut bytes lines tail → length bytes ≤ 2 ^ 30 → Script
 script_of bytes lines tail cut within = record { bytes = bytes; within = within; lines = lines; tail = tail; cut = cut }
 
-module _ {E : Type 0} where
+module _ {E : Type 0} {settings : Settings} where
   -- the unfinished last line was done or is quit, or the sink failed at it
-  pub serves_last : (bytes : List ℕ) (left : Option (List ℕ)) (r : Result Flow E) (s : Status) (w m v : World) (x y z line : Option (List ℕ)) (f : Feeds {E = E} [] bytes (Ok flow.On) w m x y line) (within : length bytes ≤ 2 ^ 30) → IsWhole (script_of bytes f.lines f.tail f.cut within) left → MatchResult r (λ _. s ≡ status.Done) (λ _. s ≡ status.WriteFault) → Ends f.tail r m v y z → Serves (script_of bytes f.lines f.tail f.cut within) left s w v x z
+  pub serves_last : (bytes : List ℕ) (left : Option (List ℕ)) (r : Result Flow E) (s : Status) (w m v : World) (x y z line : Option (List ℕ)) (f : Feeds {E = E} settings [] bytes (Ok flow.On) w m x y line) (within : length bytes ≤ 2 ^ 30) → IsWhole (script_of bytes f.lines f.tail f.cut within) left → MatchResult r (λ _. s ≡ status.Done) (λ _. s ≡ status.WriteFault) → Ends settings f.tail r m v y z → Serves settings (script_of bytes f.lines f.tail f.cut within) left s w v x z
   serves_last bytes left (Ok flow.On) s w m v x y z line f within whole is d =
       rw is (record {
         lines = f.lines ++ f.tail ∷ [];
@@ -66,17 +67,17 @@ module _ {E : Type 0} where
       rw is (inr (whole, Stops-after f.lines (f.tail ∷ []) w m v x y z f.does.0 (Stops-one f.tail m v d.0 y z d.1 d.2)))
 
   -- a piece at which the sink failed
-  pub serves_failed : (bytes : List ℕ) (left : Option (List ℕ)) (e : E) (w v : World) (x z line : Option (List ℕ)) (f : Feeds [] bytes (Err e) w v x z line) (within : length bytes ≤ 2 ^ 30) → Serves (script_of bytes f.lines f.tail f.cut within) left status.WriteFault w v x z
+  pub serves_failed : (bytes : List ℕ) (left : Option (List ℕ)) (e : E) (w v : World) (x z line : Option (List ℕ)) (f : Feeds settings [] bytes (Err e) w v x z line) (within : length bytes ≤ 2 ^ 30) → Serves settings (script_of bytes f.lines f.tail f.cut within) left status.WriteFault w v x z
   serves_failed bytes left e w v x z line f within = inl f.does
 
   -- a piece in which a quit ended
-  pub serves_quit : (bytes : List ℕ) (left : Option (List ℕ)) (w v : World) (x z line : Option (List ℕ)) (f : Feeds {E = E} [] bytes (Ok flow.Quit) w v x z line) (within : length bytes ≤ 2 ^ 30) → Serves (script_of bytes f.lines f.tail f.cut within) left status.Done w v x z
+  pub serves_quit : (bytes : List ℕ) (left : Option (List ℕ)) (w v : World) (x z line : Option (List ℕ)) (f : Feeds {E = E} settings [] bytes (Ok flow.Quit) w v x z line) (within : length bytes ≤ 2 ^ 30) → Serves settings (script_of bytes f.lines f.tail f.cut within) left status.Done w v x z
   serves_quit bytes left w v x z line f within = record { lines = f.does.0; end = inl f.does.1; did = f.does.2 }
 
   -- one read more
-  pub fed_more : (bytes buf rest : List ℕ) (n : ℕ) (r : Result Flow E) (w m v : World) (x y z line line' : Option (List ℕ)) → n ≤ length buf → (f : Feeds {E = E} [] bytes (Ok flow.On) w m x y line) → Feeds f.tail (take n (buf ++ rest)) r m v y z line' → Feeds [] (bytes ++ take n buf) r w v x z line'
+  pub fed_more : (bytes buf rest : List ℕ) (n : ℕ) (r : Result Flow E) (w m v : World) (x y z line line' : Option (List ℕ)) → n ≤ length buf → (f : Feeds {E = E} settings [] bytes (Ok flow.On) w m x y line) → Feeds settings f.tail (take n (buf ++ rest)) r m v y z line' → Feeds settings [] (bytes ++ take n buf) r w v x z line'
   fed_more bytes buf rest n r w m v x y z line line' le f k =
-      let P : List ℕ → Type 0 = λ c. Feeds f.tail c r m v y z line' in
+      let P : List ℕ → Type 0 = λ c. Feeds settings f.tail c r m v y z line' in
       Feeds-on [] bytes (take n buf) r w m v x y z line line' f (subst P (take-append-le n buf rest le) k)
 
 pub count_more : (bytes buf : List ℕ) (n taken : ℕ) → n ≤ length buf → length bytes ≡ taken → length (bytes ++ take n buf) ≡ taken + n

@@ -5,6 +5,7 @@ use Rattle.std.proofs.lemmas.List.{append-nil, take_more, take-append-drop}
 use Rattle.tree_outside.specs.Outside.{Stays}
 use Rattle.store_core.specs.Worlds.{World}
 use Rattle.store_shell.specs.Lines.{IsOneLine, IsCut, kept}
+use Rattle.store_core.specs.declared.command.Settings.{Settings}
 use Rattle.store_shell.specs.Feeding.{Ends, Feeds}
 use Rattle.store_shell.specs.declared.script.Flow.{Flow}
 use Rattle.store_shell.specs.declared.script.Flow.TheVariants as flow
@@ -12,8 +13,8 @@ use Rattle.store_shell.proofs.Cuts.{cut_none, cut_one, cut_append, cut_of, one_m
 use Rattle.store_shell.proofs.Kept.{kept-nil}
 use Rattle.store_shell.proofs.Runs.{Did-nil, Did-one, Did-append, Stops-one, Stops-more, Stops-after, Quits-one, Quits-more, Quits-after}
 
-module _ {E : Type 0} where
-  pub Feeds-nil : (p : List ℕ) (w : World) (x y line : Option (List ℕ)) → IsOneLine p → line ≡ kept p → Stays x y → Feeds {E = E} p [] (Ok flow.On) w w x y line
+module _ {E : Type 0} {settings : Settings} where
+  pub Feeds-nil : (p : List ℕ) (w : World) (x y line : Option (List ℕ)) → IsOneLine p → line ≡ kept p → Stays x y → Feeds {E = E} settings p [] (Ok flow.On) w w x y line
   Feeds-nil p w x y line h e s = record {
     lines = [];
     tail = p;
@@ -22,7 +23,7 @@ module _ {E : Type 0} where
   }
 
   -- one byte that ends no line
-  pub Feeds-byte : (p : List ℕ) (b : ℕ) (w : World) (x line : Option (List ℕ)) → IsOneLine p → (b ≡ 10 → ⊥) → line ≡ kept (p ++ b ∷ []) → Stays x x → Feeds {E = E} p (b ∷ []) (Ok flow.On) w w x x line
+  pub Feeds-byte : (p : List ℕ) (b : ℕ) (w : World) (x line : Option (List ℕ)) → IsOneLine p → (b ≡ 10 → ⊥) → line ≡ kept (p ++ b ∷ []) → Stays x x → Feeds {E = E} settings p (b ∷ []) (Ok flow.On) w w x x line
   Feeds-byte p b w x line h ne e s = record {
     lines = [];
     tail = p ++ b ∷ [];
@@ -31,7 +32,7 @@ module _ {E : Type 0} where
   }
 
   -- one line feed
-  pub Feeds-line : (p : List ℕ) (r : Result Flow E) (w v : World) (x y : Option (List ℕ)) → IsOneLine p → Ends p r w v x y → Feeds p (10 ∷ []) r w v x y (Some [])
+  pub Feeds-line : (p : List ℕ) (r : Result Flow E) (w v : World) (x y : Option (List ℕ)) → IsOneLine p → Ends settings p r w v x y → Feeds settings p (10 ∷ []) r w v x y (Some [])
   Feeds-line p (Ok flow.On) w v x y h d = record {
     lines = p ∷ [];
     tail = [];
@@ -52,7 +53,7 @@ module _ {E : Type 0} where
   }
 
   -- two pieces
-  pub Feeds-on : (p a b : List ℕ) (r : Result Flow E) (w m v : World) (x y z line line' : Option (List ℕ)) → (f : Feeds {E = E} p a (Ok flow.On) w m x y line) → Feeds f.tail b r m v y z line' → Feeds p (a ++ b) r w v x z line'
+  pub Feeds-on : (p a b : List ℕ) (r : Result Flow E) (w m v : World) (x y z line line' : Option (List ℕ)) → (f : Feeds {E = E} settings p a (Ok flow.On) w m x y line) → Feeds settings f.tail b r m v y z line' → Feeds settings p (a ++ b) r w v x z line'
   Feeds-on p a b (Ok flow.On) w m v x y z line line' f k = record {
     lines = f.lines ++ k.lines;
     tail = k.tail;
@@ -73,7 +74,7 @@ module _ {E : Type 0} where
   }
 
   -- what comes after a failure
-  pub Feeds-failed : (p a b : List ℕ) (e e' : E) (w v : World) (x z line line' : Option (List ℕ)) → Feeds p a (Err e) w v x z line → Feeds p (a ++ b) (Err e') w v x z line'
+  pub Feeds-failed : (p a b : List ℕ) (e e' : E) (w v : World) (x z line line' : Option (List ℕ)) → Feeds settings p a (Err e) w v x z line → Feeds settings p (a ++ b) (Err e') w v x z line'
   Feeds-failed p a b e e' w v x z line line' f =
       let more = cut_of f.tail b f.cut.rest in record {
         lines = f.lines ++ more.lines;
@@ -83,7 +84,7 @@ module _ {E : Type 0} where
       }
 
   -- what comes after a quit
-  pub Feeds-quit : (p a b : List ℕ) (w v : World) (x z line line' : Option (List ℕ)) → Feeds {E = E} p a (Ok flow.Quit) w v x z line → Feeds {E = E} p (a ++ b) (Ok flow.Quit) w v x z line'
+  pub Feeds-quit : (p a b : List ℕ) (w v : World) (x z line line' : Option (List ℕ)) → Feeds {E = E} settings p a (Ok flow.Quit) w v x z line → Feeds {E = E} settings p (a ++ b) (Ok flow.Quit) w v x z line'
   Feeds-quit p a b w v x z line line' f =
       let more = cut_of f.tail b f.cut.rest in record {
         lines = f.lines ++ more.lines;
@@ -93,18 +94,18 @@ module _ {E : Type 0} where
       }
 
   -- one byte more of a piece
-  pub Feeds-next : (p c : List ℕ) (i : ℕ) (r : Result Flow E) (w m v : World) (x y z line line' : Option (List ℕ)) → i < length c → (f : Feeds {E = E} p (take i c) (Ok flow.On) w m x y line) → Feeds f.tail (get_or c i 0 ∷ []) r m v y z line' → Feeds p (take (i + 1) c) r w v x z line'
+  pub Feeds-next : (p c : List ℕ) (i : ℕ) (r : Result Flow E) (w m v : World) (x y z line line' : Option (List ℕ)) → i < length c → (f : Feeds {E = E} settings p (take i c) (Ok flow.On) w m x y line) → Feeds settings f.tail (get_or c i 0 ∷ []) r m v y z line' → Feeds settings p (take (i + 1) c) r w v x z line'
   Feeds-next p c i r w m v x y z line line' lt f k =
       rw (take_more c i 0 lt) (Feeds-on p (take i c) (get_or c i 0 ∷ []) r w m v x y z line line' f k)
 
   -- a failure in the midst of a piece
-  pub Feeds-all : (p c : List ℕ) (n : ℕ) (e e' : E) (w v : World) (x z line : Option (List ℕ)) → Feeds p (take n c) (Err e) w v x z line → Feeds p c (Err e') w v x z line
+  pub Feeds-all : (p c : List ℕ) (n : ℕ) (e e' : E) (w v : World) (x z line : Option (List ℕ)) → Feeds settings p (take n c) (Err e) w v x z line → Feeds settings p c (Err e') w v x z line
   Feeds-all p c n e e' w v x z line f =
-      let P : List ℕ → Type 0 = λ bytes. Feeds p bytes (Err e') w v x z line in
+      let P : List ℕ → Type 0 = λ bytes. Feeds settings p bytes (Err e') w v x z line in
       subst P (take-append-drop n c) (Feeds-failed p (take n c) (drop n c) e e' w v x z line line f)
 
   -- a quit in the midst of a piece
-  pub Feeds-ended : (p c : List ℕ) (n : ℕ) (w v : World) (x z line : Option (List ℕ)) → Feeds {E = E} p (take n c) (Ok flow.Quit) w v x z line → Feeds {E = E} p c (Ok flow.Quit) w v x z line
+  pub Feeds-ended : (p c : List ℕ) (n : ℕ) (w v : World) (x z line : Option (List ℕ)) → Feeds {E = E} settings p (take n c) (Ok flow.Quit) w v x z line → Feeds {E = E} settings p c (Ok flow.Quit) w v x z line
   Feeds-ended p c n w v x z line f =
-      let P : List ℕ → Type 0 = λ bytes. Feeds {E = E} p bytes (Ok flow.Quit) w v x z line in
+      let P : List ℕ → Type 0 = λ bytes. Feeds {E = E} settings p bytes (Ok flow.Quit) w v x z line in
       subst P (take-append-drop n c) (Feeds-quit p (take n c) (drop n c) w v x z line line f)

@@ -6,6 +6,7 @@ use Rattle.std.proofs.lemmas.List.Elements.{All-nil, All-cons, All-append}
 use Rattle.tree_outside.specs.Outside.{Gets, GetsFront, Stays}
 use Rattle.tree_outside.proofs.Beside.{Stays-refl}
 use Rattle.store_core.specs.Worlds.{World, IsLawfulState}
+use Rattle.store_core.specs.declared.command.Settings.{Settings}
 use Rattle.store_shell.specs.Feeding.{Goes}
 use Rattle.store_shell.specs.Forms.{Form, Empty, Long, Bad, Quit, Command, IsForm}
 use Rattle.store_shell.specs.Runs.{One, DoesLine, Run}
@@ -17,32 +18,32 @@ use Rattle.tree_outside.proofs.Sinks.{Gets-append, Gets-stays}
 abbrev NoQuit : List ℕ → Type 0
 NoQuit line = IsForm line Quit → ⊥
 
-pub Run-one : (line : List ℕ) (w v : World) (out : List ℕ) → DoesLine line w out v → Run (line ∷ []) w out v
+pub Run-one : {settings : Settings} (line : List ℕ) (w v : World) (out : List ℕ) → DoesLine settings line w out v → Run settings (line ∷ []) w out v
 Run-one line w v out h = (v, out, [], h, (refl, refl), sym (append-nil out))
 
-pub Run-append : (ls ms : List (List ℕ)) (w m v : World) (a b : List ℕ) → Run ls w a m → Run ms m b v → Run (ls ++ ms) w (a ++ b) v
-Run-append [] ms w m v a b h k =
-    let P : World → Type 0 = λ u. Run ms u b v in
-    let Q : List ℕ → Type 0 = λ z. Run ms w (z ++ b) v in
+pub Run-append : (settings : Settings) (ls ms : List (List ℕ)) (w m v : World) (a b : List ℕ) → Run settings ls w a m → Run settings ms m b v → Run settings (ls ++ ms) w (a ++ b) v
+Run-append settings [] ms w m v a b h k =
+    let P : World → Type 0 = λ u. Run settings ms u b v in
+    let Q : List ℕ → Type 0 = λ z. Run settings ms w (z ++ b) v in
     subst Q (sym h.0) (subst P h.1 k)
-Run-append (l ∷ ls) ms w m v a b h k =
-    (h.0, h.1, h.2 ++ b, h.3, Run-append ls ms h.0 m v h.2 b h.4 k, ap (λ z. z ++ b) h.5 ∙ append_assoc h.1 h.2 b)
+Run-append settings (l ∷ ls) ms w m v a b h k =
+    (h.0, h.1, h.2 ++ b, h.3, Run-append settings ls ms h.0 m v h.2 b h.4 k, ap (λ z. z ++ b) h.5 ∙ append_assoc h.1 h.2 b)
 
-pub Did-nil : (w : World) (x y : Option (List ℕ)) → Stays x y → Did [] w w x y
+pub Did-nil : {settings : Settings} (w : World) (x y : Option (List ℕ)) → Stays x y → Did settings [] w w x y
 Did-nil w x y h = record { no_quit = All-nil NoQuit; out = []; ran = (refl, refl); got = Gets-stays x y h }
 
-pub Did-one : (line : List ℕ) (w v : World) (out : List ℕ) (x y : Option (List ℕ)) → Goes line w out v → Gets x y out → Did (line ∷ []) w v x y
+pub Did-one : {settings : Settings} (line : List ℕ) (w v : World) (out : List ℕ) (x y : Option (List ℕ)) → Goes settings line w out v → Gets x y out → Did settings (line ∷ []) w v x y
 Did-one line w v out x y h g = record { no_quit = All-cons NoQuit line [] h.no_quit (All-nil NoQuit); out = out; ran = Run-one line w v out h.does; got = g }
 
-pub Did-append : (ls ms : List (List ℕ)) (w m v : World) (x y z : Option (List ℕ)) → Did ls w m x y → Did ms m v y z → Did (ls ++ ms) w v x z
-Did-append ls ms w m v x y z h k = record {
+pub Did-append : {settings : Settings} (ls ms : List (List ℕ)) (w m v : World) (x y z : Option (List ℕ)) → Did settings ls w m x y → Did settings ms m v y z → Did settings (ls ++ ms) w v x z
+Did-append {settings} ls ms w m v x y z h k = record {
   no_quit = All-append NoQuit ls ms h.no_quit k.no_quit;
   out = h.out ++ k.out;
-  ran = Run-append ls ms w m v h.out k.out h.ran k.ran;
+  ran = Run-append settings ls ms w m v h.out k.out h.ran k.ran;
   got = Gets-append x y z h.out k.out h.got k.got;
 }
 
-pub Stops-one : (line : List ℕ) (w v : World) (text : List ℕ) (x y : Option (List ℕ)) → Goes line w text v → GetsFront x y text → Stops (line ∷ []) w v x y
+pub Stops-one : {settings : Settings} (line : List ℕ) (w v : World) (text : List ℕ) (x y : Option (List ℕ)) → Goes settings line w text v → GetsFront x y text → Stops settings (line ∷ []) w v x y
 Stops-one line w v text x y h g = record {
   done = [];
   last = line;
@@ -58,7 +59,7 @@ Stops-one line w v text x y h g = record {
 }
 
 -- lines that come later change nothing
-pub Stops-more : (ls ms : List (List ℕ)) (w v : World) (x y : Option (List ℕ)) → Stops ls w v x y → Stops (ls ++ ms) w v x y
+pub Stops-more : {settings : Settings} (ls ms : List (List ℕ)) (w v : World) (x y : Option (List ℕ)) → Stops settings ls w v x y → Stops settings (ls ++ ms) w v x y
 Stops-more ls ms w v x y s = record {
   done = s.done;
   last = s.last;
@@ -73,7 +74,7 @@ Stops-more ls ms w v x y s = record {
   got = s.got;
 }
 
-pub Stops-after : (ls ms : List (List ℕ)) (w m v : World) (x y z : Option (List ℕ)) → Did ls w m x y → Stops ms m v y z → Stops (ls ++ ms) w v x z
+pub Stops-after : {settings : Settings} (ls ms : List (List ℕ)) (w m v : World) (x y z : Option (List ℕ)) → Did settings ls w m x y → Stops settings ms m v y z → Stops settings (ls ++ ms) w v x z
 Stops-after ls ms w m v x y z h s = record {
   done = ls ++ s.done;
   last = s.last;
@@ -109,17 +110,17 @@ Quits-after ls ms done q = record {
 }
 
 -- a line of another form
-pub Goes-as : (line : List ℕ) (form : Form) (w v : World) (out : List ℕ) → (form ≡ Quit → ⊥) → IsForm line form → One form w out v → Goes line w out v
+pub Goes-as : {settings : Settings} (line : List ℕ) (form : Form) (w v : World) (out : List ℕ) → (form ≡ Quit → ⊥) → IsForm line form → One settings form w out v → Goes settings line w out v
 Goes-as line form w v out ne h one = record { no_quit = no_quit line form h ne; does = record { form = form; says = h; does = one } }
 
 -- ---- lawful states
-one_lawful : (form : Form) (w v : World) (out : List ℕ) → IsLawfulState w.state → One form w out v → IsLawfulState v.state
-one_lawful Empty w v out h one = subst (λ (u : World). IsLawfulState u.state) (sym one.1) h
-one_lawful Long w v out h one = subst (λ (u : World). IsLawfulState u.state) (sym one.1) h
-one_lawful Bad w v out h one = subst (λ (u : World). IsLawfulState u.state) (sym one.1) h
-one_lawful Quit w v out h one = subst (λ (u : World). IsLawfulState u.state) (sym one.1) h
-one_lawful (Command act) w v out h one = one.after
+one_lawful : (settings : Settings) (form : Form) (w v : World) (out : List ℕ) → IsLawfulState w.state → One settings form w out v → IsLawfulState v.state
+one_lawful settings Empty w v out h one = subst (λ (u : World). IsLawfulState u.state) (sym one.1) h
+one_lawful settings Long w v out h one = subst (λ (u : World). IsLawfulState u.state) (sym one.1) h
+one_lawful settings Bad w v out h one = subst (λ (u : World). IsLawfulState u.state) (sym one.1) h
+one_lawful settings Quit w v out h one = subst (λ (u : World). IsLawfulState u.state) (sym one.1) h
+one_lawful settings (Command act) w v out h one = one.after
 
-pub Run-lawful : (lines : List (List ℕ)) (w v : World) (out : List ℕ) → IsLawfulState w.state → Run lines w out v → IsLawfulState v.state
-Run-lawful [] w v out h r = subst (λ (u : World). IsLawfulState u.state) (sym r.1) h
-Run-lawful (l ∷ ls) w v out h r = Run-lawful ls r.0 v r.2 (one_lawful r.3.form w r.0 r.1 h r.3.does) r.4
+pub Run-lawful : (settings : Settings) (lines : List (List ℕ)) (w v : World) (out : List ℕ) → IsLawfulState w.state → Run settings lines w out v → IsLawfulState v.state
+Run-lawful settings [] w v out h r = subst (λ (u : World). IsLawfulState u.state) (sym r.1) h
+Run-lawful settings (l ∷ ls) w v out h r = Run-lawful settings ls r.0 v r.2 (one_lawful settings r.3.form w r.0 r.1 h r.3.does) r.4

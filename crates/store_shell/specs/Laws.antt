@@ -4,6 +4,7 @@ use Rattle.store_shell.specs.Forms.{Form, IsForm}
 use Rattle.store_shell.specs.Lines.{IsCut}
 use Rattle.store_shell.specs.Runs.{Run}
 use Rattle.store_core.specs.Worlds.{World, IsLawfulState}
+use Rattle.store_core.specs.declared.command.Settings.{Settings}
 
 -- bytes are cut into lines and a tail in one way alone
 abbrev pub CutsOne : Type 0
@@ -19,4 +20,4 @@ HasOneForm = (line : List ℕ) (form form' : Form) → IsForm line form → IsFo
 
 -- A run from a lawful state leaves one. Each part of a run is a run, so every state of it is lawful.
 abbrev pub RunsStayLawful : Type 0
-RunsStayLawful = (lines : List (List ℕ)) (old new : World) (out : List ℕ) → IsLawfulState old.state → Run lines old out new → IsLawfulState new.state
+RunsStayLawful = (settings : Settings) (lines : List (List ℕ)) (old new : World) (out : List ℕ) → IsLawfulState old.state → Run settings lines old out new → IsLawfulState new.state

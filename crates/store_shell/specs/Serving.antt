@@ -2,6 +2,7 @@
 use Rattle.std.specs.Prelude.{◌≡◌, ◌<◌, ◌≤◌, ◌^◌, ◌⊎◌, ℕ, List, [], ◌∷◌, ◌++◌, length, Option, IfSome}
 use Rattle.tree_outside.specs.Outside.{Gets, GetsFront, Stays}
 use Rattle.store_core.specs.Worlds.{World}
+use Rattle.store_core.specs.declared.command.Settings.{Settings}
 use Rattle.store_shell.specs.Forms.{Quit, IsForm, HasNoQuit}
 use Rattle.store_shell.specs.Lines.{IsCut}
 use Rattle.store_shell.specs.Runs.{DoesLine, Run}
@@ -17,15 +18,15 @@ pub record Script : Type 0 where
   pub cut : IsCut bytes lines tail
 
 -- no quit is among these lines, they were done, and the sink got their text
-pub record Did (lines : List (List ℕ)) (old new : World) (before now : Option (List ℕ)) : Type 0 where
+pub record Did (settings : Settings) (lines : List (List ℕ)) (old new : World) (before now : Option (List ℕ)) : Type 0 where
   pub no_quit : HasNoQuit lines
   pub out : List ℕ
-  pub ran : Run lines old out new
+  pub ran : Run settings lines old out new
   pub got : Gets before now out
 
 -- The sink failed at one of the lines, which isn't quit: session and files stand as after it, and the sink got the text of
 -- the lines before it and a front of its own.
-pub record Stops (lines : List (List ℕ)) (old new : World) (before now : Option (List ℕ)) : Type 0 where
+pub record Stops (settings : Settings) (lines : List (List ℕ)) (old new : World) (before now : Option (List ℕ)) : Type 0 where
   pub done : List (List ℕ)
   pub last : List ℕ
   pub later : List (List ℕ)
@@ -33,9 +34,9 @@ pub record Stops (lines : List (List ℕ)) (old new : World) (before now : Optio
   pub no_quit : IsForm last Quit → ⊥
   pub mid : World
   pub between : Option (List ℕ)
-  pub did : Did done old mid before between
+  pub did : Did settings done old mid before between
   pub text : List ℕ
-  pub does : DoesLine last mid text new
+  pub does : DoesLine settings last mid text new
   pub got : GetsFront between now text
 
 -- one of the lines is quit, and these come before it
@@ -55,10 +56,10 @@ abbrev pub all_lines : Script → List (List ℕ)
 all_lines script = script.lines ++ script.tail ∷ []
 
 -- The script was done: the lines before a quit that ended, or where nothing was left all lines, or those before a quit.
-pub record Finishes (script : Script) (left : Option (List ℕ)) (old new : World) (before now : Option (List ℕ)) : Type 0 where
+pub record Finishes (settings : Settings) (script : Script) (left : Option (List ℕ)) (old new : World) (before now : Option (List ℕ)) : Type 0 where
   pub lines : List (List ℕ)
   pub end : Quits script.lines lines ⊎ (IsWhole script left × ((lines ≡ all_lines script) ⊎ Quits (all_lines script) lines))
-  pub did : Did lines old new before now
+  pub did : Did settings lines old new before now
 
 -- the words were refused, or there was no memory to begin with
 abbrev pub IsRefused : Status → Type 0
@@ -72,15 +73,19 @@ pub record Refused (script : Script) (old new : World) (before now : Option (Lis
   pub world : new ≡ old
   pub got : Stays before now
 
+-- the settings of a script: no words change them as yet
+abbrev pub default_settings : Settings
+default_settings = record { rank = 4; repair = 1 }
+
 -- what a status says of the script taken, of what was left in the source before, of the worlds and of the sink
-abbrev pub Serves : Script → Option (List ℕ) → Status → World → World → Option (List ℕ) → Option (List ℕ) → Type 0
-Serves script left status.Done old new before now = Finishes script left old new before now
-Serves script left status.ReadFault old new before now = (length script.bytes < 2 ^ 30) × Did script.lines old new before now
-Serves script left status.LongScript old new before now = (length script.bytes ≡ 2 ^ 30) × Did script.lines old new before now
-Serves script left status.WriteFault old new before now =
-    Stops script.lines old new before now ⊎ (IsWhole script left × Stops (all_lines script) old new before now)
-Serves script left status.Words old new before now = Refused script old new before now
-Serves script left status.Memory old new before now = Refused script old new before now
+abbrev pub Serves : Settings → Script → Option (List ℕ) → Status → World → World → Option (List ℕ) → Option (List ℕ) → Type 0
+Serves settings script left status.Done old new before now = Finishes settings script left old new before now
+Serves settings script left status.ReadFault old new before now = (length script.bytes < 2 ^ 30) × Did settings script.lines old new before now
+Serves settings script left status.LongScript old new before now = (length script.bytes ≡ 2 ^ 30) × Did settings script.lines old new before now
+Serves settings script left status.WriteFault old new before now =
+    Stops settings script.lines old new before now ⊎ (IsWhole script left × Stops settings (all_lines script) old new before now)
+Serves settings script left status.Words old new before now = Refused script old new before now
+Serves settings script left status.Memory old new before now = Refused script old new before now
 
 -- the exit status with which a program says how a script ended
 abbrev pub exit_status : Status → ℕ

@@ -6,7 +6,7 @@ ghost use Rattle.tree_outside.specs.Shelf.{Keeps};
 ghost use Rattle.store_core.specs.Worlds.{world};
 ghost use Rattle.store_shell.specs.Lines.{IsOneLine, kept};
 ghost use Rattle.store_shell.specs.Feeding.{Ends, Feeds};
-ghost use Rattle.store_shell.specs.Serving.{Script, Serves, IsRefused};
+ghost use Rattle.store_shell.specs.Serving.{Script, Serves, IsRefused, default_settings};
 
 use crate::line::Line;
 use crate::parse::{Parsed, parse};
@@ -45,7 +45,7 @@ pub fn serve<S: Source, K: Sink, F: Shelf, L: Ledger>(
     steps: &mut Steps<L>,
 ) -> Status
     ensures serves { (script : Script) × Takes (S.left source.old) (S.left source.new) script.bytes
-        × Serves script (S.left source.old) result
+        × Serves default_settings script (S.left source.old) result
         (world session.old (F.told shelf.old) (F.faults shelf.old)) (world session.new (F.told shelf.new) (F.faults shelf.new))
         (K.got sink.old) (K.got sink.new) }
     ensures untouched { IsRefused result → (source.new ≡ source.old) × (sink.new ≡ sink.old) × (shelf.new ≡ shelf.old) }
@@ -68,13 +68,15 @@ pub fn serve<S: Source, K: Sink, F: Shelf, L: Ledger>(
         match source.read(&mut piece[..room]) {
             Err(Failed) => return Status::ReadFault,
             Ok(0) => {
-                let last = end_line(alloc, session, line.bytes(), sink, shelf, steps);
+                let last = end_line(alloc, session, line.bytes(), SETTINGS, sink, shelf, steps);
                 return last_status(last);
             }
             Ok(count) => {
                 taken += count;
                 let piece = &piece[..count];
-                match feed(alloc, session, &mut line, piece, sink, shelf, steps) {
+                match feed(
+                    alloc, session, &mut line, piece, SETTINGS, sink, shelf, steps,
+                ) {
                     Ok(Flow::On) => {}
                     Ok(Flow::Quit) => return Status::Done,
                     Err(SinkFailed) => return Status::WriteFault,
@@ -101,11 +103,13 @@ fn feed<K: Sink, F: Shelf, L: Ledger>(
     session: &mut Session,
     line: &mut Line,
     piece: &[u8],
+    settings: Settings,
     sink: &mut K,
     shelf: &mut F,
     steps: &mut Steps<L>,
 ) -> Result<Flow, SinkFailed>
-    ensures feeds { (part : List ℕ) → IsOneLine part → line.old ≡ kept part → Feeds part piece.now result
+    requires rank { (1 ≤ settings.rank) × (settings.rank ≤ 8) }
+    ensures feeds { (part : List ℕ) → IsOneLine part → line.old ≡ kept part → Feeds settings part piece.now result
         (world session.old (F.told shelf.old) (F.faults shelf.old)) (world session.new (F.told shelf.new) (F.faults shelf.new))
         (K.got sink.old) (K.got sink.new) line.new }
     ensures later { F.faults shelf.old ≤ F.faults shelf.new }
@@ -113,7 +117,7 @@ fn feed<K: Sink, F: Shelf, L: Ledger>(
     ensures cause { HasCause (K.faults sink.old) (K.faults sink.new) result }
 {
     for byte in piece {
-        match feed_byte(alloc, session, line, *byte, sink, shelf, steps)? {
+        match feed_byte(alloc, session, line, *byte, settings, sink, shelf, steps)? {
             Flow::On => {}
             Flow::Quit => return Ok(Flow::Quit),
         }
@@ -127,11 +131,13 @@ fn feed_byte<K: Sink, F: Shelf, L: Ledger>(
     session: &mut Session,
     line: &mut Line,
     byte: u8,
+    settings: Settings,
     sink: &mut K,
     shelf: &mut F,
     steps: &mut Steps<L>,
 ) -> Result<Flow, SinkFailed>
-    ensures feeds { (part : List ℕ) → IsOneLine part → line.old ≡ kept part → Feeds part (byte ∷ []) result
+    requires rank { (1 ≤ settings.rank) × (settings.rank ≤ 8) }
+    ensures feeds { (part : List ℕ) → IsOneLine part → line.old ≡ kept part → Feeds settings part (byte ∷ []) result
         (world session.old (F.told shelf.old) (F.faults shelf.old)) (world session.new (F.told shelf.new) (F.faults shelf.new))
         (K.got sink.old) (K.got sink.new) line.new }
     ensures later { F.faults shelf.old ≤ F.faults shelf.new }
@@ -142,7 +148,7 @@ fn feed_byte<K: Sink, F: Shelf, L: Ledger>(
         line.push(byte);
         return Ok(Flow::On);
     }
-    let done = end_line(alloc, session, line.bytes(), sink, shelf, steps);
+    let done = end_line(alloc, session, line.bytes(), settings, sink, shelf, steps);
     line.clear();
     done
 }
@@ -152,11 +158,13 @@ fn end_line<K: Sink, F: Shelf, L: Ledger>(
     alloc: Global,
     session: &mut Session,
     line: Option<&[u8]>,
+    settings: Settings,
     sink: &mut K,
     shelf: &mut F,
     steps: &mut Steps<L>,
 ) -> Result<Flow, SinkFailed>
-    ensures ends { (bytes : List ℕ) → option_copied line.entry ≡ kept bytes → Ends bytes result
+    requires rank { (1 ≤ settings.rank) × (settings.rank ≤ 8) }
+    ensures ends { (bytes : List ℕ) → option_copied line.entry ≡ kept bytes → Ends settings bytes result
         (world session.old (F.told shelf.old) (F.faults shelf.old)) (world session.new (F.told shelf.new) (F.faults shelf.new))
         (K.got sink.old) (K.got sink.new) }
     ensures later { F.faults shelf.old ≤ F.faults shelf.new }
@@ -169,7 +177,7 @@ fn end_line<K: Sink, F: Shelf, L: Ledger>(
         Parsed::Bad => sink.write(b"! bad-command\n")?,
         Parsed::Quit => return Ok(Flow::Quit),
         Parsed::Command(command) => {
-            session.command(alloc, command, SETTINGS, sink, shelf, steps)?;
+            session.command(alloc, command, settings, sink, shelf, steps)?;
         }
     }
     Ok(Flow::On)

@@ -16,7 +16,7 @@ returns-then-nodes-size g c = λ cursor begins.
     room-for-each c.total-nodes.result 0 (tokens_of store.grammar.rules cursor) (omega (arith, nodes, walk-opens store.grammar.rules c.args.number cursor begins))
 
 pub returns-then-number-eq0 : goal.returns-then-number-eq0
-returns-then-number-eq0 g c = IfOk-weaker c.most_open.result _ _ (λ places rises. root-enough c.args.store.now c.args.number places c.if-number-eq0.true rises) c.most_open.ensures
+returns-then-number-eq0 g c = IfOk-weaker c.most_open.result _ _ (λ places rises. root-enough c.args.store.now c.args.number places c.if-number-eq0.true rises) c.most_open.ensures.bound
 
 pub returns-in-Some : goal.returns-in-Some
 returns-in-Some g c = λ cursor begins.

@@ -46,7 +46,7 @@ returns-in-Quit-clause-feeds g c = λ part one e.
     let so_far = c.loop-byte.invariant.feeds part one e in
     let at = c.in_ok-feed_byte.ensures.feeds so_far.tail so_far.cut.rest so_far.does.1 in
     let next = Feeds-next part piece i (Ok c.in_ok-feed_byte.field-0) w0 w1 w2 g0 g1 g2 c.loop-byte.line c.feed_byte.new.line c.loop-byte-test.true so_far at in
-    let P : Flow → Type 0 = λ r. Feeds {E = SinkFailed} part (take (i + 1) piece) (Ok r) w0 w2 g0 g2 c.feed_byte.new.line in
+    let P : Flow → Type 0 = λ r. Feeds {E = SinkFailed} c.args.settings part (take (i + 1) piece) (Ok r) w0 w2 g0 g2 c.feed_byte.new.line in
     Feeds-ended part piece (i + 1) w0 w2 g0 g2 c.feed_byte.new.line (subst P c.in-Quit.is next)
 
 pub loop-byte-preserved : goal.loop-byte-preserved
@@ -63,7 +63,7 @@ loop-byte-preserved g c = record {
       let so_far = c.loop-byte.invariant.feeds part one e in
       let at = c.in_ok-feed_byte.ensures.feeds so_far.tail so_far.cut.rest so_far.does.1 in
       let next = Feeds-next part piece i (Ok c.in_ok-feed_byte.field-0) w0 w1 w2 g0 g1 g2 c.loop-byte.line c.feed_byte.new.line c.loop-byte-test.true so_far at in
-      let P : Flow → Type 0 = λ r. Feeds {E = SinkFailed} part (take (i + 1) piece) (Ok r) w0 w2 g0 g2 c.feed_byte.new.line in
+      let P : Flow → Type 0 = λ r. Feeds {E = SinkFailed} c.args.settings part (take (i + 1) piece) (Ok r) w0 w2 g0 g2 c.feed_byte.new.line in
       subst P c.in-On.is next;
   later = omega (arith, c.in_ok-feed_byte.ensures.cause.later);
   shelf = omega (arith, c.in_ok-feed_byte.ensures.later);

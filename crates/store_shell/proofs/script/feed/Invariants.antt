@@ -9,7 +9,7 @@ use Rattle.store_shell.proofs.script.feed.Given as goal
 
 abbrev pub invariant-loop-byte : goal.invariant-loop-byte
 invariant-loop-byte g l = record {
-  feeds : (part : List ℕ) → IsOneLine part → l.fn.line ≡ kept part → Feeds {E = SinkFailed} part (take l.byte-index l.piece) (Ok flow.On)
+  feeds : (part : List ℕ) → IsOneLine part → l.fn.line ≡ kept part → Feeds {E = SinkFailed} l.fn.settings part (take l.byte-index l.piece) (Ok flow.On)
       (world l.fn.session (g.F.Shelf.told l.fn.shelf) (g.F.Shelf.faults l.fn.shelf)) (world l.session (g.F.Shelf.told l.shelf) (g.F.Shelf.faults l.shelf))
       (g.K.Sink.got l.fn.sink) (g.K.Sink.got l.sink) l.line;
   later : g.K.Sink.faults l.fn.sink ≤ g.K.Sink.faults l.sink;

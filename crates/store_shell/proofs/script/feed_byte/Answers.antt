@@ -20,6 +20,6 @@ returns-clause-feeds g c = λ part one e.
     let g0 : Option (List ℕ) = g.K.Sink.got c.args.sink.now in
     let g1 : Option (List ℕ) = g.K.Sink.got c.end_line-done.new.sink in
     let ends = c.end_line-done.ensures.ends part (c.bytes.ensures ∙ e) in
-    let Q : ℕ → Type 0 = λ byte. Feeds part (byte ∷ []) c.end_line-done.result w0 w1 g0 g1 (Some []) in
+    let Q : ℕ → Type 0 = λ byte. Feeds c.args.settings part (byte ∷ []) c.end_line-done.result w0 w1 g0 g1 (Some []) in
     let ten : 10 ≡ c.args.byte = omega arith in
     rw c.clear.ensures (subst Q ten (Feeds-line part c.end_line-done.result w0 w1 g0 g1 one ends))

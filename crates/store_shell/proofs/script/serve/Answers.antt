@@ -5,6 +5,7 @@ use Rattle.tree_outside.proofs.Beside.{Stays-refl, Keeps-refl, Keeps-trans}
 use Rattle.store_core.specs.Worlds.{World, world}
 use Rattle.store_core.specs.declared.session.SinkFailed.{SinkFailed}
 use Rattle.store_shell.specs.Feeding.{Feeds}
+use Rattle.store_shell.specs.Serving.{default_settings}
 use Rattle.store_shell.specs.declared.script.Flow.{Flow}
 use Rattle.store_shell.proofs.Cuts.{nothing}
 use Rattle.store_shell.proofs.Ending.{Takes-nil, Takes-append, Takes-stays, Takes-all, no_script, script_of, serves_last, serves_failed, serves_quit, fed_more, count_more}
@@ -92,7 +93,7 @@ loop-taken-preserved g c =
     let buf : List ℕ = c.read.new.buf in
     let le : n ≤ length buf = c.in-Ok-read.ensures.count in
     let all = fed_more inv.bytes buf (drop c.min-room.result c.loop-taken.piece) n c.feed.result w0 w1 w2 g0 g1 g2 c.loop-taken.line c.feed.new.line le inv.fed (c.feed.ensures.feeds inv.fed.tail inv.fed.cut.rest inv.fed.does.1) in
-    let P : Result Flow SinkFailed → Type 0 = λ r. Feeds [] (inv.bytes ++ take n buf) r w0 w2 g0 g2 c.feed.new.line in
+    let P : Result Flow SinkFailed → Type 0 = λ r. Feeds default_settings [] (inv.bytes ++ take n buf) r w0 w2 g0 g2 c.feed.new.line in
     record {
       within = omega (arith, length-take {A = ℕ});
       bytes = inv.bytes ++ take n buf;
@@ -121,7 +122,7 @@ returns-in-Ok-Quit-clause-serves g c =
     let buf : List ℕ = c.read.new.buf in
     let le : n ≤ length buf = c.in-Ok-read.ensures.count in
     let all = fed_more inv.bytes buf (drop c.min-room.result c.loop-taken.piece) n c.feed.result w0 w1 w2 g0 g1 g2 c.loop-taken.line c.feed.new.line le inv.fed (c.feed.ensures.feeds inv.fed.tail inv.fed.cut.rest inv.fed.does.1) in
-    let P : Result Flow SinkFailed → Type 0 = λ r. Feeds [] (inv.bytes ++ take n buf) r w0 w2 g0 g2 c.feed.new.line in
+    let P : Result Flow SinkFailed → Type 0 = λ r. Feeds default_settings [] (inv.bytes ++ take n buf) r w0 w2 g0 g2 c.feed.new.line in
     let within : length (inv.bytes ++ take n buf) ≤ 2 ^ 30 = omega (arith, count_more inv.bytes buf n c.loop-taken.taken le inv.count, length-take {A = ℕ}) in
     let fed = subst P (c.in-Ok-Quit.is ∙ ap Ok c.in-Ok-Quit.field-0-is) all in (
       script_of (inv.bytes ++ take n buf) fed.lines fed.tail fed.cut within,
@@ -145,7 +146,7 @@ returns-in-Err-feed-clause-serves g c =
     let buf : List ℕ = c.read.new.buf in
     let le : n ≤ length buf = c.in-Ok-read.ensures.count in
     let all = fed_more inv.bytes buf (drop c.min-room.result c.loop-taken.piece) n c.feed.result w0 w1 w2 g0 g1 g2 c.loop-taken.line c.feed.new.line le inv.fed (c.feed.ensures.feeds inv.fed.tail inv.fed.cut.rest inv.fed.does.1) in
-    let P : Result Flow SinkFailed → Type 0 = λ r. Feeds [] (inv.bytes ++ take n buf) r w0 w2 g0 g2 c.feed.new.line in
+    let P : Result Flow SinkFailed → Type 0 = λ r. Feeds default_settings [] (inv.bytes ++ take n buf) r w0 w2 g0 g2 c.feed.new.line in
     let within : length (inv.bytes ++ take n buf) ≤ 2 ^ 30 = omega (arith, count_more inv.bytes buf n c.loop-taken.taken le inv.count, length-take {A = ℕ}) in
     let fed = subst P c.in-Err-feed.is all in (
       script_of (inv.bytes ++ take n buf) fed.lines fed.tail fed.cut within,

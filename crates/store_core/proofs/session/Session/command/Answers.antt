@@ -11,7 +11,7 @@ returns-clause-step g c =
     let e = c.in_ok-outcome.ensures in
     let prints = e.prints in (
       prints.0 ++ line_of c.in_ok-outcome.outcome,
-      comes_step (act_of c.args.command) _ _ prints.0 c.in_ok-outcome.outcome e.lawful.0 e.lawful.1 e.later prints.2,
+      comes_step c.args.settings (act_of c.args.command) _ _ prints.0 c.in_ok-outcome.outcome e.lawful.0 e.lawful.1 e.later prints.2,
       Gets-append _ _ _ prints.0 (line_of c.in_ok-outcome.outcome) prints.1 c.in_ok-write_line.ensures.content,
     )
 
@@ -22,6 +22,17 @@ returns-in_err-write_line-clause-step g c =
     let prints = e.prints in
     rw p.1 (
       prints.0 ++ line_of c.in_ok-outcome.outcome,
-      comes_step (act_of c.args.command) _ _ prints.0 c.in_ok-outcome.outcome e.lawful.0 e.lawful.1 e.later prints.2,
+      comes_step c.args.settings (act_of c.args.command) _ _ prints.0 c.in_ok-outcome.outcome e.lawful.0 e.lawful.1 e.later prints.2,
       GetsFront-after _ _ _ prints.0 (line_of c.in_ok-outcome.outcome) prints.1 c.in_err-write_line.ensures.content,
+    )
+
+pub returns-in_err-outcome-clause-step : goal.returns-in_err-outcome-clause-step
+returns-in_err-outcome-clause-step g c =
+    let p = err_from_is_err_and c.from_residual.result c.from_residual.ensures.1 in
+    let e = c.in_err-outcome.ensures in
+    let prints = e.prints in
+    rw p.1 (
+      prints.0 ++ line_of prints.1,
+      comes_step c.args.settings (act_of c.args.command) _ _ prints.0 prints.1 e.lawful.0 e.lawful.1 e.later prints.3,
+      prints.2,
     )

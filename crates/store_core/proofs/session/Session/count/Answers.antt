@@ -6,7 +6,7 @@ use Rattle.store_core.proofs.Asked.{counts_told}
 use Rattle.store_core.proofs.session.Session.count.Goals as goal
 
 pub returns-clause-comes : goal.returns-clause-comes
-returns-clause-comes g c = λ told count.
+returns-clause-comes g c = λ settings told count.
     let parts = parts_of c.in-Some.store in
     let held : c.args.self.now ≡ Some parts = sym c.self.view_is ∙ ap (option_map parts_of) c.in-Some.is in
     let lawful : AreLawfulParts parts = rw c.in-Some.is at c.self.invariant.0 in

@@ -6,13 +6,13 @@ pub returns-in-Load-clause-prints : goal.returns-in-Load-clause-prints
 returns-in-Load-clause-prints g c = rw c.in-Load.is ([], Gets-nil (g.K.Sink.got c.args.sink.now), c.load.ensures.comes)
 
 pub returns-in-LoadGrammar-clause-prints : goal.returns-in-LoadGrammar-clause-prints
-returns-in-LoadGrammar-clause-prints g c = rw c.in-LoadGrammar.is ([], Gets-nil (g.K.Sink.got c.args.sink.now), c.load_grammar.ensures.comes)
+returns-in-LoadGrammar-clause-prints g c = rw c.in-LoadGrammar.is ([], Gets-nil (g.K.Sink.got c.args.sink.now), c.load_grammar.ensures.comes c.args.settings)
 
 pub returns-in-Save-clause-prints : goal.returns-in-Save-clause-prints
-returns-in-Save-clause-prints g c = rw c.in-Save.is ([], Gets-nil (g.K.Sink.got c.args.sink.now), c.save.ensures.comes)
+returns-in-Save-clause-prints g c = rw c.in-Save.is ([], Gets-nil (g.K.Sink.got c.args.sink.now), c.save.ensures.comes c.args.settings)
 
 pub returns-in-SaveGrammar-clause-prints : goal.returns-in-SaveGrammar-clause-prints
-returns-in-SaveGrammar-clause-prints g c = rw c.in-SaveGrammar.is ([], Gets-nil (g.K.Sink.got c.args.sink.now), c.save_grammar.ensures.comes)
+returns-in-SaveGrammar-clause-prints g c = rw c.in-SaveGrammar.is ([], Gets-nil (g.K.Sink.got c.args.sink.now), c.save_grammar.ensures.comes c.args.settings)
 
 pub returns-in-Repair-clause-prints : goal.returns-in-Repair-clause-prints
 returns-in-Repair-clause-prints g c =
@@ -20,7 +20,7 @@ returns-in-Repair-clause-prints g c =
 
 pub returns-in-Count-clause-prints : goal.returns-in-Count-clause-prints
 returns-in-Count-clause-prints g c =
-    rw c.in-Count.is ([], Gets-nil (g.K.Sink.got c.args.sink.now), c.count.ensures.comes (g.F.Shelf.told c.args.shelf.now) (g.F.Shelf.faults c.args.shelf.now))
+    rw c.in-Count.is ([], Gets-nil (g.K.Sink.got c.args.sink.now), c.count.ensures.comes c.args.settings (g.F.Shelf.told c.args.shelf.now) (g.F.Shelf.faults c.args.shelf.now))
 
 pub returns-in-Query-clause-reads : goal.returns-in-Query-clause-reads
 returns-in-Query-clause-reads g c = rw c.in-Query.is c.query.ensures.reads

@@ -12,17 +12,17 @@ pub print_hits-requires : goal.print_hits-requires
 print_hits-requires g c = record { listed = c.in-Ok.ensures.listed.1 refl }
 
 pub returns-in_err-print_hits-clause-prints : goal.returns-in_err-print_hits-clause-prints
-returns-in_err-print_hits-clause-prints g c = λ told count.
+returns-in_err-print_hits-clause-prints g c = λ settings told count.
     let p = err_from_is_err_and c.from_residual.result c.from_residual.ensures.1 in
     let parts = parts_of c.in-Some.store in
     let held : c.args.self.now ≡ Some parts = sym c.self.view_is ∙ ap (option_map parts_of) c.in-Some.is in
     let lawful : AreLawfulParts parts = rw c.in-Some.is at c.self.invariant.0 in
     let w = world c.args.self.now told count in
     let found = found-listed c.args.text.now parts w lawful.tree c.in-Ok.found held (c.in-Ok.ensures.selects lawful.tree w held lawful.stand) (c.in-Ok.ensures.listed.1 refl) (c.in-Ok.ensures.lines lawful.tree lawful.stand) in
-    rw p.1 (query_fails c.args.text.now parts w (listed_hits c.in-Ok.found.hits) (g.K.Sink.got c.args.sink.now) (g.K.Sink.got c.print_hits.new.sink) found c.in_err-print_hits.ensures.prints)
+    rw p.1 (query_fails settings c.args.text.now parts w (listed_hits c.in-Ok.found.hits) (g.K.Sink.got c.args.sink.now) (g.K.Sink.got c.print_hits.new.sink) found c.in_err-print_hits.ensures.prints)
 
 pub returns-in-Ok-2-clause-prints : goal.returns-in-Ok-2-clause-prints
-returns-in-Ok-2-clause-prints g c = λ told count.
+returns-in-Ok-2-clause-prints g c = λ settings told count.
     let parts = parts_of c.in-Some.store in
     let held : c.args.self.now ≡ Some parts = sym c.self.view_is ∙ ap (option_map parts_of) c.in-Some.is in
     let lawful : AreLawfulParts parts = rw c.in-Some.is at c.self.invariant.0 in
@@ -31,7 +31,7 @@ returns-in-Ok-2-clause-prints g c = λ told count.
     query_done c.args.text.now parts w (listed_hits c.in-Ok.found.hits) (g.K.Sink.got c.args.sink.now) (g.K.Sink.got c.print_hits.new.sink) c.count.result c.in_ok-print_hits.field-0 c.in-Ok-2.field-0 found c.in_ok-print_hits.ensures.prints c.in-Ok-2.is (of-listed c.in-Ok.found.hits (λ hits. c.count.result ≡ length hits) (c.in-Ok.ensures.listed.1 refl) c.count.ensures.listed)
 
 pub returns-clause-prints : goal.returns-clause-prints
-returns-clause-prints g c = λ told count.
+returns-clause-prints g c = λ settings told count.
     let parts = parts_of c.in-Some.store in
     let held : c.args.self.now ≡ Some parts = sym c.self.view_is ∙ ap (option_map parts_of) c.in-Some.is in
     let lawful : AreLawfulParts parts = rw c.in-Some.is at c.self.invariant.0 in

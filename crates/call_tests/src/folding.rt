@@ -1,7 +1,7 @@
 // Documents that are folded while their calls come.
 ghost use Rattle.std.specs.Prelude.{◌≡◌, true, IfOk, OnOk};
 
-use fcns_encoding::{Folder, Sharing};
+use fcns_encoding::{Folded, Folder, Sharing};
 use plain_tree::Kind;
 use std::alloc::{AllocError, Global};
 use std::test::Fail;
@@ -35,81 +35,94 @@ fn rows(alloc: Global, count: u32) -> Result<Folder, AllocError>
     Ok(folder)
 }
 
-#[test]
-fn equal_subterms_are_kept_once(rt: HostRuntime) -> Result<(), Fail> {
-    let folded = rows(rt.alloc(), 100)?.finish()?;
-    assert_eq!(rt; folded.names.len(), 5);
-    assert_eq!(rt; folded.grammar.rules(), 2);
-    assert_eq!(rt; folded.grammar.size(), 210);
-    let written = rows(rt.alloc(), 100)?.finish_with(Sharing::of_uses(200))?;
-    assert_eq!(rt; written.names.len(), 5);
+// Rows, from how many uses on a subterm has a rule, and how many rules and nodes there are then.
+struct Fold {
+    rows: u32,
+    // None where two uses are enough.
+    sharing: Option<Sharing>,
+    rules: usize,
+    size: u64,
+}
+
+const SELDOM: Sharing = Sharing {
+    uses: 200,
+    large_uses: 200,
+    large: 0,
+};
+
+const OFTEN: Sharing = Sharing {
+    uses: 1_000,
+    large_uses: 1_000,
+    large: 0,
+};
+
+// What the rows share is used a hundred times, and its rule has five labels.
+const LARGE: Sharing = Sharing {
+    uses: 101,
+    large_uses: 100,
+    large: 5,
+};
+
+const LARGER: Sharing = Sharing { large: 6, ..LARGE };
+
+static FOLDS: [Fold; 6] = [
+    // Each different subterm is kept once.
+    Fold {
+        rows: 100,
+        sharing: None,
+        rules: 2,
+        size: 210,
+    },
     // Of 605 labels each row has two leaves, which are calls of two rules.
-    assert_eq!(rt; written.grammar.rules(), 3);
-    assert_eq!(rt; written.grammar.size(), 409);
-    Ok(())
-}
+    Fold {
+        rows: 100,
+        sharing: Some(SELDOM),
+        rules: 3,
+        size: 409,
+    },
+    Fold {
+        rows: 100,
+        sharing: Some(LARGE),
+        rules: 2,
+        size: 210,
+    },
+    Fold {
+        rows: 100,
+        sharing: Some(LARGER),
+        rules: 3,
+        size: 409,
+    },
+    // What the rows share has a rule, and a row with its call has one where there are enough rows.
+    Fold {
+        rows: 1_023,
+        sharing: Some(OFTEN),
+        rules: 2,
+        size: 2_056,
+    },
+    Fold {
+        rows: 1_024,
+        sharing: Some(OFTEN),
+        rules: 3,
+        size: 1_036,
+    },
+];
 
-// What the rows share is used a hundred times, and its rule has five labels. Where it has none, its two leaves have rules.
-#[test]
-fn large_rules_need_fewer_uses(rt: HostRuntime) -> Result<(), Fail> {
-    let large = rows(rt.alloc(), 100)?.finish_with(Sharing {
-        uses: 101,
-        large_uses: 100,
-        large: 5,
-    })?;
-    assert_eq!(rt; large.grammar.rules(), 2);
-    let small = rows(rt.alloc(), 100)?.finish_with(Sharing {
-        uses: 101,
-        large_uses: 100,
-        large: 6,
-    })?;
-    assert_eq!(rt; small.grammar.rules(), 3);
-    Ok(())
-}
-
-// What the rows share has a rule, and a row with its call has one where there are enough rows.
-#[test]
-fn frequent_pairs_have_rules(rt: HostRuntime) -> Result<(), Fail> {
-    let few = rows(rt.alloc(), 1_023)?.finish_with(Sharing::of_uses(1_000))?;
-    assert_eq!(rt; few.grammar.rules(), 2);
-    assert_eq!(rt; few.grammar.size(), 2_056);
-    let enough = rows(rt.alloc(), 1_024)?.finish_with(Sharing::of_uses(1_000))?;
-    assert_eq!(rt; enough.grammar.rules(), 3);
-    assert_eq!(rt; enough.grammar.size(), 1_036);
-    Ok(())
-}
-
-#[test]
-fn texts_stand_in_document_order(rt: HostRuntime) -> Result<(), Fail> {
-    let mut folder = Folder::new(rt.alloc());
-    folder.open(Kind::Element, b"r")?;
-    folder.leaf(Kind::Attribute, b"k", b"v")?;
-    folder.leaf(Kind::Text, b"", b"t")?;
-    folder.open(Kind::Element, b"r")?;
-    folder.leaf(Kind::Attribute, b"k", b"w")?;
-    folder.leaf(Kind::Text, b"", b"u")?;
-    folder.close()?;
-    folder.close()?;
-    let folded = folder.finish()?;
-    assert_eq!(rt; folded.names.len(), 4);
-    assert_eq!(rt; folded.texts.len(), 4);
-    let third = folded.texts.get(2).ok_or("no text")?;
-    assert_eq!(rt; third, b"w".as_slice());
-    Ok(())
-}
-
-#[test]
-fn deep_documents_are_folded(rt: HostRuntime) -> Result<(), Fail> {
-    let mut folder = Folder::new(rt.alloc());
-    let levels: u32 = 1_000_000;
-    for _ in 0..levels {
-        folder.open(Kind::Element, b"e")?;
+fn folded(alloc: Global, fold: &Fold) -> Result<Folded, AllocError> {
+    let folder = rows(alloc, fold.rows)?;
+    match fold.sharing {
+        None => folder.finish(),
+        Some(sharing) => folder.finish_with(sharing),
     }
-    for _ in 0..levels {
-        folder.close()?;
+}
+
+#[test]
+fn frequent_subterms_have_rules(rt: HostRuntime) -> Result<(), Fail> {
+    for (row, fold) in FOLDS.iter().enumerate() {
+        let folded = folded(rt.alloc(), fold)?;
+        let is_right = folded.names.len() == 5
+            && folded.grammar.rules() == fold.rules
+            && folded.grammar.size() == fold.size;
+        assert!(rt; is_right, "row {row}");
     }
-    let folded = folder.finish()?;
-    assert_eq!(rt; folded.grammar.rules(), 1);
-    assert_eq!(rt; folded.grammar.size(), 2_000_003);
     Ok(())
 }

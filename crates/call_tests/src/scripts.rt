@@ -1,33 +1,28 @@
-// Whole scripts: how they end, what they print, and what they leave in the files.
+// Whole scripts: how they end, what they print, and what they leave in the files. Most are in the program's own stored run.
 ghost use Rattle.std.specs.Prelude.{◌≡◌, ◌<◌};
 
+use long_files::LongFiles;
 use read_steps::Steps;
 use std::alloc::Global;
+use std::fs;
 use std::marker::Brand;
 use std::process::Abort;
 use std::sync::ledger::{Blank, Ledger};
+use std::test::Fail;
 use store_core::Session;
 use store_shell::{Status, serve};
-use tree_outside::{MemorySink, MemorySource, Shelf, Source};
+use tree_outside::{MemorySink, RealSource, Shelf, Source};
 
-mod asking;
-mod doubled;
-mod faults;
-mod grammars;
-mod large;
 mod limits;
 mod long_files;
 pub(crate) mod memory;
-mod real;
 mod rows;
+mod sessions;
 mod statuses;
-
-const DOCUMENT: &str = "<a><b/><b/></a>";
-
-const SAVED: &str = "<a><b/><b/></a>\n";
 
 fn serve_in<S: Source, F: Shelf, L: Ledger>(
     alloc: Global,
+    session: &mut Session,
     source: &mut S,
     sink: &mut MemorySink,
     shelf: &mut F,
@@ -37,27 +32,22 @@ fn serve_in<S: Source, F: Shelf, L: Ledger>(
     requires parts { blank.parts ≡ L.parts }
     requires some { 0 < blank.parts }
 {
-    let mut session = Session::new();
     let mut steps: Steps<L> = Steps::new(blank);
-    serve(alloc, &[], &mut session, source, sink, shelf, &mut steps)
+    serve(alloc, &[], session, source, sink, shelf, &mut steps)
 }
 
-// Serves a script without words, from an empty session.
-pub(crate) fn served<S: Source, F: Shelf>(
+// Serves a script without words.
+fn served<S: Source, F: Shelf>(
     alloc: Global,
+    session: &mut Session,
     source: &mut S,
     sink: &mut MemorySink,
     shelf: &mut F,
 ) -> Status {
-    serve_in::<S, F, Brand>(alloc, source, sink, shelf, Blank::new(1))
+    serve_in::<S, F, Brand>(alloc, session, source, sink, shelf, Blank::new(1))
 }
 
-// A source of all of a script, which never fails.
-pub(crate) fn whole(alloc: Global, script: Vec<u8>) -> MemorySource {
-    MemorySource::new(script, 4096, Vec::new(alloc))
-}
-
-// Serves a script, and asserts how it ends and what it prints.
+// Serves a script from an empty session, and asserts how it ends and what it prints.
 fn assert_serves<S: Source, F: Shelf>(
     rt: &impl Abort,
     alloc: Global,
@@ -67,6 +57,18 @@ fn assert_serves<S: Source, F: Shelf>(
     printed: &str,
 ) {
     let mut sink = MemorySink::new(alloc, Vec::new(alloc));
-    let ended = served(alloc, source, &mut sink, shelf);
-    assert_eq!(*rt; (ended, sink.bytes()), (status, printed.as_bytes()));
+    let ended = served(alloc, &mut Session::new(), source, &mut sink, shelf);
+    assert!(*rt;
+        ended == status && sink.bytes() == printed.as_bytes(),
+        "{printed}"
+    );
+}
+
+#[test]
+fn a_folder_is_no_script(rt: HostRuntime) -> Result<(), Fail> {
+    let mut source = RealSource::new(fs::open(&rt, ".")?);
+    let mut shelf = LongFiles { left: 0 };
+    let status = Status::ReadFault;
+    assert_serves(&rt, rt.alloc(), &mut source, &mut shelf, status, "");
+    Ok(())
 }

@@ -1,5 +1,4 @@
-// XML that is read: what scripts make of files (the vectors), the calls that a reader makes, fragments and values, and the places
-// where bytes are bad.
+// XML that is read: what scripts make of files (the vectors), the calls that a reader makes, fragments and values.
 mod attributes;
 mod calls;
 mod characters;
@@ -7,8 +6,6 @@ mod doctype;
 mod fragments;
 mod markup;
 mod names;
-mod pieces;
-mod places;
 mod prolog;
 mod references;
 mod vectors;

@@ -1,47 +1,63 @@
-// Rules that are a grammar, rules that are none, and what a grammar tells of its rules.
-ghost use Rattle.std.specs.Prelude.{◌≡◌, ◌<◌};
-
+// Rules as tables, rules that are no grammar, and the labels that a grammar tells.
 use GrammarError::{Linear, Order, Rank, Unused};
 use Label::{Bottom, Call, Param, Symbol};
 use read_steps::Steps;
 use slt_grammar::{Body, Grammar, GrammarError, Label, RuleList, check};
 use std::alloc::{AllocError, Global};
-use std::marker::Brand;
-use std::sync::ledger::{Blank, Ledger};
+use std::sync::ledger::Ledger;
 use std::test::Fail;
 
 // A rank and the labels of a body.
 pub(super) type Row = (usize, &'static [Label]);
 
 // b(bottom, b(bottom, y1)).
-const PAIR: &[Label] = &[Symbol(2), Bottom, Symbol(2), Bottom, Param];
+pub(super) const PAIR: &[Label] = &[Symbol(2), Bottom, Symbol(2), Bottom, Param];
 
 pub(super) const TWICE: Row = (1, PAIR);
 
 // document(a(c(c(c(bottom))), bottom), bottom), where c is rule 0.
-pub(super) const START: Row = (
-    0,
-    &[
-        Symbol(0),
-        Symbol(1),
-        Call(0),
-        Call(0),
-        Call(0),
-        Bottom,
-        Bottom,
-        Bottom,
-    ],
-);
+pub(super) const THRICE: &[Label] = &[
+    Symbol(0),
+    Symbol(1),
+    Call(0),
+    Call(0),
+    Call(0),
+    Bottom,
+    Bottom,
+    Bottom,
+];
+
+pub(super) const START: Row = (0, THRICE);
+
+fn body_of(alloc: Global, labels: &[Label]) -> Result<Body, AllocError> {
+    let mut body = Body::new(alloc);
+    for label in labels {
+        body.push(*label)?;
+    }
+    Ok(body)
+}
 
 pub(super) fn rules_of(alloc: Global, rows: &[Row]) -> Result<RuleList, AllocError> {
     let mut rules = RuleList::new(alloc);
     for &(rank, labels) in rows {
-        let mut body = Body::new(alloc);
-        for label in labels {
-            body.push(*label)?;
-        }
-        rules.push(rank, body)?;
+        rules.push(rank, body_of(alloc, labels)?)?;
     }
+    Ok(rules)
+}
+
+// Rule 0 has this body, and each further one of `times` calls the one before within itself, so that rule k is rule 0 2^k times over. The
+// start has these labels.
+pub(super) fn doubled(
+    alloc: Global,
+    unit: &'static [Label],
+    times: usize,
+    start: &'static [Label],
+) -> Result<RuleList, AllocError> {
+    let mut rules = rules_of(alloc, &[(1, unit)])?;
+    for rule in 0..times {
+        rules.push(1, body_of(alloc, &[Call(rule), Call(rule), Param])?)?;
+    }
+    rules.push(0, body_of(alloc, start)?)?;
     Ok(rules)
 }
 
@@ -77,59 +93,23 @@ static FAULTS: [(&[Row], GrammarError); 14] = [
 fn the_first_fault_is_named(rt: HostRuntime) -> Result<(), Fail> {
     for (row, &(rules, fault)) in FAULTS.iter().enumerate() {
         let answer = check(rt.alloc(), rules_of(rt.alloc(), rules)?);
-        assert_eq!(rt; answer.err(), Some(fault), "row {row}");
+        assert!(rt; answer.err() == Some(fault), "row {row}");
     }
     Ok(())
 }
 
-// The labels of all bodies, one after another, read with a counter of their own.
+// The labels of all bodies, one after another.
 pub(super) fn labels_of<L: Ledger>(
     alloc: Global,
     grammar: &Grammar,
-    blank: Blank,
-) -> Result<Vec<Label>, AllocError>
-    requires name { blank.name ≡ L.name }
-    requires parts { blank.parts ≡ L.parts }
-    requires some { 0 < blank.parts }
-{
-    let mut steps: Steps<L> = Steps::new(blank);
+    steps: &mut Steps<L>,
+) -> Result<Vec<Label>, AllocError> {
     let mut labels = Vec::new(alloc);
     for rule in 0..grammar.rules() {
         let mut walk = grammar.walk(rule);
-        while let Some(label) = walk.next(&mut steps) {
+        while let Some(label) = walk.next(steps) {
             labels.push(label)?;
         }
     }
     Ok(labels)
-}
-
-static SMALL: [Row; 2] = [TWICE, START];
-
-#[test]
-fn a_grammar_tells_its_rules(rt: HostRuntime) -> Result<(), Fail> {
-    let alloc = rt.alloc();
-    let mut wanted = Vec::new(alloc);
-    for &(_, labels) in &SMALL {
-        wanted.extend_from_slice(labels)?;
-    }
-    let grammar = check(alloc, rules_of(alloc, &SMALL)?)?;
-    let labels = labels_of::<Brand>(alloc, &grammar, Blank::new(1))?;
-    assert!(rt; labels.as_slice() == wanted.as_slice());
-    assert!(rt; grammar.rules() == 2 && grammar.size() == 12);
-    assert!(rt; grammar.rank(0) == 1 && grammar.calls(0) == 3);
-    assert!(rt; grammar.rank(1) == 0 && grammar.calls(1) == 0);
-    Ok(())
-}
-
-#[test]
-fn a_copy_has_the_same_rules(rt: HostRuntime) -> Result<(), Fail> {
-    let alloc = rt.alloc();
-    let grammar = check(alloc, rules_of(alloc, &SMALL)?)?;
-    let labels = labels_of::<Brand>(alloc, &grammar, Blank::new(1))?;
-    let copy = grammar.copy()?;
-    drop(grammar);
-    let copied = labels_of::<Brand>(alloc, &copy, Blank::new(1))?;
-    assert!(rt; copied.as_slice() == labels.as_slice());
-    assert!(rt; copy.rules() == 2 && copy.size() == 12);
-    Ok(())
 }

@@ -1,23 +1,23 @@
-//! Tests of the public calls of the crates that hold a grammar, count and find its nodes, and write it: worked rows over small
-//! grammars, grammars at the limit of what can be counted, and each call that takes memory once with enough of it. They stand apart
-//! from `edit_tests` and `call_tests` so that all are proved side by side.
+//! Tests of the public calls of the crates that hold a grammar, change it, count and find its nodes, and write it: worked rows over small
+//! grammars, one whose values no memory holds, and each call that takes memory and that the program doesn't use once with enough of it.
+//! They stand apart from `call_tests` and `query_tests` so that all are proved side by side.
 #![tactic(auto)]
 
-#[cfg(test)]
-mod addresses;
 #[cfg(test)]
 mod arena;
 #[cfg(test)]
 mod counts;
 #[cfg(test)]
-mod cursors;
+mod descents;
+#[cfg(test)]
+mod edits;
 #[cfg(test)]
 mod grammar;
 #[cfg(test)]
 mod grammar_bytes;
 #[cfg(test)]
-mod grammar_reads;
-#[cfg(test)]
 mod numbers;
 #[cfg(test)]
 mod rises;
+#[cfg(test)]
+mod settling;

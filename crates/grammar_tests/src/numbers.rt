@@ -1,17 +1,12 @@
-// What is told of the nodes of small documents by their numbers, over grammars of two rules.
-ghost use Rattle.std.specs.Prelude.{◌≡◌, ◌<◌, IfSome};
+// What is told of the nodes of small documents by their numbers, over grammars of two or three rules.
+ghost use Rattle.std.specs.Prelude.{◌≡◌, ◌<◌};
 ghost use Rattle.segment_counts.specs.Counting.{AreCounts};
-ghost use Rattle.preorder_address.specs.Descents.{IsInside};
-ghost use Rattle.preorder_address.specs.Numberings.{AreCountsOf};
 ghost use Rattle.slt_grammar.specs.Keyed.{rules_of};
 
-use super::addresses::{Place, places_of};
 use super::counts::small_names;
 use super::grammar::{Row, START, TWICE, rules_of};
 use plain_tree::{Kind, Names};
-use preorder_address::{
-    Descent, after_attributes, end_of_kids, extent, kind_of, next_sibling, parent_of, text_rank,
-};
+use preorder_address::{extent, kind_of, next_sibling, parent_of, text_rank};
 use read_steps::Steps;
 use segment_counts::Counts;
 use slt_grammar::Label::{Bottom, Call, Param, Symbol};
@@ -22,7 +17,7 @@ use std::sync::ledger::{Blank, Ledger};
 use std::test::Fail;
 
 // <a x=".." y=".."><b/>..</a>, where rule 0 is x(bottom, y(bottom, y1)).
-static ATTRIBUTES: [Row; 2] = [
+pub(super) const ATTRIBUTES: &[Row] = &[
     (1, &[Symbol(4), Bottom, Symbol(5), Bottom, Param]),
     (
         0,
@@ -42,7 +37,7 @@ static ATTRIBUTES: [Row; 2] = [
 ];
 
 // <a><b><b/></b><b><b/>..</b></a>, where rule 0 is b(y1, b(y2, bottom)) and rule 1 calls it with y1 and b(bottom, y2).
-static NESTED: [Row; 3] = [
+const NESTED: &[Row] = &[
     (2, &[Symbol(2), Param, Symbol(2), Param, Bottom]),
     (2, &[Call(0), Param, Symbol(2), Bottom, Param]),
     (
@@ -66,7 +61,7 @@ static NESTED: [Row; 3] = [
 // A node's kind, how many nodes are below it, how many texts belong to those before it, its next sibling, and its parent.
 type Told = (Kind, u64, u64, Option<u64>, Option<u64>);
 
-static ATTRIBUTES_TOLD: [Told; 6] = [
+const ATTRIBUTES_TOLD: &[Told] = &[
     (Kind::Document, 5, 0, None, None),
     (Kind::Element, 4, 0, None, Some(0)),
     (Kind::Attribute, 0, 0, Some(3), Some(1)),
@@ -75,7 +70,7 @@ static ATTRIBUTES_TOLD: [Told; 6] = [
     (Kind::Text, 0, 2, None, Some(1)),
 ];
 
-static ELEMENTS_TOLD: [Told; 8] = [
+const ELEMENTS_TOLD: &[Told] = &[
     (Kind::Document, 7, 0, None, None),
     (Kind::Element, 6, 0, None, Some(0)),
     (Kind::Element, 0, 0, Some(3), Some(1)),
@@ -86,7 +81,7 @@ static ELEMENTS_TOLD: [Told; 8] = [
     (Kind::Element, 0, 0, None, Some(1)),
 ];
 
-static NESTED_TOLD: [Told; 7] = [
+const NESTED_TOLD: &[Told] = &[
     (Kind::Document, 6, 0, None, None),
     (Kind::Element, 5, 0, None, Some(0)),
     (Kind::Element, 1, 0, Some(4), Some(1)),
@@ -97,7 +92,7 @@ static NESTED_TOLD: [Told; 7] = [
 ];
 
 // The names of the grammars above: those of small grammars, and two attributes.
-fn names(alloc: Global) -> Result<Names, AllocError> {
+pub(super) fn names(alloc: Global) -> Result<Names, AllocError> {
     let mut names = small_names(alloc)?;
     names.intern(alloc, Kind::Attribute, b"x")?;
     names.intern(alloc, Kind::Attribute, b"y")?;
@@ -127,83 +122,31 @@ fn tell<L: Ledger>(
     ))
 }
 
-#[test]
-fn numbers_tell_of_their_nodes(rt: HostRuntime) -> Result<(), Fail> {
-    let alloc = rt.alloc();
-    let names = names(alloc)?;
-    let tables: [(&[Row], &[Told]); 3] = [
-        (&ATTRIBUTES, &ATTRIBUTES_TOLD),
-        (&[TWICE, START], &ELEMENTS_TOLD),
-        (&NESTED, &NESTED_TOLD),
-    ];
-    for (rules, wanted) in tables {
-        let grammar = check(alloc, rules_of(alloc, rules)?)?;
-        let counts = Counts::new(alloc, &grammar, &names)?;
-        for (number, row) in wanted.iter().enumerate() {
-            let answer = tell::<Brand>(&grammar, &counts, &names, number as u64, Blank::new(1));
-            assert!(rt; answer == Some(*row), "number {number}");
+// Whether all is told so, and nothing of the number behind the last.
+fn are_told(alloc: Global, names: &Names, rules: &[Row], wanted: &[Told]) -> Result<bool, Fail> {
+    let grammar = check(alloc, rules_of(alloc, rules)?)?;
+    let counts = Counts::new(alloc, &grammar, names)?;
+    for number in 0..wanted.len() + 1 {
+        let told = tell::<Brand>(&grammar, &counts, names, number as u64, Blank::new(1));
+        if told != wanted.get(number).copied() {
+            return Ok(false);
         }
-        let past = tell::<Brand>(
-            &grammar,
-            &counts,
-            &names,
-            wanted.len() as u64,
-            Blank::new(1),
-        );
-        assert!(rt; past.is_none());
     }
-    Ok(())
+    Ok(true)
 }
 
-// The descents to the end of a node's kids, and to what is behind its attributes.
-fn descents<L: Ledger>(
-    grammar: &Grammar,
-    counts: &Counts,
-    names: &Names,
-    number: u64,
-    blank: Blank,
-) -> Option<(Descent, Descent)>
-    requires counts { AreCountsOf (rules_of grammar.now.rules) counts.now }
-    requires name { blank.name ≡ L.name }
-    requires parts { blank.parts ≡ L.parts }
-    requires some { 0 < blank.parts }
-    ensures { IfSome result (λ both. IsInside grammar.now.rules both.0 × IsInside grammar.now.rules both.1) }
-{
-    let mut steps: Steps<L> = Steps::new(blank);
-    let end = end_of_kids(grammar, counts, number, &mut steps)?;
-    let after = after_attributes(grammar, counts, names, number, &mut steps)?;
-    Some((end, after))
-}
-
-// By number: where the kids end, and where those that are no attributes begin.
-static KID_PLACES: [(&[Place], &[Place]); 6] = [
-    (&[(1, 8)], &[(1, 1)]),
-    (&[(1, 7)], &[(1, 3)]),
-    (&[(1, 2), (0, 1)], &[(1, 2), (0, 1)]),
-    (&[(1, 2), (0, 3)], &[(1, 2), (0, 3)]),
-    (&[(1, 4)], &[(1, 4)]),
-    (&[(1, 6)], &[(1, 6)]),
+static TABLES: [(&[Row], &[Told]); 3] = [
+    (ATTRIBUTES, ATTRIBUTES_TOLD),
+    (&[TWICE, START], ELEMENTS_TOLD),
+    (NESTED, NESTED_TOLD),
 ];
 
 #[test]
-fn descents_lead_into_lists_of_kids(rt: HostRuntime) -> Result<(), Fail> {
-    let alloc = rt.alloc();
-    let names = names(alloc)?;
-    let grammar = check(alloc, rules_of(alloc, &ATTRIBUTES)?)?;
-    let counts = Counts::new(alloc, &grammar, &names)?;
-    for (number, &(end_wanted, after_wanted)) in KID_PLACES.iter().enumerate() {
-        let (end, after) = descents::<Brand>(
-            &grammar,
-            &counts,
-            &names,
-            number as u64,
-            Blank::new(1),
-        ).expect(&rt, "a node");
-        let places = places_of::<Brand>(alloc, &grammar, &counts, end, Blank::new(1))?;
-        assert!(rt; places.as_slice() == end_wanted, "end, number {number}");
-        let places = places_of::<Brand>(alloc, &grammar, &counts, after, Blank::new(1))?;
-        assert!(rt; places.as_slice() == after_wanted, "after, number {number}");
+fn numbers_tell_of_their_nodes(rt: HostRuntime) -> Result<(), Fail> {
+    let names = names(rt.alloc())?;
+    for (row, &(rules, wanted)) in TABLES.iter().enumerate() {
+        let is_right = are_told(rt.alloc(), &names, rules, wanted)?;
+        assert!(rt; is_right, "row {row}");
     }
-    assert!(rt; descents::<Brand>(&grammar, &counts, &names, 6, Blank::new(1)).is_none());
     Ok(())
 }

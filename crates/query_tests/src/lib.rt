@@ -1,5 +1,5 @@
-//! Tests of queries, of runs over shared rules, and of the selectors that run to answer queries. The `automaton` that runs is no test
-//! itself, since definitions speak of its states.
+//! Tests of queries, and of runs over shared rules. The `automaton` that runs is no test itself, since definitions speak of its states.
+//! Which nodes queries select of documents is in the program's own stored run.
 #![tactic(auto)]
 
 pub mod automaton;
@@ -7,5 +7,3 @@ pub mod automaton;
 mod queries;
 #[cfg(test)]
 mod runs;
-#[cfg(test)]
-mod selecting;

@@ -135,29 +135,36 @@ fn mode_of<R: Files>(rt: &R, name: &str) -> io::Result<u32> {
     Ok(fs::metadata(rt, name)?.permissions().mode() & 0o7777)
 }
 
+fn is_link<R: Files>(rt: &R, name: &str) -> io::Result<bool> {
+    Ok(fs::symlink_metadata(rt, name)?.is_symlink())
+}
+
+// Whether it is a file, and holds this text.
+fn holds<R: Files + Alloc + Clone>(rt: &R, name: &str, text: &str) -> io::Result<bool> {
+    let is_file = fs::symlink_metadata(rt, name)?.is_file();
+    let held = fs::read_to_string(rt, name)?;
+    Ok(is_file && held.as_str() == text)
+}
+
 // Does a step, and answers whether all is as it says.
-fn is_so<R: Files + Alloc + Clone>(
-    rt: &R,
-    shelf: &mut RealShelf<'_, R>,
-    step: Step,
-) -> io::Result<bool> {
+fn is_so<R: Files + Alloc + Clone>(rt: &R, shelf: &mut RealShelf<'_, R>, step: Step) -> bool {
     match step {
-        MakeFolder(name) => fs::create_dir(rt, name)?,
-        MakeFile(name, text) => fs::write(rt, name, text)?,
-        MakeLink(name, says) => symlink(rt, says, name)?,
-        SetMode(name, mode) => fs::set_permissions(rt, name, Permissions::from_mode(mode))?,
-        Begin(name) => return Ok(shelf.create(name).is_ok()),
-        Seal(done) => return Ok(shelf.seal().is_ok() == done),
-        Save(name, done) => return Ok(save(shelf, name, name.as_bytes()).is_ok() == done),
-        IsLink(name) => return Ok(fs::symlink_metadata(rt, name)?.is_symlink()),
-        IsFile(name, text) => {
-            let is_file = fs::symlink_metadata(rt, name)?.is_file();
-            return Ok(is_file && fs::read_to_string(rt, name)?.as_str() == text);
-        }
-        HasMode(name, mode) => return Ok(mode_of(rt, name)? == mode),
-        HasNames(folder, count) => return Ok(names_in(rt, folder)? == count),
+        MakeFolder(name) => fs::create_dir(rt, name).is_ok(),
+        MakeFile(name, text) => fs::write(rt, name, text).is_ok(),
+        MakeLink(name, says) => symlink(rt, says, name).is_ok(),
+        SetMode(name, mode) => set_mode(rt, name, mode),
+        Begin(name) => shelf.create(name).is_ok(),
+        Seal(done) => shelf.seal().is_ok() == done,
+        Save(name, done) => save(shelf, name, name.as_bytes()).is_ok() == done,
+        IsLink(name) => matches!(is_link(rt, name), Ok(true)),
+        IsFile(name, text) => matches!(holds(rt, name, text), Ok(true)),
+        HasMode(name, mode) => mode_of(rt, name).ok() == Some(mode),
+        HasNames(folder, count) => names_in(rt, folder).ok() == Some(count),
     }
-    Ok(true)
+}
+
+fn set_mode<R: Files>(rt: &R, name: &str, mode: u32) -> bool {
+    fs::set_permissions(rt, name, Permissions::from_mode(mode)).is_ok()
 }
 
 #[test]
@@ -165,7 +172,7 @@ fn a_save_leaves_the_rest_as_it_is(rt: HostRuntime) -> Result<(), Fail> {
     fs::create_dir(&rt, "saves")?;
     let mut shelf = RealShelf::new(rt.alloc(), &rt);
     for (row, &step) in STEPS.iter().enumerate() {
-        assert!(rt; is_so(&rt, &mut shelf, step)?, "step {row}");
+        assert!(rt; is_so(&rt, &mut shelf, step), "step {row}");
     }
     fs::remove_dir_all(&rt, "saves")?;
     Ok(())

@@ -1,6 +1,6 @@
 // A save whose bytes don't reach the disk.
 use super::saves::save;
-use std::alloc::Allocator;
+use std::alloc::{Allocator, Global};
 use std::fs::{self, Metadata, OpenFile, OpenOptions, Permissions};
 use std::io::{self, ErrorKind, Read, Seek, SeekFrom, Write};
 use std::path::PathBuf;
@@ -109,15 +109,23 @@ impl<R: Files + Drop> Files for Unsynced<R> {
     }
 }
 
+fn is_refused<R: Files + Drop>(alloc: Global, rt: R) -> bool {
+    let unsynced = Unsynced(rt);
+    let mut shelf = RealShelf::new(alloc, &unsynced);
+    save(&mut shelf, "synced", b"new") == Err(Failed)
+}
+
+// Whether the old file is there, and no pending one.
+fn is_left<R: Files + Alloc + Clone>(rt: &R) -> io::Result<bool> {
+    let held = fs::read_to_string(rt, "synced")?;
+    Ok(held.as_str() == "old" && !fs::exists(rt, "synced.part")?)
+}
+
 #[test]
 fn a_save_that_is_not_synced_leaves_the_old_file(rt: HostRuntime) -> Result<(), Fail> {
     fs::write(&rt, "synced", "old")?;
-    let unsynced = Unsynced(&rt);
-    let mut shelf = RealShelf::new(rt.alloc(), &unsynced);
-    assert_eq!(rt; save(&mut shelf, "synced", b"new"), Err(Failed));
-    let held = fs::read_to_string(&rt, "synced")?;
-    assert_eq!(rt; held.as_str(), "old");
-    assert!(rt; !fs::exists(&rt, "synced.part")?);
+    assert!(rt; is_refused(rt.alloc(), &rt));
+    assert!(rt; is_left(&rt)?);
     fs::remove_file(&rt, "synced")?;
     Ok(())
 }

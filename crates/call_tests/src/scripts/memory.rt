@@ -5,99 +5,133 @@ use super::served;
 use std::alloc::{AllocError, Global};
 use std::collections::BTreeMap;
 use std::process::Abort;
+use store_core::Session;
 use store_shell::Status;
 use tree_outside::{MemoryShelf, MemorySink, MemorySource};
 
 // Which call fails, of the source, the sink or the shelf; each counts its own from 0.
 #[derive(Clone, Copy, Debug)]
-pub(super) enum Fault {
+pub(crate) enum Fault {
     Never,
     Read(u64),
     Write(u64),
     Shelf(u64),
 }
 
-// A script, and what comes of it. The shelf holds the document as the file `a`, and `old` as `c`.
-#[derive(Clone, Copy)]
-pub(super) struct Row {
-    pub document: &'static str,
-    pub script: &'static str,
-    // By so many bytes script and files are read, in a run for each.
-    pub pieces: &'static [usize],
-    // What fails, in a run for each.
-    pub faults: &'static [Fault],
-    pub status: Status,
-    pub printed: &'static str,
-    // What `c` holds then.
-    pub saved: &'static str,
+impl Fault {
+    // The call of the source that fails, that of the sink, and that of the shelf.
+    fn calls(self) -> (Option<u64>, Option<u64>, Option<u64>) {
+        match self {
+            Fault::Never => (None, None, None),
+            Fault::Read(call) => (Some(call), None, None),
+            Fault::Write(call) => (None, Some(call), None),
+            Fault::Shelf(call) => (None, None, Some(call)),
+        }
+    }
 }
 
-pub(super) fn assert_rows(rt: &impl Abort, alloc: Global, rows: &[Row]) -> Result<(), AllocError> {
-    for row in rows {
-        for &piece in row.pieces {
-            for &fault in row.faults {
-                assert_row(rt, alloc, row, piece.max(1), fault)?;
-            }
+// A script, and what comes of it. The shelf holds the document as the file `a`, and `old` as `c`.
+#[derive(Clone, Copy)]
+pub(crate) struct Row<'a> {
+    pub document: &'a [u8],
+    pub script: &'a str,
+    // By so many bytes script and files are read, in a run for each.
+    pub pieces: &'a [usize],
+    // What fails, in a run for each.
+    pub faults: &'a [Fault],
+    pub status: Status,
+    pub printed: &'a str,
+    // What `c` holds then.
+    pub saved: &'a [u8],
+}
+
+// A script that is done to its end, and saves nothing.
+pub(crate) const DONE: Row<'static> = Row {
+    document: b"<a><b/><b/></a>",
+    script: "",
+    pieces: &[1, 2, 3, 7, 1000],
+    faults: &[Fault::Never],
+    status: Status::Done,
+    printed: "",
+    saved: b"old",
+};
+
+// Asserts that a row's script ends, prints and saves as the row says.
+pub(crate) fn assert_row(
+    rt: &impl Abort,
+    alloc: Global,
+    row: &Row<'_>,
+    shows: &str,
+) -> Result<(), AllocError> {
+    for &piece in row.pieces {
+        for &fault in row.faults {
+            let is_right = is_right(alloc, row, piece.max(1), fault)?;
+            assert!(*rt; is_right, "{shows} in pieces of {piece}, {fault:?}");
         }
     }
     Ok(())
 }
 
+fn is_right(alloc: Global, row: &Row<'_>, piece: usize, fault: Fault) -> Result<bool, AllocError>
+    requires { 1 ≤ piece }
+{
+    let mut objects = objects_of(alloc, row, piece, fault)?;
+    let status = objects.serve(alloc, &mut Session::new());
+    Ok(
+        status == row.status
+            && objects.sink.bytes() == row.printed.as_bytes()
+            && objects.shelf.file("c") == Some(row.saved),
+    )
+}
+
 #[derive(Drop)]
-struct Objects {
+pub(super) struct Objects {
     source: MemorySource,
     sink: MemorySink,
     shelf: MemoryShelf,
 }
 
-fn assert_row(
-    rt: &impl Abort,
-    alloc: Global,
-    row: &Row,
-    piece: usize,
-    fault: Fault,
-) -> Result<(), AllocError>
-    requires { 1 ≤ piece }
-{
-    let mut objects = objects_of(alloc, row, piece, fault)?;
-    let status = served(
-        alloc,
-        &mut objects.source,
-        &mut objects.sink,
-        &mut objects.shelf,
-    );
-    let saved = objects.shelf.file("c").unwrap_or(b"");
-    assert_eq!(*rt;
-        (status, objects.sink.bytes(), saved),
-        (row.status, row.printed.as_bytes(), row.saved.as_bytes()),
-        "{} in pieces of {piece}, {fault:?}",
-        row.script
-    );
-    Ok(())
+impl Objects {
+    // Serves the script of the source.
+    pub(super) fn serve(&mut self, alloc: Global, session: &mut Session) -> Status {
+        served(
+            alloc,
+            session,
+            &mut self.source,
+            &mut self.sink,
+            &mut self.shelf,
+        )
+    }
 }
 
-fn objects_of(alloc: Global, row: &Row, piece: usize, fault: Fault) -> Result<Objects, AllocError>
+pub(super) fn objects_of(
+    alloc: Global,
+    row: &Row<'_>,
+    piece: usize,
+    fault: Fault,
+) -> Result<Objects, AllocError>
     requires { 1 ≤ piece }
 {
-    let mut reads = Vec::new(alloc);
-    let mut writes = Vec::new(alloc);
-    let mut calls = Vec::new(alloc);
-    match fault {
-        Fault::Never => {}
-        Fault::Read(call) => reads.push(call)?,
-        Fault::Write(call) => writes.push(call)?,
-        Fault::Shelf(call) => calls.push(call)?,
-    }
+    let (read, write, call) = fault.calls();
     let script = row.script.as_bytes().to_vec(alloc)?;
     Ok(Objects {
-        source: MemorySource::new(script, piece, reads),
-        sink: MemorySink::new(alloc, writes),
-        shelf: shelf_of(alloc, row.document.as_bytes(), piece, calls)?,
+        source: MemorySource::new(script, piece, list_of(alloc, read)?),
+        sink: MemorySink::new(alloc, list_of(alloc, write)?),
+        shelf: shelf_of(alloc, row.document, piece, list_of(alloc, call)?)?,
     })
 }
 
+// The list of one call, or of none.
+fn list_of(alloc: Global, call: Option<u64>) -> Result<Vec<u64>, AllocError> {
+    let mut calls = Vec::new(alloc);
+    if let Some(number) = call {
+        calls.push(number)?;
+    }
+    Ok(calls)
+}
+
 // A shelf with this document as the file `a`, and `old` as `c`.
-pub(crate) fn shelf_of(
+fn shelf_of(
     alloc: Global,
     document: &[u8],
     piece: usize,

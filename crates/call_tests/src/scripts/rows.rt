@@ -1,33 +1,48 @@
-// Worked scripts.
-use super::memory::{Fault, Row, assert_rows};
-use super::{DOCUMENT, SAVED};
+// What the program's own stored run can't show of scripts: how they end where a call fails, whatever the pieces in which they are read,
+// without a line feed at their end, and which bytes of a grammar file are saved.
+use super::memory::{DONE, Fault, Row, assert_row};
 use std::test::Fail;
 use store_shell::Status;
 
-// A script that is done to its end, and saves nothing.
-const DONE: Row = Row {
-    document: DOCUMENT,
-    script: "",
-    pieces: &[1, 2, 7, 1000],
-    faults: &[Fault::Never],
-    status: Status::Done,
-    printed: "",
-    saved: "old",
+const SAVED: &[u8] = b"<a><b/><b/></a>\n";
+
+// Six `b` in an `a`. Rule 0 is `b(bottom, b(bottom, y1))`, and the start calls it three times, over one another.
+const SIX: &[u8] =
+    b"TGF1\x03\x00\x00\x01\x01a\x01\x01b\x02\x01\x02\x02\x00\x02\x02\x00\x01\x00\x02\x00\x02\x01\x03\x00\x03\x00\x03\x00\x00\x00\x00\x00";
+
+// A text, an attribute, a comment and an instruction; two texts side by side.
+const KINDS: &[u8] =
+    b"TGF1\x06\x00\x00\x01\x01a\x02\x01k\x03\x00\x04\x00\x05\x01p\x01\x00\x02\x00\x02\x01\x02\x02\x00\x02\x03\x00\x02\x03\x00\x02\x04\x00\x02\x05\x00\x00\x00\x00\x05\x01v\x01t\x01u\x01c\x00";
+
+// What is done where no call fails. In pieces of seven bytes each read of the source takes one whole line.
+const WHOLE: Row<'static> = Row {
+    script: "load a\nsave c\nfly",
+    pieces: &[7],
+    printed: "ok nodes 4\nok bytes 16\n! bad-command\n",
+    saved: SAVED,
+    ..DONE
 };
 
-static ROWS: [Row; 19] = [
+// The lines of the nodes are one write, and the last line is another.
+const LISTED: Row<'static> = Row {
+    script: "load a\nquery //b\nsave c\n",
+    pieces: &[1000],
+    status: Status::WriteFault,
+    ..DONE
+};
+
+static ROWS: [Row<'static>; 28] = [
     Row {
-        script: "load a\nsave c\nfly\n",
-        printed: "ok nodes 4\nok bytes 16\n! bad-command\n",
-        saved: SAVED,
-        ..DONE
+        pieces: &[1, 2, 7, 1000],
+        ..WHOLE
     },
     Row {
-        document: "<a></b>",
+        document: b"<a></b>",
         script: "load a\nsave c\n",
         printed: "! bad-xml 3\n! no-document\n",
         ..DONE
     },
+    DONE,
     Row {
         script: "load a\r\n\nsave c",
         printed: "ok nodes 4\nok bytes 16\n",
@@ -35,48 +50,8 @@ static ROWS: [Row; 19] = [
         ..DONE
     },
     Row {
-        document: " <a><b ></b ><b/></a> ",
-        script: "load a\nload z\nsave c\n",
-        printed: "ok nodes 4\n! no-file\nok bytes 16\n",
-        saved: SAVED,
-        ..DONE
-    },
-    Row {
-        document: "<a/>",
-        script: "load a\nrepair\nsave-grammar c\n",
-        printed: "ok nodes 2\nok rules 1 size 5\nok rules 1 size 5 bytes 20\n",
-        saved: "TGF1\x02\x00\x00\x01\x01a\x01\x00\x02\x00\x02\x01\x00\x00\x00\x00",
-        ..DONE
-    },
-    // Rule 0 is `b(bottom, b(bottom, y1))`, and the start calls it three times, over one another.
-    Row {
-        document: "<a><b/><b/><b/><b/><b/><b/></a>",
-        script: "load a\nrepair\nsave-grammar c\n",
-        printed: "ok nodes 8\nok rules 2 size 12\nok rules 2 size 12 bytes 37\n",
-        saved: "TGF1\x03\x00\x00\x01\x01a\x01\x01b\x02\x01\x02\x02\x00\x02\x02\x00\x01\
-            \x00\x02\x00\x02\x01\x03\x00\x03\x00\x03\x00\x00\x00\x00\x00",
-        ..DONE
-    },
-    Row {
-        script: "repair\nrepair \nrepair x\n repair\nload a\nrepair\r\nsave c\n",
-        printed: "! no-document\n! bad-command\n! bad-command\n! bad-command\nok nodes 4\nok rules 1 size 9\nok bytes 16\n",
-        saved: SAVED,
-        ..DONE
-    },
-    Row {
-        script: "save-grammar g\nload a\nsave-grammar\nsave-grammar g\nload a\nsave c\n",
-        printed: "! no-document\nok nodes 4\n! bad-command\nok rules 1 size 9 bytes 29\nok nodes 4\nok bytes 16\n",
-        saved: SAVED,
-        ..DONE
-    },
-    Row {
-        script: "",
-        printed: "",
-        ..DONE
-    },
-    Row {
-        script: "load a\nquit\nfly\n",
-        printed: "ok nodes 4\n",
+        script: "load a\ncount /",
+        printed: "ok nodes 4\nok selected 1\n",
         ..DONE
     },
     Row {
@@ -85,61 +60,157 @@ static ROWS: [Row; 19] = [
         ..DONE
     },
     Row {
-        script: " quit\nquit \nquit\r\nfly\n",
-        printed: "! bad-command\n! bad-command\n",
+        script: "load a\nquit\r\nfly\n",
+        printed: "ok nodes 4\n",
+        ..DONE
+    },
+    // Grammar files.
+    Row {
+        document: b"<a/>",
+        script: "load a\nrepair\nsave-grammar c\n",
+        printed: "ok nodes 2\nok rules 1 size 5\nok rules 1 size 5 bytes 20\n",
+        saved: b"TGF1\x02\x00\x00\x01\x01a\x01\x00\x02\x00\x02\x01\x00\x00\x00\x00",
         ..DONE
     },
     Row {
-        script: "load\nload \n load a\nload  a\n",
-        printed: "! bad-command\n! bad-command\n! bad-command\n! no-file\n",
+        document: b"<a><b/><b/><b/><b/><b/><b/></a>",
+        script: "load a\nsave-grammar c\n",
+        printed: "ok nodes 8\nok rules 2 size 12 bytes 37\n",
+        saved: SIX,
         ..DONE
     },
     Row {
-        document: "<a x=\"1\" y=\" &#xA;\">t<![CDATA[]]><![CDATA[<]]></a>",
-        script: "load a\nshow 3\nshow 4\nshow 5\nsave c\n",
-        printed: "ok nodes 5\ny=\" &#xA;\"\nok shown\nt&lt;\nok shown\n! no-node\nok bytes 30\n",
-        saved: "<a x=\"1\" y=\" &#xA;\">t&lt;</a>\n",
-        ..DONE
-    },
-    // Each kind of node.
-    Row {
-        document: "<!--p--><a><b k=\"v\">t</b>u</a><?go now?>",
-        script: "load a\nshow 0\nshow 1\nshow 2\nshow 3\nshow 4\nshow 5\nshow 6\nshow 7\nshow 8\n",
-        printed: "ok nodes 8\n<!--p-->\n<a><b k=\"v\">t</b>u</a>\n<?go now?>\nok shown\n\
-            <!--p-->\nok shown\n<a><b k=\"v\">t</b>u</a>\nok shown\n<b k=\"v\">t</b>\nok shown\n\
-            k=\"v\"\nok shown\nt\nok shown\nu\nok shown\n<?go now?>\nok shown\n! no-node\n",
+        document: SIX,
+        script: "load-grammar a\nload-grammar c\nsave-grammar c\n",
+        printed: "ok nodes 8\n! bad-grammar\nok rules 2 size 12 bytes 37\n",
+        saved: SIX,
         ..DONE
     },
     Row {
-        document: "<a><b k=\"&amp;&lt;&quot;&#x9;&#xA;&#xD;>'\"/>&amp;&lt;&gt;&#xD;\"'<!-- &amp; --><?go?></a>",
-        script: "load a\nshow 2\nshow 3\nshow 4\nshow 5\nshow 6\n",
-        printed: "ok nodes 7\n<b k=\"&amp;&lt;&quot;&#x9;&#xA;&#xD;>'\"/>\nok shown\n\
-            k=\"&amp;&lt;&quot;&#x9;&#xA;&#xD;>'\"\nok shown\n&amp;&lt;&gt;&#xD;\"'\nok shown\n\
-            <!-- &amp; -->\nok shown\n<?go?>\nok shown\n",
+        document: KINDS,
+        script: "load-grammar a\nsave-grammar c\n",
+        printed: "ok nodes 7\nok rules 1 size 15 bytes 54\n",
+        saved: KINDS,
         ..DONE
     },
+    // A read of the source fails.
     Row {
-        document: "<!--p--><!--q--><a>u&amp;v</a><?go now?>",
-        script: "load a\nshow 5\nshow 4\n",
-        printed: "ok nodes 6\n<?go now?>\nok shown\nu&amp;v\nok shown\n",
-        ..DONE
-    },
-    // Forms of numbers.
-    Row {
-        script: "show 0\nshow 01\nload a\nshow\nshow \nshow 00\nshow 01\nshow -1\nshow +1\nshow 1 \nshow  1\n",
-        printed: "! no-document\n! bad-command\nok nodes 4\n! bad-command\n! bad-command\n! bad-command\n\
-            ! bad-command\n! bad-command\n! bad-command\n! bad-command\n! bad-command\n",
-        ..DONE
+        faults: &[Fault::Read(0)],
+        status: Status::ReadFault,
+        printed: "",
+        saved: b"old",
+        ..WHOLE
     },
     Row {
-        script: "load a\nshow 18446744073709551616\nshow 18446744073709551615\nshow 4\nshow 3\r\n",
-        printed: "ok nodes 4\n! bad-command\n! no-node\n! no-node\n<b/>\nok shown\n",
-        ..DONE
+        faults: &[Fault::Read(1)],
+        status: Status::ReadFault,
+        printed: "ok nodes 4\n",
+        saved: b"old",
+        ..WHOLE
+    },
+    Row {
+        faults: &[Fault::Read(2), Fault::Read(3)],
+        status: Status::ReadFault,
+        printed: "ok nodes 4\nok bytes 16\n",
+        ..WHOLE
+    },
+    Row {
+        faults: &[Fault::Read(4)],
+        ..WHOLE
+    },
+    // A write fails.
+    Row {
+        faults: &[Fault::Write(0)],
+        status: Status::WriteFault,
+        printed: "",
+        saved: b"old",
+        ..WHOLE
+    },
+    Row {
+        faults: &[Fault::Write(1)],
+        status: Status::WriteFault,
+        printed: "ok nodes 4\n",
+        ..WHOLE
+    },
+    Row {
+        faults: &[Fault::Write(2)],
+        status: Status::WriteFault,
+        printed: "ok nodes 4\nok bytes 16\n",
+        ..WHOLE
+    },
+    Row {
+        faults: &[Fault::Write(3)],
+        ..WHOLE
+    },
+    Row {
+        script: "load a\nshow 1\nsave c",
+        faults: &[Fault::Write(1)],
+        status: Status::WriteFault,
+        printed: "ok nodes 4\n",
+        saved: b"old",
+        ..WHOLE
+    },
+    Row {
+        faults: &[Fault::Write(1)],
+        printed: "ok nodes 4\n",
+        ..LISTED
+    },
+    Row {
+        faults: &[Fault::Write(2)],
+        printed: "ok nodes 4\n2 element b\n3 element b\n",
+        ..LISTED
+    },
+    // Where none is selected there is no write for the lines.
+    Row {
+        script: "load a\nquery //c\nsave c\n",
+        faults: &[Fault::Write(1)],
+        printed: "ok nodes 4\n",
+        ..LISTED
+    },
+    // `a` is opened, and read to its end.
+    Row {
+        faults: &[
+            Fault::Shelf(0),
+            Fault::Shelf(1),
+            Fault::Shelf(2),
+            Fault::Shelf(3),
+            Fault::Shelf(4),
+        ],
+        printed: "! read-fault\n! no-document\n! bad-command\n",
+        saved: b"old",
+        ..WHOLE
+    },
+    // `c` is created and written. What is asked next is answered as ever, and a second saving is done.
+    Row {
+        faults: &[Fault::Shelf(5), Fault::Shelf(6), Fault::Shelf(7)],
+        printed: "ok nodes 4\n! write-fault\n! bad-command\n",
+        saved: b"old",
+        ..WHOLE
+    },
+    Row {
+        script: "load a\nsave c\nload z\ncount //b\nsave c\n",
+        faults: &[Fault::Shelf(6)],
+        printed: "ok nodes 4\n! write-fault\n! no-file\nok selected 2\nok bytes 16\n",
+        ..WHOLE
+    },
+    Row {
+        faults: &[Fault::Shelf(1000)],
+        ..WHOLE
+    },
+    // Queries read no file.
+    Row {
+        script: "load a\nquery //b\ncount //b\n",
+        faults: &[Fault::Shelf(5)],
+        printed: "ok nodes 4\n2 element b\n3 element b\nok selected 2\nok selected 2\n",
+        saved: b"old",
+        ..WHOLE
     },
 ];
 
 #[test]
-fn the_worked_rows_print_what_they_should(rt: HostRuntime) -> Result<(), Fail> {
-    assert_rows(&rt, rt.alloc(), &ROWS)?;
+fn scripts_end_as_their_rows_say(rt: HostRuntime) -> Result<(), Fail> {
+    for row in &ROWS {
+        assert_row(&rt, rt.alloc(), row, row.script)?;
+    }
     Ok(())
 }

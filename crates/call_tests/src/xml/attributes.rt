@@ -1,9 +1,8 @@
 // Attributes: their quotes, their values, and that no name stands twice in a tag.
 use super::vectors::Outcome::{Bad, Loaded};
-use super::vectors::{Vector, assert_vectors};
-use std::test::Fail;
+use super::vectors::Vector;
 
-static VECTORS: [Vector; 39] = [
+pub(super) static VECTORS: [Vector; 39] = [
     (
         "Attribute (41)",
         b"<a b=\"1\" c='2'/>",
@@ -147,8 +146,3 @@ static VECTORS: [Vector; 39] = [
         Bad(0),
     ),
 ];
-
-#[test]
-fn attributes_are_read_and_others_refused(rt: HostRuntime) -> Result<(), Fail> {
-    assert_vectors(&rt, rt.alloc(), &VECTORS)
-}

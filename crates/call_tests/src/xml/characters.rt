@@ -1,9 +1,8 @@
 // Characters, their spelling in UTF-8, what may stand as text, and line ends.
 use super::vectors::Outcome::{Bad, Loaded};
-use super::vectors::{Vector, assert_vectors};
-use std::test::Fail;
+use super::vectors::Vector;
 
-static VECTORS: [Vector; 60] = [
+pub(super) static VECTORS: [Vector; 60] = [
     (
         "Char (2): the ends of its ranges",
         b"<a>\t\n \xED\x9F\xBF\xEE\x80\x80\xEF\xBF\xBD\xF0\x90\x80\x80\xF4\x8F\xBF\xBF</a>",
@@ -184,8 +183,3 @@ static VECTORS: [Vector; 60] = [
     ("2.11: both bytes count", b"<a>\r\n<1/></a>", Bad(5)),
     ("2.11: #xD counts", b"<a>\r<1/></a>", Bad(4)),
 ];
-
-#[test]
-fn characters_are_read_and_others_refused(rt: HostRuntime) -> Result<(), Fail> {
-    assert_vectors(&rt, rt.alloc(), &VECTORS)
-}

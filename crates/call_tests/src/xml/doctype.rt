@@ -1,9 +1,8 @@
 // The DOCTYPE. The profile takes none with a subset, and drops it.
 use super::vectors::Outcome::{Bad, Loaded};
-use super::vectors::{Vector, assert_vectors};
-use std::test::Fail;
+use super::vectors::Vector;
 
-static VECTORS: [Vector; 34] = [
+pub(super) static VECTORS: [Vector; 34] = [
     (
         "doctypedecl (28)",
         b"<!DOCTYPE a><a/>",
@@ -159,8 +158,3 @@ static VECTORS: [Vector; 34] = [
         Bad(0),
     ),
 ];
-
-#[test]
-fn doctypes_are_read_and_others_refused(rt: HostRuntime) -> Result<(), Fail> {
-    assert_vectors(&rt, rt.alloc(), &VECTORS)
-}

@@ -1,9 +1,8 @@
 // Tags, contents, comments, instructions and sections, and what may stand outside the root.
 use super::vectors::Outcome::{Bad, Loaded};
-use super::vectors::{Vector, assert_vectors};
-use std::test::Fail;
+use super::vectors::Vector;
 
-static VECTORS: [Vector; 75] = [
+pub(super) static VECTORS: [Vector; 75] = [
     ("EmptyElemTag (44)", b"<a/>", Loaded(2, b"<a/>\n")),
     ("STag (40), ETag (42)", b"<a></a>", Loaded(2, b"<a/>\n")),
     (
@@ -208,8 +207,3 @@ static VECTORS: [Vector; 75] = [
         Bad(3),
     ),
 ];
-
-#[test]
-fn markup_is_read_and_other_refused(rt: HostRuntime) -> Result<(), Fail> {
-    assert_vectors(&rt, rt.alloc(), &VECTORS)
-}

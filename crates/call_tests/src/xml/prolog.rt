@@ -1,10 +1,9 @@
 // What stands before and behind the root: a byte order mark, the declaration, comments and instructions. The profile takes
 // fewer encodings than a parser may.
 use super::vectors::Outcome::{Bad, Loaded};
-use super::vectors::{Vector, assert_vectors};
-use std::test::Fail;
+use super::vectors::Vector;
 
-static VECTORS: [Vector; 54] = [
+pub(super) static VECTORS: [Vector; 54] = [
     (
         "XMLDecl (23)",
         b"<?xml version=\"1.0\"?><a/>",
@@ -227,8 +226,3 @@ static VECTORS: [Vector; 54] = [
     ("document (1): a comment alone", b"<!--x-->", Bad(8)),
     ("document (1): an instruction alone", b"<?b?>\n", Bad(6)),
 ];
-
-#[test]
-fn prologs_are_read_and_others_refused(rt: HostRuntime) -> Result<(), Fail> {
-    assert_vectors(&rt, rt.alloc(), &VECTORS)
-}

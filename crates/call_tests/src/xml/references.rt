@@ -1,9 +1,8 @@
 // References to characters and to the five entities that every document has.
 use super::vectors::Outcome::{Bad, Loaded};
-use super::vectors::{Vector, assert_vectors};
-use std::test::Fail;
+use super::vectors::Vector;
 
-static VECTORS: [Vector; 45] = [
+pub(super) static VECTORS: [Vector; 45] = [
     (
         "EntityRef (68), 4.6",
         b"<a>&lt;&gt;&amp;&apos;&quot;</a>",
@@ -140,8 +139,3 @@ static VECTORS: [Vector; 45] = [
         Bad(4),
     ),
 ];
-
-#[test]
-fn references_are_read_and_others_refused(rt: HostRuntime) -> Result<(), Fail> {
-    assert_vectors(&rt, rt.alloc(), &VECTORS)
-}

@@ -1,14 +1,8 @@
 // Files, and what comes of each where a script loads and saves it.
-ghost use Rattle.std.specs.Prelude.{◌≤◌};
-
-use super::pieces::SIZES;
-use crate::scripts::memory::shelf_of;
-use crate::scripts::{served, whole};
-use std::alloc::Global;
-use std::process::Abort;
+use super::{attributes, characters, doctype, markup, names, prolog, references, worked};
+use crate::scripts::memory::{DONE, Row, assert_row};
+use std::alloc::{AllocError, Global};
 use std::test::Fail;
-use store_shell::Status;
-use tree_outside::MemorySink;
 
 // What comes of a file.
 #[derive(Clone, Copy)]
@@ -23,58 +17,53 @@ pub(super) enum Outcome {
 // comes of it.
 pub(super) type Vector = (&'static str, &'static [u8], Outcome);
 
-pub(super) fn assert_vectors(
-    rt: &impl Abort,
-    alloc: Global,
-    vectors: &[Vector],
-) -> Result<(), Fail> {
-    for vector in vectors {
-        let (_, _, outcome) = vector;
-        let printed = printed_of(alloc, outcome)?;
-        for &size in &SIZES {
-            assert_vector(rt, alloc, vector, printed.as_str(), size.max(1))?;
+const TABLES: usize = 8;
+
+fn table(at: usize) -> &'static [Vector] {
+    match at {
+        0 => &worked::VECTORS,
+        1 => &prolog::VECTORS,
+        2 => &doctype::VECTORS,
+        3 => &markup::VECTORS,
+        4 => &attributes::VECTORS,
+        5 => &names::VECTORS,
+        6 => &characters::VECTORS,
+        _ => &references::VECTORS,
+    }
+}
+
+#[test]
+fn files_are_documents_or_bad(rt: HostRuntime) -> Result<(), Fail> {
+    let alloc = rt.alloc();
+    for at in 0..TABLES {
+        for &(shows, file, outcome) in table(at) {
+            let printed = printed_of(alloc, outcome)?;
+            let row = row_of(file, outcome, &printed);
+            assert_row(&rt, alloc, &row, shows)?;
         }
     }
     Ok(())
 }
 
-fn printed_of(alloc: Global, outcome: &Outcome) -> Result<String, Fail> {
-    let printed = match outcome {
-        Outcome::Loaded(nodes, saved) => {
-            format!(in alloc; "ok nodes {nodes}\nok bytes {}\n", saved.len())?
-        }
-        Outcome::Bad(at) => format!(in alloc; "! bad-xml {at}\n! no-document\n")?,
-    };
-    Ok(printed)
-}
-
-// The file `c` holds `old` before.
-fn saved_of(outcome: &Outcome) -> &'static [u8] {
+fn printed_of(alloc: Global, outcome: Outcome) -> Result<String, AllocError> {
     match outcome {
-        Outcome::Loaded(_, saved) => saved,
-        Outcome::Bad(_) => b"old",
+        Outcome::Loaded(nodes, saved) => {
+            format!(in alloc; "ok nodes {nodes}\nok bytes {}\n", saved.len())
+        }
+        Outcome::Bad(at) => format!(in alloc; "! bad-xml {at}\n! no-document\n"),
     }
 }
 
-fn assert_vector(
-    rt: &impl Abort,
-    alloc: Global,
-    vector: &Vector,
-    printed: &str,
-    size: usize,
-) -> Result<(), Fail>
-    requires { 1 ≤ size }
-{
-    let (shows, file, outcome) = vector;
-    let mut source = whole(alloc, b"load a\nsave c\n".to_vec(alloc)?);
-    let mut sink = MemorySink::new(alloc, Vec::new(alloc));
-    let mut shelf = shelf_of(alloc, file, size, Vec::new(alloc))?;
-    let status = served(alloc, &mut source, &mut sink, &mut shelf);
-    let saved = shelf.file("c").unwrap_or(b"");
-    assert_eq!(*rt;
-        (status, sink.bytes(), saved),
-        (Status::Done, printed.as_bytes(), saved_of(outcome)),
-        "{shows}, in pieces of {size}"
-    );
-    Ok(())
+fn row_of<'a>(file: &'static [u8], outcome: Outcome, printed: &'a str) -> Row<'a> {
+    let saved: &'static [u8] = match outcome {
+        Outcome::Loaded(_, saved) => saved,
+        Outcome::Bad(_) => DONE.saved,
+    };
+    Row {
+        document: file,
+        script: "load a\nsave c\n",
+        printed,
+        saved,
+        ..DONE
+    }
 }

@@ -1,9 +1,8 @@
 // Worked rows.
 use super::vectors::Outcome::{Bad, Loaded};
-use super::vectors::{Vector, assert_vectors};
-use std::test::Fail;
+use super::vectors::Vector;
 
-static VECTORS: [Vector; 17] = [
+pub(super) static VECTORS: [Vector; 17] = [
     (
         "empty elements",
         b"<a><b/><b/></a>",
@@ -53,8 +52,3 @@ static VECTORS: [Vector; 17] = [
         Loaded(4, b"<!--p-->\n<a>t</a>\n"),
     ),
 ];
-
-#[test]
-fn worked_rows_are_read(rt: HostRuntime) -> Result<(), Fail> {
-    assert_vectors(&rt, rt.alloc(), &VECTORS)
-}

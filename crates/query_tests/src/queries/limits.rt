@@ -14,7 +14,7 @@ struct Long {
     error: Option<QueryError>,
 }
 
-static LIMITS: [Long; 20] = [
+static LIMITS: [Long; 29] = [
     // 64 steps outside filters
     Long {
         front: b"a",
@@ -204,9 +204,6 @@ static LIMITS: [Long; 20] = [
         end: b"",
         error: Some(QueryError::Bad),
     },
-];
-
-static LONG: [Long; 9] = [
     // deep
     Long {
         front: b"",
@@ -307,21 +304,11 @@ fn spelled(alloc: Global, long: &Long) -> Result<Vec<u8>, AllocError> {
 }
 
 #[test]
-fn the_limits_are_exact(rt: HostRuntime) -> Result<(), Fail> {
-    for long in &LIMITS {
+fn queries_have_limits_and_take_no_stack(rt: HostRuntime) -> Result<(), Fail> {
+    for (row, long) in LIMITS.iter().enumerate() {
         let query = spelled(rt.alloc(), long)?;
         let error = parse(rt.alloc(), &query).err();
-        assert_eq!(rt; error, long.error, "{query:?}");
-    }
-    Ok(())
-}
-
-#[test]
-fn long_queries_take_no_stack(rt: HostRuntime) -> Result<(), Fail> {
-    for long in &LONG {
-        let query = spelled(rt.alloc(), long)?;
-        let error = parse(rt.alloc(), &query).err();
-        assert_eq!(rt; error, long.error);
+        assert!(rt; error == long.error, "row {row}");
     }
     Ok(())
 }

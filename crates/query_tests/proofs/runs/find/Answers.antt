@@ -8,11 +8,5 @@ use Rattle.query_tests.proofs.runs.find.Goals as goal
 pub fall-requires-clause-small : goal.fall-requires-clause-small
 fall-requires-clause-small g c = rw (nodes-weigh node_weight (λ f. refl) refl refl (value (rules_of c.args.grammar.now.rules))) c.in_ok-_counts.ensures.few
 
-pub fall-requires-2-clause-small : goal.fall-requires-2-clause-small
-fall-requires-2-clause-small g c = rw (nodes-weigh node_weight (λ f. refl) refl refl (value (rules_of c.args.grammar.now.rules))) c.in_ok-_counts.ensures.few
-
-pub list-requires : goal.list-requires
-list-requires g c = c.in_ok-fallen.ensures.listed.1 refl
-
 pub list_numbers-requires : goal.list_numbers-requires
 list_numbers-requires g c = c.in_ok-fallen.ensures.listed.1 refl

@@ -4,3 +4,17 @@ pub mod WalkLemmas
 pub mod NameShowing
 pub mod NameFinding
 pub mod NameAdding
+pub mod Changing
+pub mod Seams
+pub mod SeamTexts
+pub mod PlainEdits
+pub mod KidLaws
+pub mod LawfulEdits
+pub mod LawfulDocuments
+pub mod EditedDocuments
+pub mod EditSteps
+pub mod EditCounts
+pub mod TextsApart
+pub mod EditRows
+pub mod TextsAt
+pub mod EditTurns

@@ -13,3 +13,12 @@ pub mod Freeing
 pub mod Laws
 pub mod NamePlaces
 pub mod NameTable
+pub mod Edits
+pub mod Siblings
+pub mod Places
+pub mod Allowed
+pub mod Meetings
+pub mod NodePairs
+pub mod Additions
+pub mod InTurn
+pub mod EditLaws

@@ -10,18 +10,19 @@ use Rattle.rule_arena.specs.declared.label.Label.TheVariants.{Bottom, Symbol, Ca
 use Rattle.slt_grammar.specs.Algebras.{ranks_of}
 use Rattle.slt_grammar.specs.Bodies.{arity, params, real_nodes, calls_in, CallsBelow, IsTerm}
 use Rattle.slt_grammar.specs.Editing.{shifted, shifted_label, shifted_rule, rule_added}
-use Rattle.slt_grammar.specs.Grammars.{IsGrammar, body_at, calls_of, size, value}
+use Rattle.slt_grammar.specs.Grammars.{IsGrammar, body_at, calls_of, size, value, value_at}
 use Rattle.slt_grammar.specs.Holding.{IsLawful}
 use Rattle.slt_grammar.specs.Keyed.{KeyedRule, HasArities, nodes_at, rules_of, labels_of}
 use Rattle.slt_grammar.specs.KeyedEdits.{shifted_keyed, rule_put}
 use Rattle.slt_grammar.specs.Placing.{shifted_node}
+use Rattle.slt_grammar.specs.RuleValues.{HasRuleMore}
 use Rattle.slt_grammar.specs.declared.rules.Rule.{Rule}
 use Rattle.slt_grammar.proofs.Adding.{CallsBelow-le, ranks-before, ranks-behind}
 use Rattle.slt_grammar.proofs.Agreeing.{Agree, agree-of, of-agree}
-use Rattle.slt_grammar.proofs.Keeping.{shifted-before, shifted-same, grammar-added}
+use Rattle.slt_grammar.proofs.Keeping.{shifted-before, shifted-same, grammar-added, length-rule_added}
 use Rattle.slt_grammar.proofs.KeyedLemmas.{length-rules_of}
 use Rattle.slt_grammar.proofs.Removals.{same-test, shifted-same-place, calls-past}
-use Rattle.slt_grammar.proofs.Values.{value-added}
+use Rattle.slt_grammar.proofs.Values.{value-added, value_at-added}
 use Rattle.slt_grammar.proofs.Weights.{weigh, call_weight, real_weight, calls-weigh, real-weigh, total, calls-total, size-total}
 
 -- a rule without its keys
@@ -193,6 +194,13 @@ module _ (G : List KeyedRule) (p : ℕ) (R : KeyedRule) (L : IsLawful G) (h : p 
 
   pub put-value : value (rules_of (rule_put G p R)) ≡ value (rules_of G)
   put-value = ap value put-is ∙ value-added (rules_of G) p (plain R) L.grammar there
+
+  pub put-values : HasRuleMore p (rules_of G) (rules_of (rule_put G p R))
+  put-values = record {
+    within = omega (arith, there);
+    more = ap length put-is ∙ length-rule_added (rules_of G) p (plain R) (omega (arith, there));
+    values = λ r l. ap (λ (Q : List Rule). value_at Q (shifted p r)) put-is ∙ value_at-added (rules_of G) p (plain R) r L.grammar (omega (arith, there)) l;
+  }
 
   pub put-calls : (q : ℕ) → calls_of (rules_of (rule_put G p R)) (shifted p q) ≡ calls_of (rules_of G) q + calls_in q (labels_of R.nodes)
   put-calls q =

@@ -19,8 +19,9 @@ use Rattle.slt_grammar.specs.KeyedEdits.{rule_put, shifted_keyed}
 use Rattle.slt_grammar.specs.Ordering.{Fresh}
 use Rattle.slt_grammar.specs.Placing.{placed, placed_node, AreKnown, shifted_node}
 use Rattle.slt_grammar.specs.RulePuts.{IsLaid, IsLawfulBefore, IsPut, param_of}
+use Rattle.slt_grammar.specs.RuleValues.{HasRuleMore}
 use Rattle.slt_grammar.specs.Wrapping.{nodes_of}
-use Rattle.slt_grammar.proofs.Additions.{Fits, get-new, get-shifted, length-insert, nodes-same, put-lawful, put-value, put-calls, put-uncalled, put-size, put-length}
+use Rattle.slt_grammar.proofs.Additions.{Fits, get-new, get-shifted, length-insert, nodes-same, put-lawful, put-value, put-values, put-calls, put-uncalled, put-size, put-length}
 use Rattle.slt_grammar.proofs.Agreeing.{Agree, kids-terms}
 use Rattle.slt_grammar.proofs.CallCounts.{below-more}
 use Rattle.slt_grammar.proofs.CopiesPlaced.{copied-changed, hole-placed, holes-placed, known-copied}
@@ -229,6 +230,9 @@ module _ (a : Terms) (roots : List Key) (ranks calls order : List ℕ) (nodes : 
 
         pub value-put : value (rules_of (seen order' ranks' (terms_of b roots'))) ≡ value (rules_of G)
         value-put = ap (λ (F : List KeyedRule). value (rules_of F)) seen-is ∙ put-value G place new-rule L h fits
+
+        pub values-put : HasRuleMore place (rules_of G) (rules_of (seen order' ranks' (terms_of b roots')))
+        values-put = subst (λ (F : List KeyedRule). HasRuleMore place (rules_of G) (rules_of F)) (sym seen-is) (put-values G place new-rule L h fits)
 
         pub size-put : size (rules_of (seen order' ranks' (terms_of b roots'))) ≡ size (rules_of G) + real_nodes body
         size-put = ap (λ (F : List KeyedRule). size (rules_of F)) seen-is ∙ put-size G place new-rule L h fits ∙ ap (λ (ls : List Label). size (rules_of G) + real_nodes ls) made-labels

@@ -10,11 +10,12 @@ use Rattle.slt_grammar.specs.Holding.{seen, terms_of, AllKnown, AreHeld, IsKept,
 use Rattle.slt_grammar.specs.Keyed.{KeyedRule, nodes_at, rules_of, labels_of}
 use Rattle.slt_grammar.specs.KeyedEdits.{rule_dropped}
 use Rattle.slt_grammar.specs.Placing.{placed, AreKnown, DoNotCall}
+use Rattle.slt_grammar.specs.RuleValues.{HasRuleMore}
 use Rattle.slt_grammar.proofs.Held.{nodes-are, many-rules, body-stands}
 use Rattle.slt_grammar.proofs.KeyedLemmas.{body_at-rules_of}
 use Rattle.slt_grammar.proofs.KeptLemmas.{lawful, counted, known-body, enough, size-enough}
 use Rattle.slt_grammar.proofs.Placings.{seen-left, all-left}
-use Rattle.slt_grammar.proofs.KeyedRemovals.{never, do-not-call, dropped-lawful, dropped-counted, value-dropped}
+use Rattle.slt_grammar.proofs.KeyedRemovals.{never, do-not-call, dropped-lawful, dropped-counted, value-dropped, values-dropped}
 use Rattle.slt_grammar.proofs.Removals.{length-left, held-left, terms-left}
 
 module _ (a : Terms) (roots : List Key) (ranks calls order : List ℕ) (nodes : ℕ) (G : List KeyedRule) (K : IsKept a roots ranks calls order nodes) (see : seen order ranks (terms_of a roots) ≡ G)
@@ -107,3 +108,6 @@ module _ (a : Terms) (roots : List Key) (ranks calls order : List ℕ) (nodes : 
 
       pub value-kept : value (rules_of (seen order' ranks' (terms_of b roots'))) ≡ value (rules_of G)
       value-kept = ap (λ (F : List KeyedRule). value (rules_of F)) seen-dropped ∙ value-dropped G rule L h u
+
+      pub values-kept : HasRuleMore rule (rules_of (seen order' ranks' (terms_of b roots'))) (rules_of G)
+      values-kept = subst (λ (F : List KeyedRule). HasRuleMore rule (rules_of F) (rules_of G)) (sym seen-dropped) (values-dropped G rule L h u)

@@ -1,16 +1,16 @@
 -- Rules that are kept, once a call gave way to a copy of its rule's nodes.
 use Rattle.std.proofs.Common.{◌≡◌, ℕ, zero, suc, ◌+◌, ◌-◌, ◌<◌, ◌≤◌, List, [], ◌∷◌, All, length, get_or, Option, Some, IsSome, slice_get, sym, ap, ◌∙◌, subst, arith}
 use Rattle.std.proofs.lemmas.List.{length-map}
-use Rattle.rule_arena.specs.Terms.{Node, Terms, At, term_at}
+use Rattle.rule_arena.specs.Terms.{Node, Terms, At, key_in, term_at}
 use Rattle.rule_arena.specs.declared.key.Key.{Key}
 use Rattle.rule_arena.specs.declared.label.Label.{Label}
 use Rattle.rule_arena.specs.declared.label.Label.TheVariants.{Bottom, Symbol, Call, Param}
 use Rattle.slt_grammar.specs.Algebras.{ranks_of, all_meanings}
 use Rattle.slt_grammar.specs.Bodies.{arity, calls_in, real_nodes}
-use Rattle.slt_grammar.specs.Copying.{IsShape, Inlined, holes_in, kids_at, inlined_nodes}
+use Rattle.slt_grammar.specs.Copying.{InlinedAt, IsShape, holes_in, kids_at, inlined_nodes}
 use Rattle.slt_grammar.specs.Grammars.{body_at, rank_at, size, value_at}
 use Rattle.slt_grammar.specs.Holding.{seen, terms_of, IsKept, IsLawful, AreCounted, AllKnown}
-use Rattle.slt_grammar.specs.Keyed.{KeyedRule, nodes_at, rules_of, labels_of}
+use Rattle.slt_grammar.specs.Keyed.{KeyedRule, key_at, nodes_at, rules_of, labels_of}
 use Rattle.slt_grammar.specs.KeyedEdits.{StandsAsCall, IsInlined, with_nodes}
 use Rattle.slt_grammar.specs.Ordering.{place_of}
 use Rattle.slt_grammar.specs.Placing.{placed, placed_node, placed_label, AreKnown}
@@ -21,10 +21,10 @@ use Rattle.slt_grammar.proofs.CopiesPlaced.{placed-inlined, kids-placed, holes-p
 use Rattle.slt_grammar.proofs.Held.{node-is, some-at, key-is, nodes-are, rule-within, body-stands}
 use Rattle.slt_grammar.proofs.InlinedRules.{in-list, earlier, callee-agree, kids-holes, inlined-lawful, inlined-means, inlined-ranks, inlined-weighs}
 use Rattle.slt_grammar.proofs.KeptLemmas.{lawful, counted, known-body, enough, size-enough}
-use Rattle.slt_grammar.proofs.KeyedEdits.{counted-with}
+use Rattle.slt_grammar.proofs.KeyedEdits.{counted-with, nodes-with_nodes}
 use Rattle.slt_grammar.proofs.KeyedLemmas.{body_at-rules_of}
 use Rattle.slt_grammar.proofs.RuleMeanings.{rank_at-ranks_of}
-use Rattle.slt_grammar.proofs.Seen.{node-placed}
+use Rattle.slt_grammar.proofs.Seen.{key-placed, node-placed}
 use Rattle.slt_grammar.proofs.Storing.{ranks-small, terms-same}
 use Rattle.slt_grammar.proofs.TourWalking.{key-node}
 use Rattle.slt_grammar.proofs.Weights.{weigh}
@@ -142,7 +142,7 @@ module _ (a : Terms) (roots : List Key) (ranks calls order : List ℕ) (nodes : 
   pub size-there : 1 ≤ nodes
   size-there = size-enough a roots ranks calls order nodes G K see r (Call q ∷ []) in-rules call-part
 
-  module _ (b : Terms) (ss : List Key) (calls' : List ℕ) (come : ℕ) (follow moved : Key) (I : Inlined a b roots ss r (raw r) p (raw q) follow moved) where
+  module _ (b : Terms) (ss : List Key) (calls' : List ℕ) (come : ℕ) (follow moved root : Key) (I : InlinedAt a b roots ss r (raw r) p (raw q) follow moved root) where
     ms-seen : placed order (inlined_nodes (raw r) p (raw q) I.keys) ≡ inlined_nodes (nodes_at G r) p (nodes_at G q) I.keys
     ms-seen =
         placed-inlined order (raw r) p (raw q) I.keys ∙ ap (λ (ns : List Node). inlined_nodes ns p (placed order (raw q)) I.keys) (sym (nodes_s r))
@@ -161,6 +161,11 @@ module _ (a : Terms) (roots : List Key) (ranks calls order : List ℕ) (nodes : 
       rules = seen-inlined;
       follows = λ j e. I.follows j (key-is a roots ranks order G K.rules see q j follow e);
     }
+
+    pub root-inlined : key_at (seen order ranks (terms_of b ss)) r p ≡ Some root
+    root-inlined =
+        ap (λ (H : List KeyedRule). key_at H r p) seen-inlined ∙ ap (λ (ns : List Node). key_in ns p) (nodes-with_nodes G r (inlined_nodes (nodes_at G r) p (nodes_at G q) I.keys) in-rules ∙ sym ms-seen)
+        ∙ key-placed order (inlined_nodes (raw r) p (raw q) I.keys) p ∙ I.first
 
     pub kept-inlined : length calls' ≡ length calls → ((s : ℕ) → s < length calls → get_or calls' s 0 + calls_in s (Call q ∷ []) ≡ get_or calls s 0 + calls_in s (labels_of (placed order (raw q)))) → come ≡ real_nodes (labels_of (placed order (raw q)))
         → IsKept b ss ranks calls' order (nodes + come - 1)

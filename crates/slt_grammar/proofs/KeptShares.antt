@@ -1,5 +1,5 @@
 -- Rules that are kept, once a term of the start became a rule of its own.
-use Rattle.std.proofs.Common.{◌≡◌, ℕ, zero, suc, ◌+◌, ◌<◌, ◌≤◌, List, [], ◌∷◌, length, get_or, set, map, Option, Some, IsSome, refl, sym, ap, ◌∙◌, subst, arith, insert}
+use Rattle.std.proofs.Common.{◌≡◌, ℕ, zero, suc, ◌+◌, ◌-◌, ◌<◌, ◌≤◌, List, [], ◌∷◌, length, get_or, set, map, Option, Some, IsSome, refl, sym, ap, ◌∙◌, subst, arith, insert}
 use Rattle.std.proofs.lemmas.List.{length-map, length-set}
 use Rattle.rule_arena.specs.Preorder.{subterm, with_subterm}
 use Rattle.rule_arena.specs.Terms.{Node, Terms, Apart, term_at, or_nothing, kids_of}
@@ -12,6 +12,7 @@ use Rattle.slt_grammar.specs.Keyed.{KeyedRule, key_at, nodes_at, rules_of, label
 use Rattle.slt_grammar.specs.KeyedEdits.{with_nodes, shifted_keyed, rule_put, rule_shared}
 use Rattle.slt_grammar.specs.Ordering.{Fresh}
 use Rattle.slt_grammar.specs.Placing.{placed, AreKnown, shifted_node}
+use Rattle.slt_grammar.specs.RuleValues.{HasRuleMore}
 use Rattle.slt_grammar.proofs.Additions.{nodes-same, length-insert}
 use Rattle.slt_grammar.proofs.Changes.{seen-set, known-set}
 use Rattle.slt_grammar.proofs.Held.{nodes-are, many-rules}
@@ -19,7 +20,7 @@ use Rattle.slt_grammar.proofs.KeptLemmas.{lawful, counted, known-body, body-belo
 use Rattle.slt_grammar.proofs.Placed.{known-with, known-subterm, with-placed, subterm-placed}
 use Rattle.slt_grammar.proofs.Placings.{placed-inserted}
 use Rattle.slt_grammar.proofs.Puts.{held-put, terms-put, seen-put, known-put, all-put, place-put}
-use Rattle.slt_grammar.proofs.SharedRules.{new-rule, left, shared, shared-is, shared-lawful, shared-counted, shared-value, shared-size}
+use Rattle.slt_grammar.proofs.SharedRules.{new-rule, left, shared, shared-is, shared-lawful, shared-counted, shared-value, shared-values, shared-size}
 
 -- a rule that is put in before one that is changed
 insert-set : (bs : List (List Node)) (r : ℕ) (x b : List Node) → r < length bs → insert (set bs r x) r b ≡ set (insert bs r b) (r + 1) x
@@ -133,6 +134,12 @@ module _ (a : Terms) (roots : List Key) (ranks calls order : List ℕ) (nodes : 
 
     pub value-shared : value (rules_of (seen order' ranks' (terms_of c roots'))) ≡ value (rules_of G)
     value-shared = ap (λ (F : List KeyedRule). value (rules_of F)) seen-is ∙ shared-value G r p at call L start there
+
+    pub values-shared : HasRuleMore (length G - 1) (rules_of G) (rules_of (seen order' ranks' (terms_of c roots')))
+    values-shared =
+        let last : r ≡ length G - 1 = omega (arith, start) in
+        subst (λ (n : ℕ). HasRuleMore n (rules_of G) (rules_of (seen order' ranks' (terms_of c roots')))) last
+        (subst (λ (F : List KeyedRule). HasRuleMore r (rules_of G) (rules_of F)) (sym seen-is) (shared-values G r p at call L start there))
 
     pub size-shared : size (rules_of (seen order' ranks' (terms_of c roots'))) ≡ size (rules_of G) + 1
     size-shared = ap (λ (F : List KeyedRule). size (rules_of F)) seen-is ∙ shared-size G r p at call L start there

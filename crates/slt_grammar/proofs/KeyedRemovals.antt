@@ -14,11 +14,12 @@ use Rattle.slt_grammar.specs.Holding.{IsLawful, AreCounted}
 use Rattle.slt_grammar.specs.Keyed.{KeyedRule, HasArities, nodes_at, rules_of, labels_of}
 use Rattle.slt_grammar.specs.KeyedEdits.{unshifted_keyed, rule_dropped}
 use Rattle.slt_grammar.specs.Placing.{unshifted_label, unshifted_node, DoesNotCall, DoNotCall}
+use Rattle.slt_grammar.specs.RuleValues.{HasRuleMore}
 use Rattle.slt_grammar.specs.declared.rules.Rule.{Rule}
 use Rattle.slt_grammar.proofs.Agreeing.{Agree, agree-of, of-agree}
 use Rattle.slt_grammar.proofs.Keeping.{shifted-before, shifted-behind}
 use Rattle.slt_grammar.proofs.KeyedLemmas.{length-rules_of, body_at-rules_of}
-use Rattle.slt_grammar.proofs.Removals.{get-left, get-unshifted, other-call, ranks-left, none-calls, length-left, removed-lawful, value-removed, calls-removed, size-removed, rule_removed, unshifted_rule, unshifted_labels, calls-past}
+use Rattle.slt_grammar.proofs.Removals.{get-left, get-unshifted, other-call, ranks-left, none-calls, length-left, removed-lawful, value-removed, values-removed, calls-removed, size-removed, rule_removed, unshifted_rule, unshifted_labels, calls-past}
 
 -- the same with keys
 pub rules-dropped : (G : List KeyedRule) (p : ℕ) → rules_of (rule_dropped G p) ≡ rule_removed (rules_of G) p
@@ -83,6 +84,9 @@ module _ (G : List KeyedRule) (p : ℕ) (L : IsLawful G) (h : p + 1 < length G) 
 
   pub value-dropped : value (rules_of (rule_dropped G p)) ≡ value (rules_of G)
   value-dropped = ap value (rules-dropped G p) ∙ value-removed (rules_of G) p L.grammar there u
+
+  pub values-dropped : HasRuleMore p (rules_of (rule_dropped G p)) (rules_of G)
+  values-dropped = subst (λ (Q : List Rule). HasRuleMore p Q (rules_of G)) (sym (rules-dropped G p)) (values-removed (rules_of G) p L.grammar there u)
 
   pub dropped-counted : (calls mid : List ℕ) (nodes left : ℕ) → AreCounted G calls nodes → length mid ≡ length calls → ((q : ℕ) → q < length calls → get_or mid q 0 + calls_in q (labels_of (nodes_at G p)) ≡ get_or calls q 0)
       → left ≡ real_nodes (labels_of (nodes_at G p)) → AreCounted (rule_dropped G p) (remove mid p) (nodes - left)

@@ -61,3 +61,4 @@ pub mod TourLemmas
 pub mod TourWalking
 pub mod StopLemmas
 pub mod RankBounds
+pub mod OtherValues

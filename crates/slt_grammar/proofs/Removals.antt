@@ -12,13 +12,14 @@ use Rattle.rule_arena.specs.declared.label.Label.TheVariants.{Bottom, Symbol, Ca
 use Rattle.slt_grammar.specs.Algebras.{ranks_of}
 use Rattle.slt_grammar.specs.Bodies.{arity, params, real_nodes, calls_in, CallsBelow, IsTerm}
 use Rattle.slt_grammar.specs.Editing.{shifted, shifted_label, shifted_rule, rule_added}
-use Rattle.slt_grammar.specs.Grammars.{IsGrammar, IsLawfulAt, body_at, rank_at, calls_of, size, value, no_rule}
+use Rattle.slt_grammar.specs.Grammars.{IsGrammar, IsLawfulAt, body_at, rank_at, calls_of, size, value, value_at, no_rule}
 use Rattle.slt_grammar.specs.Holding.{terms_of, AreHeld}
 use Rattle.slt_grammar.specs.Placing.{unshifted, unshifted_label}
+use Rattle.slt_grammar.specs.RuleValues.{HasRuleMore}
 use Rattle.slt_grammar.specs.declared.rules.Rule.{Rule}
 use Rattle.slt_grammar.proofs.CallCounts.{below-more}
 use Rattle.slt_grammar.proofs.Keeping.{shifted-before, shifted-behind}
-use Rattle.slt_grammar.proofs.Values.{value-added}
+use Rattle.slt_grammar.proofs.Values.{value-added, value_at-added}
 use Rattle.slt_grammar.proofs.Weights.{weigh, call_weight, real_weight, calls-weigh, real-weigh, total, calls-total, size-total}
 
 -- a list without one of its items
@@ -289,6 +290,15 @@ module _ (G : List Rule) (p : ℕ) (g : IsGrammar G) (h : p + 1 < length G) (u :
 
   pub value-removed : value (rule_removed G p) ≡ value G
   value-removed = sym (value-added (rule_removed G p) p (get_or G p no_rule) removed-lawful (omega (arith, length-removed))) ∙ ap value removed-back
+
+  pub values-removed : HasRuleMore p (rule_removed G p) G
+  values-removed = record {
+    within = omega (arith, length-removed);
+    more = sym length-removed;
+    values = λ r l.
+        ap (λ (Q : List Rule). value_at Q (shifted p r)) (sym removed-back)
+        ∙ value_at-added (rule_removed G p) p (get_or G p no_rule) r removed-lawful (omega (arith, length-removed)) l;
+  }
 
   pub calls-removed : (q : ℕ) → calls_of (rule_removed G p) q + calls_in (shifted p q) (body_at G p) ≡ calls_of G (shifted p q)
   calls-removed q =

@@ -17,8 +17,9 @@ use Rattle.slt_grammar.specs.Holding.{IsLawful, AreCounted}
 use Rattle.slt_grammar.specs.Keyed.{KeyedRule, key_at, nodes_at, rules_of, labels_of}
 use Rattle.slt_grammar.specs.KeyedEdits.{with_nodes, shifted_keyed, rule_put, rule_shared}
 use Rattle.slt_grammar.specs.Terms.{Term, Leaf, term_algebra, holes}
+use Rattle.slt_grammar.specs.RuleValues.{HasRuleMore}
 use Rattle.slt_grammar.specs.declared.rules.Rule.{Rule}
-use Rattle.slt_grammar.proofs.Additions.{Fits, get-new, get-shifted, length-insert, put-lawful, put-value, put-calls, put-uncalled, put-size, put-length, nodes-same, never-there, calls-before}
+use Rattle.slt_grammar.proofs.Additions.{Fits, get-new, get-shifted, length-insert, put-lawful, put-value, put-values, put-calls, put-uncalled, put-size, put-length, nodes-same, never-there, calls-before}
 use Rattle.slt_grammar.proofs.Adding.{CallsBelow-le}
 use Rattle.slt_grammar.proofs.Agreeing.{Agree, agree-of, labels-subterm, labels-with}
 use Rattle.slt_grammar.proofs.Folding.{folding-keeps}
@@ -199,19 +200,32 @@ module _ (G : List KeyedRule) (r p : ℕ) (at call : Key) (L : IsLawful G) (star
   rules-are : rules_of shared ≡ with_body (rules_of P) (r + 1) (with_subterm (arity (ranks_of (rules_of P))) (body_at (rules_of P) (r + 1)) p (Call r ∷ []))
   rules-are = rules-with_nodes P (r + 1) left ∙ ap (with_body (rules_of P) (r + 1)) labels-left
 
-  pub shared-value : value (rules_of shared) ≡ value (rules_of G)
-  shared-value =
+  -- the call means what the term in its place meant
+  same-meanings : all_meanings term_algebra (with_body (rules_of P) (r + 1) (with_subterm (arity (ranks_of (rules_of P))) (body_at (rules_of P) (r + 1)) p (Call r ∷ []))) ≡ all_meanings term_algebra (rules_of P)
+  same-meanings =
       let Q : List Rule = rules_of P in
-      let body : List Label = with_subterm (arity (ranks_of Q)) (body_at Q (r + 1)) p (Call r ∷ []) in
       let inside : p < length (body_at Q (r + 1)) = omega (arith, ap length start-body, (key_at-within G r p at there).1, length-map ns (λ (n : Node). n.label)) in
       let is : subterm (arity (ranks_of Q)) (body_at Q (r + 1)) p ≡ put (body_at Q r) [] = labels-sub ∙ sym (put-none (body_at Q r) ∙ body_at-rules_of P r ∙ ap labels_of put-new) in
-      let m : all_meanings term_algebra (with_body Q (r + 1) body) ≡ all_meanings term_algebra Q =
-      folding-keeps Q (r + 1) p r [] PL.grammar in-plain (omega arith) inside tt (sym rank-new) is term_algebra in
-      ap value rules-are
-      ∙ ap (λ (n : ℕ). value_at (with_body Q (r + 1) body) (n - 1)) (length-with_body Q (r + 1) body in-plain)
-      ∙ ap (λ (k : ℕ). get_or (all_meanings term_algebra (with_body Q (r + 1) body)) (length Q - 1) (λ _. Leaf) (holes 0 k)) (rank_at-with_body Q (r + 1) body (length Q - 1) in-plain)
-      ∙ ap (λ (fs : List (List Term → Term)). get_or fs (length Q - 1) (λ _. Leaf) (holes 0 (rank_at Q (length Q - 1)))) m
-      ∙ put-value G r new-rule L in-list fits
+      folding-keeps Q (r + 1) p r [] PL.grammar in-plain (omega arith) inside tt (sym rank-new) is term_algebra
+
+  value_at-shared : (s : ℕ) → value_at (rules_of shared) s ≡ value_at (rules_of P) s
+  value_at-shared s =
+      let Q : List Rule = rules_of P in
+      let body : List Label = with_subterm (arity (ranks_of Q)) (body_at Q (r + 1)) p (Call r ∷ []) in
+      ap (λ (R : List Rule). value_at R s) rules-are
+      ∙ ap (λ (k : ℕ). get_or (all_meanings term_algebra (with_body Q (r + 1) body)) s (λ _. Leaf) (holes 0 k)) (rank_at-with_body Q (r + 1) body s in-plain)
+      ∙ ap (λ (fs : List (List Term → Term)). get_or fs s (λ _. Leaf) (holes 0 (rank_at Q s))) same-meanings
+
+  many-shared : length (rules_of shared) ≡ length (rules_of P)
+  many-shared = ap length rules-are ∙ length-with_body (rules_of P) (r + 1) (with_subterm (arity (ranks_of (rules_of P))) (body_at (rules_of P) (r + 1)) p (Call r ∷ [])) in-plain
+
+  pub shared-value : value (rules_of shared) ≡ value (rules_of G)
+  shared-value = ap (λ (n : ℕ). value_at (rules_of shared) (n - 1)) many-shared ∙ value_at-shared (length (rules_of P) - 1) ∙ put-value G r new-rule L in-list fits
+
+  pub shared-values : HasRuleMore r (rules_of G) (rules_of shared)
+  shared-values =
+      let V = put-values G r new-rule L in-list fits in
+      record { within = V.within; more = many-shared ∙ V.more; values = λ s l. value_at-shared (shifted r s) ∙ V.values s l }
 
   moved : (w : Label → ℕ) → total w (rules_of shared) + weigh w (labels_of sub) ≡ total w (rules_of P) + weigh w (Call r ∷ [])
   moved w =

@@ -73,9 +73,11 @@ pub record Made (a b : Terms) (args : List Key) (root : Key) (ms : List Node) : 
   pub origin : (term_at a root.number ≡ None) ⊎ IsIn args root
   pub others : (r : ℕ) → IsSome (term_at a r) → Apart args r → term_at b r ≡ term_at a r
 
--- a call gave way to a copy of nodes over its children; each of the copied ones, a child in a parameter's place, has its key in a list
-pub record Inlined (a b : Terms) (roots news : List Key) (r : ℕ) (ns : List Node) (p : ℕ) (callee : List Node) (follow followed : Key) : Type 0 where
+-- a call gave way to a copy of nodes over its children, under this root; each of the copied ones, a child in a parameter's place, has
+-- its key in a list
+pub record InlinedAt (a b : Terms) (roots news : List Key) (r : ℕ) (ns : List Node) (p : ℕ) (callee : List Node) (follow followed root : Key) : Type 0 where
   pub keys : List Key
   pub many : length keys ≡ length callee
   pub changed : Changed a b roots news r (inlined_nodes ns p callee keys)
   pub follows : (q : ℕ) → key_in callee q ≡ Some follow → slice_get keys q ≡ Some followed
+  pub first : key_in (inlined_nodes ns p callee keys) p ≡ Some root

@@ -30,3 +30,4 @@ pub mod Building
 pub mod Automata
 pub mod OneState
 pub mod Ranks
+pub mod RuleValues

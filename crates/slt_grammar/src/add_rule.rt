@@ -6,6 +6,7 @@ ghost use Rattle.slt_grammar.specs.Bodies.{real_nodes};
 ghost use Rattle.slt_grammar.specs.Copying.{IsShape, holes_in};
 ghost use Rattle.slt_grammar.specs.Grammars.{size, value};
 ghost use Rattle.slt_grammar.specs.Keyed.{rules_of};
+ghost use Rattle.slt_grammar.specs.RuleValues.{HasRuleMore};
 ghost use Rattle.slt_grammar.specs.RulePuts.{AreNewParams, IsLaid, IsLawfulBefore, IsPut};
 
 use crate::copying::build_over;
@@ -27,6 +28,7 @@ impl Grammar {
         ensures rules { OnOk result (IsPut self.old.rules self.new.rules place rank body.now) }
         ensures refused { OnErr result (self.new.rules ≡ self.old.rules) }
         ensures value { value (rules_of self.new.rules) ≡ value (rules_of self.old.rules) }
+        ensures values { OnOk result (HasRuleMore place (rules_of self.old.rules) (rules_of self.new.rules)) }
         ensures size { OnOk result (size (rules_of self.new.rules) ≡ size (rules_of self.old.rules) + real_nodes body.now) }
         ensures succeeds { length body.now ≤ self.old.spare_nodes → 0 < self.old.spare_rules → IsOk result }
         ensures spare_nodes { OnOk result (self.old.spare_nodes ≤ self.new.spare_nodes + length body.now) }
@@ -46,6 +48,7 @@ impl Grammar {
         ensures rules { OnOk result (IsPut self.old.rules self.new.rules place rank body.now) }
         ensures refused { OnErr result (self.new.rules ≡ self.old.rules) }
         ensures value { value (rules_of self.new.rules) ≡ value (rules_of self.old.rules) }
+        ensures values { OnOk result (HasRuleMore place (rules_of self.old.rules) (rules_of self.new.rules)) }
         ensures size { OnOk result (size (rules_of self.new.rules) ≡ size (rules_of self.old.rules) + real_nodes body.now) }
         ensures succeeds { length body.now ≤ self.old.spare_nodes → IsOk result }
         ensures spare_nodes { OnOk result (self.old.spare_nodes ≤ self.new.spare_nodes + length body.now) }

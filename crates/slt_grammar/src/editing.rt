@@ -1,18 +1,19 @@
 // Changes of one rule's body.
-ghost use Rattle.std.specs.Prelude.{◌≡◌, ◌+◌, ◌≤◌, ℕ, IfOk, IsOk, OnErr, OnOk, length};
+ghost use Rattle.std.specs.Prelude.{◌≡◌, ◌+◌, ◌-◌, ◌≤◌, ℕ, IfOk, IsOk, OnErr, OnOk, Some, length};
 ghost use Rattle.rule_arena.specs.Terms.{labelled};
 ghost use Rattle.rule_arena.specs.declared.label.Label.TheVariants.{Call, Symbol};
 ghost use Rattle.slt_grammar.specs.ChangedValues.{ChangesSymbol, GivesWay};
 ghost use Rattle.slt_grammar.specs.Bodies.{real_nodes};
 ghost use Rattle.slt_grammar.specs.Grammars.{body_at, size, value_at};
-ghost use Rattle.slt_grammar.specs.Keyed.{labels_of, nodes_at, rules_of};
+ghost use Rattle.slt_grammar.specs.Keyed.{key_at, labels_of, nodes_at, rules_of};
 ghost use Rattle.slt_grammar.specs.KeyedEdits.{FoldsInto, IsInlined, Stands, StandsAsCall, StandsAsSymbol, StandsInStart, first_child_nodes, folded_nodes, lifted_nodes, with_nodes};
+ghost use Rattle.slt_grammar.specs.RuleValues.{HaveOtherValues};
 
 use crate::collecting::prepare;
 use crate::counting::{count_copy, drop_term, recount};
 use crate::fold::fold_at;
 use crate::grammar::Grammar;
-use crate::inline::inline_at;
+use crate::inline::{Inlined, inline_at};
 use crate::lift::lift_at;
 use crate::reading::{called_rule, label_in, parent_of};
 use rule_arena::{Key, Label};
@@ -26,6 +27,7 @@ impl Grammar {
             ≡ with_nodes self.old.rules S.rule (labelled (nodes_at self.old.rules S.rule) S.place (Symbol symbol)) }
         ensures size { size (rules_of self.new.rules) ≡ size (rules_of self.old.rules) }
         ensures value { (S : StandsInStart self.old.rules at) → ChangesSymbol (rules_of self.old.rules) (rules_of self.new.rules) S.node.here.place symbol }
+        ensures values { StandsInStart self.old.rules at → HaveOtherValues (length (rules_of self.old.rules) - 1) (rules_of self.old.rules) (rules_of self.new.rules) }
         ensures spare_nodes { self.new.spare_nodes ≡ self.old.spare_nodes }
         ensures spare_rules { self.new.spare_rules ≡ self.old.spare_rules }
         ensures limit { self.new.limit ≡ self.old.limit }
@@ -68,6 +70,7 @@ impl Grammar {
         ensures size { (S : Stands self.old.rules at) → size (rules_of self.new.rules)
             + (1 + real_nodes (labels_of (first_child_nodes (nodes_at self.old.rules S.rule) S.place))) ≡ size (rules_of self.old.rules) }
         ensures value { (S : StandsInStart self.old.rules at) → GivesWay (rules_of self.old.rules) (rules_of self.new.rules) S.node.here.place }
+        ensures values { HaveOtherValues (length (rules_of self.old.rules) - 1) (rules_of self.old.rules) (rules_of self.new.rules) }
         ensures spare_nodes { self.old.spare_nodes ≤ self.new.spare_nodes }
         ensures spare_rules { self.new.spare_rules ≡ self.old.spare_rules }
         ensures limit { self.new.limit ≡ self.old.limit }
@@ -80,13 +83,15 @@ impl Grammar {
         self.arena.cut(at);
     }
 
-    /// Replaces a call by its rule's body, whose nodes are copied, over the call's arguments. It answers the copy of the node `follow`
-    /// of that body; where that is a parameter, the argument in its place. It fails where memory is refused, and where there would be
+    /// Replaces a call by its rule's body, whose nodes are copied, over the call's arguments. It answers what stands in the call's place
+    /// now, and the copy of the node `follow` of that body; where that is a parameter, the argument in its place. It fails where memory is refused, and where there would be
     /// more than 2^32 nodes; the rules are then as before.
-    pub fn inline(&mut self, call: Key, follow: Key) -> Result<Key, AllocError>
+    pub fn inline(&mut self, call: Key, follow: Key) -> Result<Inlined, AllocError>
         requires { StandsAsCall self.old.rules call }
-        ensures rules { IfOk result (λ key. (C : StandsAsCall self.old.rules call)
-            → IsInlined self.old.rules self.new.rules C.here.rule C.here.place C.called follow key) }
+        ensures rules { IfOk result (λ inlined. (C : StandsAsCall self.old.rules call)
+            → IsInlined self.old.rules self.new.rules C.here.rule C.here.place C.called follow inlined.followed) }
+        ensures root { IfOk result (λ inlined. (C : StandsAsCall self.old.rules call)
+            → key_at self.new.rules C.here.rule C.here.place ≡ Some inlined.root) }
         ensures refused { OnErr result (self.new.rules ≡ self.old.rules) }
         ensures values { (r : ℕ) → value_at (rules_of self.new.rules) r ≡ value_at (rules_of self.old.rules) r }
         ensures size { OnOk result ((C : StandsAsCall self.old.rules call)

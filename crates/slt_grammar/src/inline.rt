@@ -3,7 +3,7 @@ ghost use Rattle.std.specs.Prelude.{◌≡◌, ◌+◌, ◌≤◌, ℕ, List, Al
 ghost use Rattle.rule_arena.specs.Preorder.{AreTerms};
 ghost use Rattle.rule_arena.specs.Terms.{At, key_in, kids_in, kids_of};
 ghost use Rattle.rule_arena.specs.declared.key.Key.{Key};
-ghost use Rattle.slt_grammar.specs.Copying.{IsShape, Inlined, holes_in, kids_at};
+ghost use Rattle.slt_grammar.specs.Copying.{InlinedAt, IsShape, holes_in, kids_at};
 ghost use Rattle.slt_grammar.specs.Holding.{AreHeld};
 
 use crate::copying::build_over;
@@ -13,7 +13,16 @@ use crate::replacing::replace;
 use crate::shape::Shape;
 use rule_arena::{Arena, Key};
 
-// Replaces a call by a copy of these nodes over its arguments, and answers where the node to follow is now. It takes no memory.
+/// What came in the place of a call.
+#[derive(Clone, Copy, Drop)]
+pub struct Inlined {
+    /// The node that stands where the call stood.
+    pub root: Key,
+    /// Where the node to follow is now.
+    pub followed: Key,
+}
+
+// Replaces a call by a copy of these nodes over its arguments. It takes no memory.
 pub(crate) fn inline_at(
     arena: &mut Arena,
     roots: &mut [Key],
@@ -21,7 +30,7 @@ pub(crate) fn inline_at(
     stack: &mut [Key],
     call: Key,
     follow: Key,
-) -> Key
+) -> Inlined
     requires room { length shapes.now ≤ arena.old.spare }
     requires term { AreTerms kids_of 1 shapes.now }
     requires shapes { All IsShape shapes.now }
@@ -30,7 +39,7 @@ pub(crate) fn inline_at(
     requires held { AreHeld arena.old roots.old }
     requires there { (i : ℕ) × (k : Key) × (x : At arena.old call) × (slice_get roots.old i ≡ Some k) × (x.root ≡ k.number) × (kids_at x.nodes x.place ≡ holes_in shapes.now) }
     ensures inlined { (i : ℕ) (k : Key) (x : At arena.old call) → slice_get roots.old i ≡ Some k → x.root ≡ k.number
-        → Inlined arena.old arena.new roots.old roots.new i x.nodes x.place shapes.now follow result }
+        → InlinedAt arena.old arena.new roots.old roots.new i x.nodes x.place shapes.now follow result.followed result.root }
     ensures spare { arena.old.spare ≤ arena.new.spare + length shapes.now }
     ensures limit { arena.new.limit ≡ arena.old.limit }
 {
@@ -48,7 +57,7 @@ fn inline_over(
     call: Key,
     follow: Key,
     kids: &[Key],
-) -> Key
+) -> Inlined
     requires room { length shapes.now ≤ arena.old.spare }
     requires term { AreTerms kids_of 1 shapes.now }
     requires shapes { All IsShape shapes.now }
@@ -58,7 +67,7 @@ fn inline_over(
     requires kids { (x : At arena.old call) → kids_in x.nodes x.place ≡ kids.now }
     requires there { (i : ℕ) × (k : Key) × (x : At arena.old call) × (slice_get roots.old i ≡ Some k) × (x.root ≡ k.number) × (kids_at x.nodes x.place ≡ holes_in shapes.now) }
     ensures inlined { (i : ℕ) (k : Key) (x : At arena.old call) → slice_get roots.old i ≡ Some k → x.root ≡ k.number
-        → Inlined arena.old arena.new roots.old roots.new i x.nodes x.place shapes.now follow result }
+        → InlinedAt arena.old arena.new roots.old roots.new i x.nodes x.place shapes.now follow result.followed result.root }
     ensures spare { arena.old.spare ≤ arena.new.spare + length shapes.now }
     ensures limit { arena.new.limit ≡ arena.old.limit }
 {
@@ -69,5 +78,8 @@ fn inline_over(
     let copied = build_over(arena, shapes, kids, stack, follow);
     let _after = arena.limit();
     replace(arena, roots, call, is_root, copied.root);
-    copied.followed
+    Inlined {
+        root: copied.root,
+        followed: copied.followed,
+    }
 }

@@ -49,6 +49,7 @@ pub use body_walk::BodyWalk;
 pub use checking::{GrammarError, check};
 pub use digram::Digram;
 pub use grammar::Grammar;
+pub use inline::Inlined;
 pub use laws::{
     adding_keeps_meanings, inlining_keeps_meanings, shared_run_is_expanded_run, stands_for_one,
     substitutions_compose, tours_spell_values, values_are_linear,

@@ -4,6 +4,7 @@ ghost use Rattle.slt_grammar.specs.Bodies.{real_nodes};
 ghost use Rattle.slt_grammar.specs.Grammars.{body_at, calls_of, size, value, IsSwept};
 ghost use Rattle.slt_grammar.specs.Keyed.{rules_of};
 ghost use Rattle.slt_grammar.specs.KeyedEdits.{rule_dropped, DropsTo};
+ghost use Rattle.slt_grammar.specs.RuleValues.{HasRuleMore};
 
 use crate::collecting::widen;
 use crate::counting::drop_term;
@@ -41,6 +42,7 @@ impl Grammar {
         ensures rules { self.new.rules ≡ rule_dropped self.old.rules rule }
         ensures size { size (rules_of self.new.rules) + real_nodes (body_at (rules_of self.old.rules) rule) ≡ size (rules_of self.old.rules) }
         ensures value { value (rules_of self.new.rules) ≡ value (rules_of self.old.rules) }
+        ensures values { HasRuleMore rule (rules_of self.new.rules) (rules_of self.old.rules) }
         ensures spare_nodes { self.old.spare_nodes ≤ self.new.spare_nodes }
         ensures spare_rules { self.new.spare_rules ≡ self.old.spare_rules + 1 }
         ensures limit { self.new.limit ≡ self.old.limit }

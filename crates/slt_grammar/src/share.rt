@@ -1,8 +1,9 @@
 // A term of the start that becomes a rule of its own.
-ghost use Rattle.std.specs.Prelude.{◌≡◌, ◌+◌, ◌<◌, ◌≤◌, IfOk, IsOk, OnErr, OnOk, length};
+ghost use Rattle.std.specs.Prelude.{◌≡◌, ◌+◌, ◌-◌, ◌<◌, ◌≤◌, IfOk, IsOk, OnErr, OnOk, length};
 ghost use Rattle.slt_grammar.specs.Grammars.{size, value};
 ghost use Rattle.slt_grammar.specs.Keyed.{rules_of};
 ghost use Rattle.slt_grammar.specs.KeyedEdits.{Stands, rule_shared};
+ghost use Rattle.slt_grammar.specs.RuleValues.{HasRuleMore};
 ghost use Rattle.slt_grammar.specs.Wrapping.{IsInStart};
 
 use crate::grammar::Grammar;
@@ -20,6 +21,7 @@ impl Grammar {
         ensures rules { IfOk result (λ key. (S : Stands self.old.rules at) → self.new.rules ≡ rule_shared self.old.rules S.rule S.place key) }
         ensures refused { OnErr result (self.new.rules ≡ self.old.rules) }
         ensures value { value (rules_of self.new.rules) ≡ value (rules_of self.old.rules) }
+        ensures values { OnOk result (HasRuleMore (length self.old.rules - 1) (rules_of self.old.rules) (rules_of self.new.rules)) }
         ensures size { OnOk result (size (rules_of self.new.rules) ≡ size (rules_of self.old.rules) + 1) }
         ensures succeeds { 0 < self.old.spare_nodes → 0 < self.old.spare_rules → IsOk result }
         ensures spare_nodes { OnOk result (self.old.spare_nodes ≤ self.new.spare_nodes + 1) }
@@ -38,6 +40,7 @@ impl Grammar {
         requires rule { 0 < self.old.spare_rules }
         ensures rules { (S : Stands self.old.rules at) → self.new.rules ≡ rule_shared self.old.rules S.rule S.place result }
         ensures value { value (rules_of self.new.rules) ≡ value (rules_of self.old.rules) }
+        ensures values { HasRuleMore (length self.old.rules - 1) (rules_of self.old.rules) (rules_of self.new.rules) }
         ensures size { size (rules_of self.new.rules) ≡ size (rules_of self.old.rules) + 1 }
         ensures spare_nodes { self.old.spare_nodes ≤ self.new.spare_nodes + 1 }
         ensures spare_rules { self.new.spare_rules + 1 ≡ self.old.spare_rules }

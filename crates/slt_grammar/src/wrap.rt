@@ -1,5 +1,5 @@
 // A body that is put around a node.
-ghost use Rattle.std.specs.Prelude.{◌≡◌, ◌+◌, ◌≤◌, ℕ, All, Some, IsOk, OnErr, OnOk, length, slice_get};
+ghost use Rattle.std.specs.Prelude.{◌≡◌, ◌+◌, ◌-◌, ◌≤◌, ℕ, All, Some, IsOk, OnErr, OnOk, length, slice_get};
 ghost use Rattle.rule_arena.specs.Preorder.{AreTerms};
 ghost use Rattle.rule_arena.specs.Terms.{At, key_in, kids_of};
 ghost use Rattle.rule_arena.specs.declared.key.Key.{Key};
@@ -9,6 +9,7 @@ ghost use Rattle.slt_grammar.specs.Copying.{IsShape, holes_in};
 ghost use Rattle.slt_grammar.specs.Grammars.{size};
 ghost use Rattle.slt_grammar.specs.Holding.{AreHeld};
 ghost use Rattle.slt_grammar.specs.Keyed.{rules_of};
+ghost use Rattle.slt_grammar.specs.RuleValues.{HaveOtherValues};
 ghost use Rattle.slt_grammar.specs.Wrapping.{IsInStart, IsWrapped, IsWrapper, Wrapped};
 
 use crate::copying::build_over;
@@ -33,6 +34,7 @@ impl Grammar {
         ensures refused { OnErr result (self.new.rules ≡ self.old.rules) }
         ensures value { OnOk result ((S : IsInStart self.old.rules at)
             → StandsWithin (rules_of self.old.rules) (rules_of self.new.rules) S.here.place body.now) }
+        ensures values { OnOk result (HaveOtherValues (length (rules_of self.old.rules) - 1) (rules_of self.old.rules) (rules_of self.new.rules)) }
         ensures size { OnOk result (size (rules_of self.new.rules) ≡ size (rules_of self.old.rules) + real_nodes body.now) }
         ensures succeeds { length body.now ≤ self.old.spare_nodes → IsOk result }
         ensures spare_nodes { OnOk result (self.old.spare_nodes ≤ self.new.spare_nodes + length body.now) }

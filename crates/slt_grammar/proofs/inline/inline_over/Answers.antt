@@ -1,6 +1,8 @@
-use Rattle.std.proofs.Common.{◌≡◌, ◌↔◌, ◌∙◌, ◌≤◌, ◌∷◌, [], ℕ, IsTrue, refl, subst, List, set, Some, length, take, ap, sym, arith}
-use Rattle.rule_arena.specs.Preorder.{with_subterm}
-use Rattle.rule_arena.specs.Terms.{Node, kids_of}
+use Rattle.std.proofs.Common.{◌≡◌, ◌↔◌, ◌∙◌, ◌≤◌, ◌+◌, ◌∷◌, ◌++◌, [], ℕ, IsTrue, refl, subst, List, set, Some, length, take, drop, ap, sym, arith}
+use Rattle.rule_arena.specs.Preorder.{span, with_subterm}
+use Rattle.rule_arena.specs.Terms.{Node, key_in, kids_of}
+use Rattle.rule_arena.specs.declared.key.Key.{Key}
+use Rattle.rule_arena.proofs.PathLemmas.{key_in-left, key_in-right}
 use Rattle.slt_grammar.specs.Copying.{args_at, back_at, copied, holes_in}
 use Rattle.slt_grammar.specs.Holding.{terms_of}
 use Rattle.slt_grammar.proofs.Copies.{hole-le}
@@ -10,6 +12,16 @@ use Rattle.slt_grammar.proofs.inline.inline_over.Goals as goal
 few-holes : (ns : List Node) → holes_in ns ≤ length ns
 few-holes [] = omega arith
 few-holes (n ∷ ns) = omega (arith, few-holes ns, hole-le n.label)
+
+-- where a copy begins
+first-copied : (ns : List Node) (p : ℕ) (callee : List Node) (given : List (List Node)) (keys : List Key) (root : Key) → length (take p ns) ≡ p → key_in (copied callee given keys) 0 ≡ Some root
+    → key_in (with_subterm kids_of ns p (copied callee given keys)) p ≡ Some root
+first-copied ns p callee given keys root l e =
+    let rest : List Node = drop p ns in
+    let back : List Node = drop (span kids_of 1 rest) rest in
+    let z : length (take p ns) + 0 ≡ p = omega (arith, l) in
+    ap (λ (j : ℕ). key_in (take p ns ++ (copied callee given keys ++ back)) j) (sym z)
+    ∙ key_in-right (take p ns) (copied callee given keys ++ back) 0 root (key_in-left (copied callee given keys) back 0 root e)
 
 pub detach_all-requires-clause-room : goal.detach_all-requires-clause-room
 detach_all-requires-clause-room c =
@@ -102,4 +114,7 @@ returns-clause-inlined c = λ i k x e f.
       many = B.many;
       changed = record { held = R.held; bodies = remade c.args.arena.now c.detach_all.new.arena c.build_over-copied.new.arena c.args.roots.now c.args.call c.args.kids.now c.build_over-copied.result.root (copied c.args.shapes.now (terms_of c.detach_all.new.arena c.args.kids.now) c.build_over-copied.ensures.built.keys) c.requires.held i k x e f C D A.1 (record { term = c.build_over-copied.ensures.built.term; origin = c.build_over-copied.ensures.built.origin; others = c.build_over-copied.ensures.built.others }) c.replace.new.arena c.replace.new.roots R.bodies ∙ ap (λ (gs : List (List Node)). set (terms_of c.args.arena.now c.args.roots.now) i (with_subterm kids_of x.nodes x.place (copied c.args.shapes.now gs B.keys))) D.given };
       follows = B.follows c.requires.once;
+      first = first-copied x.nodes x.place c.args.shapes.now (args_at x.nodes x.place) B.keys c.build_over-copied.result.root C.place
+          (subst (λ (gs : List (List Node)). key_in (copied c.args.shapes.now gs B.keys) 0 ≡ Some c.build_over-copied.result.root) D.given
+          (c.limit-after.ensures.sound.first c.build_over-copied.result.root.number (copied c.args.shapes.now (terms_of c.detach_all.new.arena c.args.kids.now) B.keys) B.term));
     }

@@ -4,7 +4,7 @@ use Rattle.slt_grammar.specs.Bodies.{calls_in}
 use Rattle.slt_grammar.specs.Holding.{seen, terms_of}
 use Rattle.slt_grammar.specs.Keyed.{Keyed, labels_of}
 use Rattle.slt_grammar.specs.Placing.{placed, AreKnown}
-use Rattle.slt_grammar.proofs.KeptDrops.{within, raw, gone-known, gone-counted, gone-size, root-stands, seen-dropped, kept-dropped, size-dropped, value-kept}
+use Rattle.slt_grammar.proofs.KeptDrops.{within, raw, gone-known, gone-counted, gone-size, root-stands, seen-dropped, kept-dropped, size-dropped, value-kept, values-kept}
 use Rattle.slt_grammar.proofs.KeptLemmas.{many-order, written-back}
 use Rattle.slt_grammar.proofs.grammar.Grammar.drop_rule.Goals as goal
 
@@ -73,6 +73,11 @@ pub returns-clause-value : goal.returns-clause-value
 returns-clause-value c =
     let see : seen c.self.inside.order.order c.self.inside.ranks.items (terms_of c.self.inside.arena c.self.inside.roots.items) ≡ c.args.self.now.rules = ap (λ (k : Keyed). k.rules) c.self.view_is in
     value-kept c.self.inside.arena c.self.inside.roots.items c.self.inside.ranks.items c.self.inside.calls.items c.self.inside.order.order c.self.inside.size c.args.self.now.rules c.self.invariant see c.args.rule c.requires.there c.requires.uncalled c.remove-root.result c.remove-root.ensures.value c.cut.new.self c.remove-root.new.self.items c.remove.new.self.items (take c.self.inside.calls.len (c.drop_term-gone.new.calls ++ drop (length c.drop_term-gone.new.calls) c.self.inside.calls.items)) c.remove-2.new.self.items c.remove-3.new.self.order c.drop_term-gone.result c.cut.ensures.others c.remove-root.ensures.items c.remove.ensures.items c.remove-2.ensures.items c.remove-3.ensures.order
+
+pub returns-clause-values : goal.returns-clause-values
+returns-clause-values c =
+    let see : seen c.self.inside.order.order c.self.inside.ranks.items (terms_of c.self.inside.arena c.self.inside.roots.items) ≡ c.args.self.now.rules = ap (λ (k : Keyed). k.rules) c.self.view_is in
+    values-kept c.self.inside.arena c.self.inside.roots.items c.self.inside.ranks.items c.self.inside.calls.items c.self.inside.order.order c.self.inside.size c.args.self.now.rules c.self.invariant see c.args.rule c.requires.there c.requires.uncalled c.remove-root.result c.remove-root.ensures.value c.cut.new.self c.remove-root.new.self.items c.remove.new.self.items (take c.self.inside.calls.len (c.drop_term-gone.new.calls ++ drop (length c.drop_term-gone.new.calls) c.self.inside.calls.items)) c.remove-2.new.self.items c.remove-3.new.self.order c.drop_term-gone.result c.cut.ensures.others c.remove-root.ensures.items c.remove.ensures.items c.remove-2.ensures.items c.remove-3.ensures.order
 
 pub returns-clause-size : goal.returns-clause-size
 returns-clause-size c =

@@ -5,16 +5,16 @@ use Rattle.rule_arena.specs.Terms.{Node, key_in, kids_of}
 use Rattle.rule_arena.specs.declared.key.Key.{Key}
 use Rattle.rule_arena.specs.declared.label.Label.TheVariants.{Call}
 use Rattle.slt_grammar.specs.Bodies.{calls_in, real_nodes}
-use Rattle.slt_grammar.specs.Copying.{Inlined, IsShape, holes_in}
+use Rattle.slt_grammar.specs.Copying.{InlinedAt, IsShape, holes_in}
 use Rattle.slt_grammar.specs.Grammars.{body_at, size, value_at}
 use Rattle.slt_grammar.specs.Holding.{seen, terms_of, AreHeld, IsKept}
-use Rattle.slt_grammar.specs.Keyed.{Keyed, KeyedRule, labels_of, rules_of}
+use Rattle.slt_grammar.specs.Keyed.{Keyed, KeyedRule, key_at, labels_of, rules_of}
 use Rattle.slt_grammar.specs.KeyedEdits.{IsInlined}
 use Rattle.slt_grammar.specs.Placing.{placed, AreKnown}
 use Rattle.slt_grammar.proofs.Dropped.{real-few}
 use Rattle.slt_grammar.proofs.Folded.{keyed-term, one-place}
 use Rattle.slt_grammar.proofs.Held.{root-at, term-within}
-use Rattle.slt_grammar.proofs.KeptInlines.{kept-same, raw, call-at, called-node, callee-within, root-stands, callee-shapes, callee-kids, callee-known, call-known, length-callee, call-counted, size-there, inlined-is, kept-inlined, size-inlined, values-inlined}
+use Rattle.slt_grammar.proofs.KeptInlines.{kept-same, raw, call-at, called-node, callee-within, root-stands, callee-shapes, callee-kids, callee-known, call-known, length-callee, call-counted, size-there, inlined-is, kept-inlined, root-inlined, size-inlined, values-inlined}
 use Rattle.slt_grammar.proofs.KeptLemmas.{many-order, many-calls, calls-few, size-few, written-back, on-any-error}
 use Rattle.slt_grammar.proofs.grammar.Grammar.inline.Goals as goal
 
@@ -224,13 +224,13 @@ invariant_of-self-2 c =
     let wr : take c.self.inside.roots.len (c.inline_at.new.roots ++ drop (length c.inline_at.new.roots) c.self.inside.roots.items) ≡ c.inline_at.new.roots = written-back c.self.inside.roots.len c.inline_at.new.roots c.self.inside.roots.items c.self.inside.roots.ok.0 lr in
     let k = root-at c.prepare.new.arena c.self.inside.roots.items c.self.inside.ranks.items c.self.inside.order.order c.args.self.now.rules KS.0.rules seeb c.requires.here.rule c.requires.here.place c.args.call c.requires.here.there in
     let i0 = c.inline_at.ensures.inlined c.requires.here.rule k.0 (call-at c.prepare.new.arena c.self.inside.roots.items c.self.inside.ranks.items c.self.inside.calls.items c.self.inside.order.order c.self.inside.size c.args.self.now.rules KS.0 seeb c.args.call c.requires) (ap (λ (ks : List Key). slice_get ks c.requires.here.rule) c.as_mut_slice.ensures.value ∙ k.1) refl in
-    let i1 = subst (λ (ks : List Key). Inlined c.prepare.new.arena c.inline_at.new.arena ks c.inline_at.new.roots c.requires.here.rule (raw c.prepare.new.arena c.self.inside.roots.items c.self.inside.ranks.items c.self.inside.calls.items c.self.inside.order.order c.self.inside.size c.args.self.now.rules KS.0 seeb c.args.call c.requires c.requires.here.rule) c.requires.here.place c.as_slice-2.result.now c.args.follow c.inline_at.result) c.as_mut_slice.ensures.value i0 in
-    let i2 = subst (λ (ns : List Node). Inlined c.prepare.new.arena c.inline_at.new.arena c.self.inside.roots.items c.inline_at.new.roots c.requires.here.rule (raw c.prepare.new.arena c.self.inside.roots.items c.self.inside.ranks.items c.self.inside.calls.items c.self.inside.order.order c.self.inside.size c.args.self.now.rules KS.0 seeb c.args.call c.requires c.requires.here.rule) c.requires.here.place ns c.args.follow c.inline_at.result) s2 i1 in
+    let i1 = subst (λ (ks : List Key). InlinedAt c.prepare.new.arena c.inline_at.new.arena ks c.inline_at.new.roots c.requires.here.rule (raw c.prepare.new.arena c.self.inside.roots.items c.self.inside.ranks.items c.self.inside.calls.items c.self.inside.order.order c.self.inside.size c.args.self.now.rules KS.0 seeb c.args.call c.requires c.requires.here.rule) c.requires.here.place c.as_slice-2.result.now c.args.follow c.inline_at.result.followed c.inline_at.result.root) c.as_mut_slice.ensures.value i0 in
+    let i2 = subst (λ (ns : List Node). InlinedAt c.prepare.new.arena c.inline_at.new.arena c.self.inside.roots.items c.inline_at.new.roots c.requires.here.rule (raw c.prepare.new.arena c.self.inside.roots.items c.self.inside.ranks.items c.self.inside.calls.items c.self.inside.order.order c.self.inside.size c.args.self.now.rules KS.0 seeb c.args.call c.requires c.requires.here.rule) c.requires.here.place ns c.args.follow c.inline_at.result.followed c.inline_at.result.root) s2 i1 in
     let s1 : c.as_slice.result.now ≡ raw c.prepare.new.arena c.self.inside.roots.items c.self.inside.ranks.items c.self.inside.calls.items c.self.inside.order.order c.self.inside.size c.args.self.now.rules KS.0 seeb c.args.call c.requires c.requires.called = c.as_slice.ensures.value ∙ s ∙ rq in
     let mo = subst (λ (r : ℕ). (q : ℕ) → q < length c.self.inside.calls.items → get_or c.count_copy-come.new.calls.items q 0 + calls_in q (Call r ∷ []) ≡ get_or c.self.inside.calls.items q 0 + calls_in q (labels_of (placed c.self.inside.order.order (raw c.prepare.new.arena c.self.inside.roots.items c.self.inside.ranks.items c.self.inside.calls.items c.self.inside.order.order c.self.inside.size c.args.self.now.rules KS.0 seeb c.args.call c.requires c.requires.called)))) e
     (subst (λ (ns : List Node). (q : ℕ) → q < length c.self.inside.calls.items → get_or c.count_copy-come.new.calls.items q 0 + calls_in q (Call c.called_rule-rule.result ∷ []) ≡ get_or c.self.inside.calls.items q 0 + calls_in q (labels_of (placed c.self.inside.order.order ns))) s1 c.count_copy-come.ensures.calls) in
     subst (λ (ks : List Key). IsKept c.inline_at.new.arena ks c.self.inside.ranks.items c.count_copy-come.new.calls.items c.self.inside.order.order (c.self.inside.size + c.count_copy-come.result - 1)) (sym wr)
-    (kept-inlined c.prepare.new.arena c.self.inside.roots.items c.self.inside.ranks.items c.self.inside.calls.items c.self.inside.order.order c.self.inside.size c.args.self.now.rules KS.0 seeb c.args.call c.requires c.inline_at.new.arena c.inline_at.new.roots c.count_copy-come.new.calls.items c.count_copy-come.result c.args.follow c.inline_at.result i2 c.count_copy-come.ensures.len mo
+    (kept-inlined c.prepare.new.arena c.self.inside.roots.items c.self.inside.ranks.items c.self.inside.calls.items c.self.inside.order.order c.self.inside.size c.args.self.now.rules KS.0 seeb c.args.call c.requires c.inline_at.new.arena c.inline_at.new.roots c.count_copy-come.new.calls.items c.count_copy-come.result c.args.follow c.inline_at.result.followed c.inline_at.result.root i2 c.count_copy-come.ensures.len mo
     (c.count_copy-come.ensures.real ∙ ap (λ (ns : List Node). real_nodes (labels_of (placed c.self.inside.order.order ns))) s1))
 
 pub returns-clause-rules : goal.returns-clause-rules
@@ -250,10 +250,32 @@ returns-clause-rules c = λ C.
     let wr : take c.self.inside.roots.len (c.inline_at.new.roots ++ drop (length c.inline_at.new.roots) c.self.inside.roots.items) ≡ c.inline_at.new.roots = written-back c.self.inside.roots.len c.inline_at.new.roots c.self.inside.roots.items c.self.inside.roots.ok.0 lr in
     let k = root-at c.prepare.new.arena c.self.inside.roots.items c.self.inside.ranks.items c.self.inside.order.order c.args.self.now.rules KS.0.rules seeb C.here.rule C.here.place c.args.call C.here.there in
     let i0 = c.inline_at.ensures.inlined C.here.rule k.0 (call-at c.prepare.new.arena c.self.inside.roots.items c.self.inside.ranks.items c.self.inside.calls.items c.self.inside.order.order c.self.inside.size c.args.self.now.rules KS.0 seeb c.args.call C) (ap (λ (ks : List Key). slice_get ks C.here.rule) c.as_mut_slice.ensures.value ∙ k.1) refl in
-    let i1 = subst (λ (ks : List Key). Inlined c.prepare.new.arena c.inline_at.new.arena ks c.inline_at.new.roots C.here.rule (raw c.prepare.new.arena c.self.inside.roots.items c.self.inside.ranks.items c.self.inside.calls.items c.self.inside.order.order c.self.inside.size c.args.self.now.rules KS.0 seeb c.args.call C C.here.rule) C.here.place c.as_slice-2.result.now c.args.follow c.inline_at.result) c.as_mut_slice.ensures.value i0 in
-    let i2 = subst (λ (ns : List Node). Inlined c.prepare.new.arena c.inline_at.new.arena c.self.inside.roots.items c.inline_at.new.roots C.here.rule (raw c.prepare.new.arena c.self.inside.roots.items c.self.inside.ranks.items c.self.inside.calls.items c.self.inside.order.order c.self.inside.size c.args.self.now.rules KS.0 seeb c.args.call C C.here.rule) C.here.place ns c.args.follow c.inline_at.result) s2 i1 in
-    subst (λ (ks : List Key). IsInlined c.args.self.now.rules (seen c.self.inside.order.order c.self.inside.ranks.items (terms_of c.inline_at.new.arena ks)) C.here.rule C.here.place C.called c.args.follow c.inline_at.result) (sym wr)
-    (inlined-is c.prepare.new.arena c.self.inside.roots.items c.self.inside.ranks.items c.self.inside.calls.items c.self.inside.order.order c.self.inside.size c.args.self.now.rules KS.0 seeb c.args.call C c.inline_at.new.arena c.inline_at.new.roots c.count_copy-come.new.calls.items c.count_copy-come.result c.args.follow c.inline_at.result i2)
+    let i1 = subst (λ (ks : List Key). InlinedAt c.prepare.new.arena c.inline_at.new.arena ks c.inline_at.new.roots C.here.rule (raw c.prepare.new.arena c.self.inside.roots.items c.self.inside.ranks.items c.self.inside.calls.items c.self.inside.order.order c.self.inside.size c.args.self.now.rules KS.0 seeb c.args.call C C.here.rule) C.here.place c.as_slice-2.result.now c.args.follow c.inline_at.result.followed c.inline_at.result.root) c.as_mut_slice.ensures.value i0 in
+    let i2 = subst (λ (ns : List Node). InlinedAt c.prepare.new.arena c.inline_at.new.arena c.self.inside.roots.items c.inline_at.new.roots C.here.rule (raw c.prepare.new.arena c.self.inside.roots.items c.self.inside.ranks.items c.self.inside.calls.items c.self.inside.order.order c.self.inside.size c.args.self.now.rules KS.0 seeb c.args.call C C.here.rule) C.here.place ns c.args.follow c.inline_at.result.followed c.inline_at.result.root) s2 i1 in
+    subst (λ (ks : List Key). IsInlined c.args.self.now.rules (seen c.self.inside.order.order c.self.inside.ranks.items (terms_of c.inline_at.new.arena ks)) C.here.rule C.here.place C.called c.args.follow c.inline_at.result.followed) (sym wr)
+    (inlined-is c.prepare.new.arena c.self.inside.roots.items c.self.inside.ranks.items c.self.inside.calls.items c.self.inside.order.order c.self.inside.size c.args.self.now.rules KS.0 seeb c.args.call C c.inline_at.new.arena c.inline_at.new.roots c.count_copy-come.new.calls.items c.count_copy-come.result c.args.follow c.inline_at.result.followed c.inline_at.result.root i2)
+
+pub returns-clause-root : goal.returns-clause-root
+returns-clause-root c = λ C.
+    let see : seen c.self.inside.order.order c.self.inside.ranks.items (terms_of c.self.inside.arena c.self.inside.roots.items) ≡ c.args.self.now.rules = ap (λ (k : Keyed). k.rules) c.self.view_is in
+    let n = called-node c.self.inside.arena c.self.inside.roots.items c.self.inside.ranks.items c.self.inside.calls.items c.self.inside.order.order c.self.inside.size c.args.self.now.rules c.self.invariant see c.args.call C in
+    let e : c.called_rule-rule.result ≡ C.called = c.called_rule-rule.ensures (call-at c.self.inside.arena c.self.inside.roots.items c.self.inside.ranks.items c.self.inside.calls.items c.self.inside.order.order c.self.inside.size c.args.self.now.rules c.self.invariant see c.args.call C) n.0 C.called n.1 n.2 in
+    let g : slice_get c.self.inside.roots.items C.called ≡ Some c.index-root.result.now =
+    ap (λ (i : ℕ). slice_get c.self.inside.roots.items i) (sym e) ∙ slice_get_read c.self.inside.roots.items (length c.self.inside.roots.items) c.called_rule-rule.result c.index-root.result.now refl (omega (arith, e, callee-within c.self.inside.arena c.self.inside.roots.items c.self.inside.ranks.items c.self.inside.calls.items c.self.inside.order.order c.self.inside.size c.args.self.now.rules c.self.invariant see c.args.call C)) c.index-root.ensures in
+    let t = root-stands c.self.inside.arena c.self.inside.roots.items c.self.inside.ranks.items c.self.inside.calls.items c.self.inside.order.order c.self.inside.size c.args.self.now.rules c.self.invariant see c.args.call C c.index-root.result.now g in
+    let s : c.prepare.new.shapes.items ≡ raw c.self.inside.arena c.self.inside.roots.items c.self.inside.ranks.items c.self.inside.calls.items c.self.inside.order.order c.self.inside.size c.args.self.now.rules c.self.invariant see c.args.call C C.called = c.in_ok-prepare.ensures.shapes (raw c.self.inside.arena c.self.inside.roots.items c.self.inside.ranks.items c.self.inside.calls.items c.self.inside.order.order c.self.inside.size c.args.self.now.rules c.self.invariant see c.args.call C C.called) t in
+    let KS = kept-same c.self.inside.arena c.prepare.new.arena c.self.inside.roots.items c.self.inside.ranks.items c.self.inside.calls.items c.self.inside.order.order c.self.inside.size c.prepare.ensures.terms c.self.invariant in
+    let seeb : seen c.self.inside.order.order c.self.inside.ranks.items (terms_of c.prepare.new.arena c.self.inside.roots.items) ≡ c.args.self.now.rules = ap (λ (bs : List (List Node)). seen c.self.inside.order.order c.self.inside.ranks.items bs) KS.1 ∙ see in
+    let rq : raw c.self.inside.arena c.self.inside.roots.items c.self.inside.ranks.items c.self.inside.calls.items c.self.inside.order.order c.self.inside.size c.args.self.now.rules c.self.invariant see c.args.call C C.called ≡ raw c.prepare.new.arena c.self.inside.roots.items c.self.inside.ranks.items c.self.inside.calls.items c.self.inside.order.order c.self.inside.size c.args.self.now.rules KS.0 seeb c.args.call C C.called = ap (λ (bs : List (List Node)). get_or bs C.called []) (sym KS.1) in
+    let s2 : c.as_slice-2.result.now ≡ raw c.prepare.new.arena c.self.inside.roots.items c.self.inside.ranks.items c.self.inside.calls.items c.self.inside.order.order c.self.inside.size c.args.self.now.rules KS.0 seeb c.args.call C C.called = c.as_slice-2.ensures.value ∙ s ∙ rq in
+    let lr : length c.inline_at.new.roots ≡ length c.self.inside.roots.items = c.inline_at.auto.roots ∙ ap length c.as_mut_slice.ensures.value in
+    let wr : take c.self.inside.roots.len (c.inline_at.new.roots ++ drop (length c.inline_at.new.roots) c.self.inside.roots.items) ≡ c.inline_at.new.roots = written-back c.self.inside.roots.len c.inline_at.new.roots c.self.inside.roots.items c.self.inside.roots.ok.0 lr in
+    let k = root-at c.prepare.new.arena c.self.inside.roots.items c.self.inside.ranks.items c.self.inside.order.order c.args.self.now.rules KS.0.rules seeb C.here.rule C.here.place c.args.call C.here.there in
+    let i0 = c.inline_at.ensures.inlined C.here.rule k.0 (call-at c.prepare.new.arena c.self.inside.roots.items c.self.inside.ranks.items c.self.inside.calls.items c.self.inside.order.order c.self.inside.size c.args.self.now.rules KS.0 seeb c.args.call C) (ap (λ (ks : List Key). slice_get ks C.here.rule) c.as_mut_slice.ensures.value ∙ k.1) refl in
+    let i1 = subst (λ (ks : List Key). InlinedAt c.prepare.new.arena c.inline_at.new.arena ks c.inline_at.new.roots C.here.rule (raw c.prepare.new.arena c.self.inside.roots.items c.self.inside.ranks.items c.self.inside.calls.items c.self.inside.order.order c.self.inside.size c.args.self.now.rules KS.0 seeb c.args.call C C.here.rule) C.here.place c.as_slice-2.result.now c.args.follow c.inline_at.result.followed c.inline_at.result.root) c.as_mut_slice.ensures.value i0 in
+    let i2 = subst (λ (ns : List Node). InlinedAt c.prepare.new.arena c.inline_at.new.arena c.self.inside.roots.items c.inline_at.new.roots C.here.rule (raw c.prepare.new.arena c.self.inside.roots.items c.self.inside.ranks.items c.self.inside.calls.items c.self.inside.order.order c.self.inside.size c.args.self.now.rules KS.0 seeb c.args.call C C.here.rule) C.here.place ns c.args.follow c.inline_at.result.followed c.inline_at.result.root) s2 i1 in
+    ap (λ (ks : List Key). key_at (seen c.self.inside.order.order c.self.inside.ranks.items (terms_of c.inline_at.new.arena ks)) C.here.rule C.here.place) wr
+    ∙ root-inlined c.prepare.new.arena c.self.inside.roots.items c.self.inside.ranks.items c.self.inside.calls.items c.self.inside.order.order c.self.inside.size c.args.self.now.rules KS.0 seeb c.args.call C c.inline_at.new.arena c.inline_at.new.roots c.count_copy-come.new.calls.items c.count_copy-come.result c.args.follow c.inline_at.result.followed c.inline_at.result.root i2
 
 pub returns-clause-values : goal.returns-clause-values
 returns-clause-values c = λ r.
@@ -272,10 +294,10 @@ returns-clause-values c = λ r.
     let wr : take c.self.inside.roots.len (c.inline_at.new.roots ++ drop (length c.inline_at.new.roots) c.self.inside.roots.items) ≡ c.inline_at.new.roots = written-back c.self.inside.roots.len c.inline_at.new.roots c.self.inside.roots.items c.self.inside.roots.ok.0 lr in
     let k = root-at c.prepare.new.arena c.self.inside.roots.items c.self.inside.ranks.items c.self.inside.order.order c.args.self.now.rules KS.0.rules seeb c.requires.here.rule c.requires.here.place c.args.call c.requires.here.there in
     let i0 = c.inline_at.ensures.inlined c.requires.here.rule k.0 (call-at c.prepare.new.arena c.self.inside.roots.items c.self.inside.ranks.items c.self.inside.calls.items c.self.inside.order.order c.self.inside.size c.args.self.now.rules KS.0 seeb c.args.call c.requires) (ap (λ (ks : List Key). slice_get ks c.requires.here.rule) c.as_mut_slice.ensures.value ∙ k.1) refl in
-    let i1 = subst (λ (ks : List Key). Inlined c.prepare.new.arena c.inline_at.new.arena ks c.inline_at.new.roots c.requires.here.rule (raw c.prepare.new.arena c.self.inside.roots.items c.self.inside.ranks.items c.self.inside.calls.items c.self.inside.order.order c.self.inside.size c.args.self.now.rules KS.0 seeb c.args.call c.requires c.requires.here.rule) c.requires.here.place c.as_slice-2.result.now c.args.follow c.inline_at.result) c.as_mut_slice.ensures.value i0 in
-    let i2 = subst (λ (ns : List Node). Inlined c.prepare.new.arena c.inline_at.new.arena c.self.inside.roots.items c.inline_at.new.roots c.requires.here.rule (raw c.prepare.new.arena c.self.inside.roots.items c.self.inside.ranks.items c.self.inside.calls.items c.self.inside.order.order c.self.inside.size c.args.self.now.rules KS.0 seeb c.args.call c.requires c.requires.here.rule) c.requires.here.place ns c.args.follow c.inline_at.result) s2 i1 in
+    let i1 = subst (λ (ks : List Key). InlinedAt c.prepare.new.arena c.inline_at.new.arena ks c.inline_at.new.roots c.requires.here.rule (raw c.prepare.new.arena c.self.inside.roots.items c.self.inside.ranks.items c.self.inside.calls.items c.self.inside.order.order c.self.inside.size c.args.self.now.rules KS.0 seeb c.args.call c.requires c.requires.here.rule) c.requires.here.place c.as_slice-2.result.now c.args.follow c.inline_at.result.followed c.inline_at.result.root) c.as_mut_slice.ensures.value i0 in
+    let i2 = subst (λ (ns : List Node). InlinedAt c.prepare.new.arena c.inline_at.new.arena c.self.inside.roots.items c.inline_at.new.roots c.requires.here.rule (raw c.prepare.new.arena c.self.inside.roots.items c.self.inside.ranks.items c.self.inside.calls.items c.self.inside.order.order c.self.inside.size c.args.self.now.rules KS.0 seeb c.args.call c.requires c.requires.here.rule) c.requires.here.place ns c.args.follow c.inline_at.result.followed c.inline_at.result.root) s2 i1 in
     ap (λ (ks : List Key). value_at (rules_of (seen c.self.inside.order.order c.self.inside.ranks.items (terms_of c.inline_at.new.arena ks))) r) wr
-    ∙ values-inlined c.prepare.new.arena c.self.inside.roots.items c.self.inside.ranks.items c.self.inside.calls.items c.self.inside.order.order c.self.inside.size c.args.self.now.rules KS.0 seeb c.args.call c.requires c.inline_at.new.arena c.inline_at.new.roots c.count_copy-come.new.calls.items c.count_copy-come.result c.args.follow c.inline_at.result i2 r
+    ∙ values-inlined c.prepare.new.arena c.self.inside.roots.items c.self.inside.ranks.items c.self.inside.calls.items c.self.inside.order.order c.self.inside.size c.args.self.now.rules KS.0 seeb c.args.call c.requires c.inline_at.new.arena c.inline_at.new.roots c.count_copy-come.new.calls.items c.count_copy-come.result c.args.follow c.inline_at.result.followed c.inline_at.result.root i2 r
 
 pub returns-clause-spare_nodes : goal.returns-clause-spare_nodes
 returns-clause-spare_nodes c = λ C.
@@ -309,13 +331,13 @@ returns-clause-size c = λ C.
     let wr : take c.self.inside.roots.len (c.inline_at.new.roots ++ drop (length c.inline_at.new.roots) c.self.inside.roots.items) ≡ c.inline_at.new.roots = written-back c.self.inside.roots.len c.inline_at.new.roots c.self.inside.roots.items c.self.inside.roots.ok.0 lr in
     let k = root-at c.prepare.new.arena c.self.inside.roots.items c.self.inside.ranks.items c.self.inside.order.order c.args.self.now.rules KS.0.rules seeb C.here.rule C.here.place c.args.call C.here.there in
     let i0 = c.inline_at.ensures.inlined C.here.rule k.0 (call-at c.prepare.new.arena c.self.inside.roots.items c.self.inside.ranks.items c.self.inside.calls.items c.self.inside.order.order c.self.inside.size c.args.self.now.rules KS.0 seeb c.args.call C) (ap (λ (ks : List Key). slice_get ks C.here.rule) c.as_mut_slice.ensures.value ∙ k.1) refl in
-    let i1 = subst (λ (ks : List Key). Inlined c.prepare.new.arena c.inline_at.new.arena ks c.inline_at.new.roots C.here.rule (raw c.prepare.new.arena c.self.inside.roots.items c.self.inside.ranks.items c.self.inside.calls.items c.self.inside.order.order c.self.inside.size c.args.self.now.rules KS.0 seeb c.args.call C C.here.rule) C.here.place c.as_slice-2.result.now c.args.follow c.inline_at.result) c.as_mut_slice.ensures.value i0 in
-    let i2 = subst (λ (ns : List Node). Inlined c.prepare.new.arena c.inline_at.new.arena c.self.inside.roots.items c.inline_at.new.roots C.here.rule (raw c.prepare.new.arena c.self.inside.roots.items c.self.inside.ranks.items c.self.inside.calls.items c.self.inside.order.order c.self.inside.size c.args.self.now.rules KS.0 seeb c.args.call C C.here.rule) C.here.place ns c.args.follow c.inline_at.result) s2 i1 in
+    let i1 = subst (λ (ks : List Key). InlinedAt c.prepare.new.arena c.inline_at.new.arena ks c.inline_at.new.roots C.here.rule (raw c.prepare.new.arena c.self.inside.roots.items c.self.inside.ranks.items c.self.inside.calls.items c.self.inside.order.order c.self.inside.size c.args.self.now.rules KS.0 seeb c.args.call C C.here.rule) C.here.place c.as_slice-2.result.now c.args.follow c.inline_at.result.followed c.inline_at.result.root) c.as_mut_slice.ensures.value i0 in
+    let i2 = subst (λ (ns : List Node). InlinedAt c.prepare.new.arena c.inline_at.new.arena c.self.inside.roots.items c.inline_at.new.roots C.here.rule (raw c.prepare.new.arena c.self.inside.roots.items c.self.inside.ranks.items c.self.inside.calls.items c.self.inside.order.order c.self.inside.size c.args.self.now.rules KS.0 seeb c.args.call C C.here.rule) C.here.place ns c.args.follow c.inline_at.result.followed c.inline_at.result.root) s2 i1 in
     let s1 : c.as_slice.result.now ≡ raw c.prepare.new.arena c.self.inside.roots.items c.self.inside.ranks.items c.self.inside.calls.items c.self.inside.order.order c.self.inside.size c.args.self.now.rules KS.0 seeb c.args.call C C.called = c.as_slice.ensures.value ∙ s ∙ rq in
     let mo = subst (λ (r : ℕ). (q : ℕ) → q < length c.self.inside.calls.items → get_or c.count_copy-come.new.calls.items q 0 + calls_in q (Call r ∷ []) ≡ get_or c.self.inside.calls.items q 0 + calls_in q (labels_of (placed c.self.inside.order.order (raw c.prepare.new.arena c.self.inside.roots.items c.self.inside.ranks.items c.self.inside.calls.items c.self.inside.order.order c.self.inside.size c.args.self.now.rules KS.0 seeb c.args.call C C.called)))) e
     (subst (λ (ns : List Node). (q : ℕ) → q < length c.self.inside.calls.items → get_or c.count_copy-come.new.calls.items q 0 + calls_in q (Call c.called_rule-rule.result ∷ []) ≡ get_or c.self.inside.calls.items q 0 + calls_in q (labels_of (placed c.self.inside.order.order ns))) s1 c.count_copy-come.ensures.calls) in
     subst (λ (ks : List Key). size (rules_of (seen c.self.inside.order.order c.self.inside.ranks.items (terms_of c.inline_at.new.arena ks))) + 1 ≡ size (rules_of c.args.self.now.rules) + real_nodes (body_at (rules_of c.args.self.now.rules) C.called)) (sym wr)
-    (size-inlined c.prepare.new.arena c.self.inside.roots.items c.self.inside.ranks.items c.self.inside.calls.items c.self.inside.order.order c.self.inside.size c.args.self.now.rules KS.0 seeb c.args.call C c.inline_at.new.arena c.inline_at.new.roots c.count_copy-come.new.calls.items c.count_copy-come.result c.args.follow c.inline_at.result i2 c.count_copy-come.ensures.len mo
+    (size-inlined c.prepare.new.arena c.self.inside.roots.items c.self.inside.ranks.items c.self.inside.calls.items c.self.inside.order.order c.self.inside.size c.args.self.now.rules KS.0 seeb c.args.call C c.inline_at.new.arena c.inline_at.new.roots c.count_copy-come.new.calls.items c.count_copy-come.result c.args.follow c.inline_at.result.followed c.inline_at.result.root i2 c.count_copy-come.ensures.len mo
     (c.count_copy-come.ensures.real ∙ ap (λ (ns : List Node). real_nodes (labels_of (placed c.self.inside.order.order ns))) s1))
 
 pub returns-in_err-prepare-clause-stays : goal.returns-in_err-prepare-clause-stays

@@ -11,6 +11,7 @@ use Rattle.slt_grammar.proofs.ChangedValues.{lifting-changes}
 use Rattle.slt_grammar.proofs.Held.{root-at}
 use Rattle.slt_grammar.proofs.KeptLemmas.{lawful, many-order, once-both, written-back}
 use Rattle.slt_grammar.proofs.KeptLifts.{at-here, raw-node, raw, p, two, raw-gone, gone-known, gone-counted, gone-size, seen-lifted, kept-lifted, size-lifted}
+use Rattle.slt_grammar.proofs.OtherValues.{others-keep}
 use Rattle.slt_grammar.proofs.grammar.Grammar.lift.Goals as goal
 
 same : (o : Option (List Node)) (ns ms : List Node) → o ≡ Some ns → o ≡ Some ms → ns ≡ ms
@@ -122,3 +123,6 @@ returns-clause-size c = λ S.
       ap (λ (r : ℕ). real_nodes (labels_of (first_child_nodes (nodes_at c.args.self.now.rules r) c.requires.node.here.place))) o.0,
       ap (λ (i : ℕ). real_nodes (labels_of (first_child_nodes (nodes_at c.args.self.now.rules S.rule) i))) o.1,
     )
+
+pub returns-clause-values : goal.returns-clause-values
+returns-clause-values c = others-keep c.args.self.now.rules _ c.requires.node.here.rule _ c.requires.start (returns-clause-rules c c.requires.node.here)

@@ -7,7 +7,7 @@ use Rattle.slt_grammar.specs.Keyed.{Keyed}
 use Rattle.slt_grammar.specs.Placing.{placed, AreKnown}
 use Rattle.slt_grammar.specs.Wrapping.{nodes_of}
 use Rattle.slt_grammar.proofs.CallCounts.{real_nodes-are}
-use Rattle.slt_grammar.proofs.KeptAdds.{within, below-order, below-calls, length-shapes, shapes-term, shapes-shaped, shapes-linear, put-is, kept-put, value-put, size-put}
+use Rattle.slt_grammar.proofs.KeptAdds.{within, below-order, below-calls, length-shapes, shapes-term, shapes-shaped, shapes-linear, put-is, kept-put, value-put, values-put, size-put}
 use Rattle.slt_grammar.proofs.KeptInlines.{kept-same}
 use Rattle.slt_grammar.proofs.KeptLemmas.{calls-few, size-few, written-back}
 use Rattle.slt_grammar.proofs.grammar.Grammar.put_rule.Goals as goal
@@ -139,6 +139,23 @@ returns-clause-value c =
     let i4 : c.insert-4.new.self.items ≡ insert (take c.self.inside.calls.len (c.add_calls.new.calls ++ drop (length c.add_calls.new.calls) c.self.inside.calls.items)) c.args.place 0 = rw c.unwrap-3.ensures at c.insert-4.ensures.items in
     let ec : c.insert-4.new.self.items ≡ insert c.add_calls.new.calls c.args.place 0 = i4 ∙ ap (λ (cs : List ℕ). insert cs c.args.place 0) wc in
     value-put c.prepare_body.new.arena c.self.inside.roots.items c.self.inside.ranks.items c.self.inside.calls.items c.self.inside.order.order c.self.inside.size c.args.self.now.rules KS.0 seeb c.args.place c.args.rank c.args.body.now c.requires.place c.requires.body c.default.result c.as_slice-4.result.now read known c.build_rule-root.new.arena c.build_rule-root.result c.build_rule-root.ensures.laid c.insert.result c.insert.ensures.fresh c.insert-2.new.self.items c.insert-3.new.self.items c.add_calls.new.calls c.insert-4.new.self.items c.insert.new.self.order (c.len.result - c.args.rank) er ek ec c.insert.ensures.order
+
+pub returns-clause-values : goal.returns-clause-values
+returns-clause-values c =
+    let see : seen c.self.inside.order.order c.self.inside.ranks.items (terms_of c.self.inside.arena c.self.inside.roots.items) ≡ c.args.self.now.rules = ap (λ (k : Keyed). k.rules) c.self.view_is in
+    let KS = kept-same c.self.inside.arena c.prepare_body.new.arena c.self.inside.roots.items c.self.inside.ranks.items c.self.inside.calls.items c.self.inside.order.order c.self.inside.size c.prepare_body.ensures.terms c.self.invariant in
+    let seeb : seen c.self.inside.order.order c.self.inside.ranks.items (terms_of c.prepare_body.new.arena c.self.inside.roots.items) ≡ c.args.self.now.rules = ap (λ (bs : List (List Node)). seen c.self.inside.order.order c.self.inside.ranks.items bs) KS.1 ∙ see in
+    let read : placed c.self.inside.order.order c.as_slice-4.result.now ≡ nodes_of c.self.inside.ranks.items c.default.result c.args.body.now =
+    ap (placed c.self.inside.order.order) c.as_slice-4.ensures.value ∙ c.in_ok-prepare_body.ensures.shapes ∙ ap (λ (rs : List ℕ). nodes_of rs c.default.result c.as_slice-2.result.now) c.as_slice.ensures.value
+    ∙ ap (λ (ls : List Label). nodes_of c.self.inside.ranks.items c.default.result ls) c.as_slice-2.ensures in
+    let known : AreKnown c.self.inside.order.order c.as_slice-4.result.now = subst (λ (ns : List Node). AreKnown c.self.inside.order.order ns) (sym c.as_slice-4.ensures.value) c.in_ok-prepare_body.ensures.known in
+    let lc : length c.add_calls.new.calls ≡ length c.self.inside.calls.items = c.add_calls.auto.calls ∙ ap length c.as_mut_slice.ensures.value in
+    let wc = written-back c.self.inside.calls.len c.add_calls.new.calls c.self.inside.calls.items c.self.inside.calls.ok.0 lc in
+    let er : c.insert-2.new.self.items ≡ insert c.self.inside.roots.items c.args.place c.build_rule-root.result = rw c.unwrap.ensures at c.insert-2.ensures.items in
+    let ek : c.insert-3.new.self.items ≡ insert c.self.inside.ranks.items c.args.place c.args.rank = rw c.unwrap-2.ensures at c.insert-3.ensures.items in
+    let i4 : c.insert-4.new.self.items ≡ insert (take c.self.inside.calls.len (c.add_calls.new.calls ++ drop (length c.add_calls.new.calls) c.self.inside.calls.items)) c.args.place 0 = rw c.unwrap-3.ensures at c.insert-4.ensures.items in
+    let ec : c.insert-4.new.self.items ≡ insert c.add_calls.new.calls c.args.place 0 = i4 ∙ ap (λ (cs : List ℕ). insert cs c.args.place 0) wc in
+    values-put c.prepare_body.new.arena c.self.inside.roots.items c.self.inside.ranks.items c.self.inside.calls.items c.self.inside.order.order c.self.inside.size c.args.self.now.rules KS.0 seeb c.args.place c.args.rank c.args.body.now c.requires.place c.requires.body c.default.result c.as_slice-4.result.now read known c.build_rule-root.new.arena c.build_rule-root.result c.build_rule-root.ensures.laid c.insert.result c.insert.ensures.fresh c.insert-2.new.self.items c.insert-3.new.self.items c.add_calls.new.calls c.insert-4.new.self.items c.insert.new.self.order (c.len.result - c.args.rank) er ek ec c.insert.ensures.order
 
 pub returns-clause-size : goal.returns-clause-size
 returns-clause-size c =

@@ -5,6 +5,7 @@ use Rattle.slt_grammar.proofs.KeptRelabels.{seen-relabelled, kept-relabelled}
 use Rattle.slt_grammar.proofs.Held.{node-is}
 use Rattle.slt_grammar.proofs.ChangedValues.{relabelling-changes}
 use Rattle.slt_grammar.proofs.KeptLemmas.{lawful, counted}
+use Rattle.slt_grammar.proofs.OtherValues.{others-keep}
 use Rattle.slt_grammar.proofs.grammar.Grammar.relabel.Goals as goal
 
 pub relabel-requires : goal.relabel-requires
@@ -35,3 +36,6 @@ pub returns-clause-size : goal.returns-clause-size
 returns-clause-size c =
     let see : seen c.self.inside.order.order c.self.inside.ranks.items (terms_of c.self.inside.arena c.self.inside.roots.items) ≡ c.args.self.now.rules = ap (λ (k : Keyed). k.rules) c.self.view_is in
     omega (arith, (invariant_of-self c).counted.real, (counted c.self.inside.arena c.self.inside.roots.items c.self.inside.ranks.items c.self.inside.calls.items c.self.inside.order.order c.self.inside.size c.args.self.now.rules c.self.invariant see).real)
+
+pub returns-clause-values : goal.returns-clause-values
+returns-clause-values c = λ S. others-keep c.args.self.now.rules _ S.node.here.rule _ S.start (returns-clause-rules c S.node.here)

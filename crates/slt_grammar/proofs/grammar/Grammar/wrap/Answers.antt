@@ -14,6 +14,7 @@ use Rattle.slt_grammar.proofs.Held.{root-at}
 use Rattle.slt_grammar.proofs.KeptInlines.{kept-same}
 use Rattle.slt_grammar.proofs.KeptLemmas.{calls-few, size-few, written-back}
 use Rattle.slt_grammar.proofs.KeptWraps.{raw, at-here, below-order, below-calls, shapes-term, shapes-shaped, shapes-linear, shapes-keys, wrapped-is, value-wrapped, kept-wrapped, size-wrapped}
+use Rattle.slt_grammar.proofs.OtherValues.{others-keep}
 use Rattle.slt_grammar.proofs.grammar.Grammar.wrap.Goals as goal
 
 pub prepare_body-requires-clause-below : goal.prepare_body-requires-clause-below
@@ -171,3 +172,8 @@ returns-clause-size c =
     let real : c.len.result - 1 ≡ real_nodes c.args.body.now = omega (arith, c.len.ensures, real_nodes-are c.args.body.now, c.requires.body.linear) in
     subst (λ (ks : List Key). size (rules_of (seen c.self.inside.order.order c.self.inside.ranks.items (terms_of c.wrap_at.new.arena ks))) ≡ size (rules_of c.args.self.now.rules) + real_nodes c.args.body.now) (sym wr)
     (size-wrapped c.prepare_body.new.arena c.self.inside.roots.items c.self.inside.ranks.items c.self.inside.calls.items c.self.inside.order.order c.self.inside.size c.args.self.now.rules KS.0 seeb c.args.at c.requires.there c.args.body.now c.requires.body c.as_slice-4.result.now read known c.wrap_at.new.arena c.wrap_at.new.roots c.add_calls.new.calls (c.len.result - 1) V lc moves real)
+
+pub returns-clause-values : goal.returns-clause-values
+returns-clause-values c =
+    let S = c.requires.there in
+    others-keep c.args.self.now.rules _ S.here.rule _ S.start (returns-clause-rules c S).rules

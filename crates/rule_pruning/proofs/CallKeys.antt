@@ -1,5 +1,5 @@
 -- The keys of a rule's calls, as a walk over all bodies finds them.
-use Rattle.std.proofs.Common.{◌≡◌, ◌⊎◌, inl, inr, ℕ, zero, suc, ◌+◌, ◌<◌, List, [], ◌∷◌, ◌++◌, length, get_or, take, Bool, true, false, Some, None, slice_get, refl, sym, ap, ◌∙◌, arith}
+use Rattle.std.proofs.Common.{◌≡◌, inl, inr, ℕ, zero, suc, ◌+◌, ◌<◌, List, [], ◌∷◌, ◌++◌, length, get_or, take, Bool, true, false, Some, None, slice_get, refl, sym, ap, ◌∙◌, arith}
 use Rattle.std.specs.Prelude.{if◌then◌else◌, eqb}
 use Rattle.std.proofs.lemmas.Bool.{cases_eq, eq-eqb, ne_eqb}
 use Rattle.std.proofs.lemmas.List.{append_assoc, append-nil, take_more}
@@ -13,6 +13,7 @@ use Rattle.slt_grammar.specs.Grammars.{calls_of}
 use Rattle.slt_grammar.specs.Keyed.{Keyed, KeyedRule, IsKeyed, key_at, labels_of, nodes_at, rules_of}
 use Rattle.slt_grammar.specs.declared.rules.Rule.{Rule}
 use Rattle.slt_grammar.proofs.TourWalking.{node-key}
+use Rattle.digram_index.proofs.Inlined.{split-append}
 use Rattle.rule_pruning.specs.Calls.{call_key, call_keys, all_call_keys, StandsAsCallOf, AreCallsOf}
 
 -- a list behind another
@@ -61,11 +62,6 @@ all-many q (R ∷ G) =
     )
 
 -- an item of two lists is of one of them
-pub split-append : {X : Type 0} (xs ys : List X) (i : ℕ) (x : X) → slice_get (xs ++ ys) i ≡ Some x → (slice_get xs i ≡ Some x) ⊎ ((j : ℕ) × ((i ≡ length xs + j) × (slice_get ys j ≡ Some x)))
-split-append [] ys i x e = inr (i, (omega arith, e))
-split-append (z ∷ xs) ys zero x e = inl e
-split-append (z ∷ xs) ys (suc i) x e = elim (split-append xs ys i x e) [ inl h ↦ inl h | inr h ↦ inr (h.0, (let w = h.1.0 in omega arith, h.1.1)) ]
-
 -- the key of one node
 own : (q : ℕ) (k : Key) (l : Label) (i : ℕ) (key : Key) → slice_get (call_key q k l) i ≡ Some key → (i ≡ 0) × ((l ≡ Call q) × (k ≡ key))
 own q k Bottom i key e = absurd (let z : None ≡ Some key = e in cc)

@@ -12,7 +12,8 @@ use Rattle.slt_grammar.proofs.Agreeing.{label-is}
 use Rattle.slt_grammar.proofs.KeyedLemmas.{body_at-rules_of}
 use Rattle.slt_grammar.proofs.TourWalking.{node-key}
 use Rattle.rule_pruning.specs.Calls.{AreCallsOf, StandsAsCallOf}
-use Rattle.rule_pruning.proofs.Inlined.{callee-before, fewer-after, length-after, nodes-after, others-after, ranks-after, stands-after}
+use Rattle.digram_index.proofs.Inlined.{callee-before, length-after, nodes-after, ranks-after}
+use Rattle.rule_pruning.proofs.Inlined.{fewer-after, others-after, stands-after}
 
 -- so many of a rule's calls are inlined
 pub record IsInlining (F G : List KeyedRule) (q : ℕ) (calls : List Key) (i : ℕ) : Type 0 where

@@ -1,13 +1,7 @@
-pub mod Behind
 pub mod CallKeys
 pub mod CallLists
-pub mod CopyLinks
-pub mod CopyMoves
-pub mod CopyPlaces
 pub mod Inlined
-pub mod InlinedIndex
 pub mod InlineCalls
-pub mod NearInlines
 pub mod SavingLemmas
 pub mod Taken
 pub mod Turns

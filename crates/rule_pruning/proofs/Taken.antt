@@ -26,7 +26,7 @@ use Rattle.slt_grammar.proofs.RankBounds.{rank-dropped, rank-same}
 use Rattle.slt_grammar.proofs.Removals.{calls-past, calls-removed, get-left, length-left}
 use Rattle.rule_pruning.specs.Calls.{AreCallsOf, StandsAsCallOf}
 use Rattle.rule_pruning.proofs.InlineCalls.{as-call}
-use Rattle.rule_pruning.proofs.Inlined.{callee-before}
+use Rattle.digram_index.proofs.Inlined.{callee-before}
 
 -- all n calls of a rule were inlined
 pub record AreInlined (F G : List KeyedRule) (q n : ℕ) : Type 0 where

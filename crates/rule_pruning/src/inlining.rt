@@ -1,22 +1,16 @@
 // The calls of a rule are replaced by its body.
-ghost use Rattle.std.specs.Prelude.{◌≡◌, ◌≢◌, ◌+◌, ◌*◌, ◌<◌, ◌≤◌, ℕ, length, slice_get, Some};
-ghost use Rattle.rule_arena.specs.Terms.{Node};
+ghost use Rattle.std.specs.Prelude.{◌≡◌, ◌≢◌, ◌+◌, ◌*◌, ◌<◌, ◌≤◌, ℕ, length};
 ghost use Rattle.rule_arena.specs.declared.key.Key.{Key};
 ghost use Rattle.slt_grammar.specs.Algebras.{ranks_of};
 ghost use Rattle.slt_grammar.specs.Bodies.{calls_in, real_nodes};
 ghost use Rattle.slt_grammar.specs.Grammars.{body_at, calls_of, size, value_at};
-ghost use Rattle.slt_grammar.specs.Keyed.{key_at, nodes_at, rules_of};
+ghost use Rattle.slt_grammar.specs.Keyed.{nodes_at, rules_of};
 ghost use Rattle.slt_grammar.specs.KeyedEdits.{IsInlined, StandsAsCall};
 ghost use Rattle.digram_index.specs.Linked.{IsIndexOf};
 ghost use Rattle.rule_pruning.specs.Calls.{AreCallsOf, StandsAsCallOf};
-ghost use Rattle.rule_pruning.specs.Copies.{first_came};
 
-use crate::links::{link_copy, unlink_call};
-use crate::reading::{kids_of, label_of};
-use digram_index::Index;
-use slt_grammar::{Grammar, Key, Kids, Label};
-use std::marker::Brand;
-use std::sync::ledger::Blank;
+use digram_index::{Index, inline_linked};
+use slt_grammar::{Grammar, Key};
 
 // Replaces all calls of a rule by its body, given the keys of these calls. It takes no memory.
 pub(crate) fn inline_calls(grammar: &mut Grammar, index: &mut Index, rule: usize, calls: &[Key])
@@ -62,24 +56,7 @@ fn inline_call(grammar: &mut Grammar, index: &mut Index, rule: usize, call: Key)
     ensures links { index.old.spare_links ≤ index.new.spare_links + length (nodes_at grammar.old.rules rule) }
     ensures cells { grammar.new.limit ≤ length index.new.cells }
 {
-    // The calls tell that a key stands once, before and after.
-    let _before = grammar.limit();
-    let arguments = kids_of(grammar, call);
-    unlink_call(index, call, &arguments);
-    let root = grammar.root(rule);
-    let copy = grammar.inline(call, root).unwrap();
-    let _after = grammar.limit();
-    let first = first_of_copy(grammar, root, copy, &arguments);
-    link_copy::<Brand>(index, grammar, rule, first, Blank::new(1));
-}
-
-// The root of what came in the place of a call: the copy of the body's root, or the call's argument where the body is a parameter.
-fn first_of_copy(grammar: &Grammar, root: Key, copy: Key, arguments: &Kids) -> Option<Key>
-    requires { (r : ℕ) × (p : ℕ) × (key_at grammar.now.rules r p ≡ Some root) }
-    ensures { (r p : ℕ) (n : Node) → slice_get (nodes_at grammar.now.rules r) p ≡ Some n → n.key ≡ root → result ≡ first_came n.label copy arguments.now }
-{
-    match label_of(grammar, root) {
-        Label::Param => arguments.get(0),
-        _ => Some(copy),
-    }
+    // The call tells that a key stands once.
+    let _limit = grammar.limit();
+    inline_linked(grammar, index, call, call);
 }

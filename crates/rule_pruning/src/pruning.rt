@@ -1,11 +1,9 @@
 // The rules that save no nodes are taken away.
 ghost use Rattle.std.specs.Prelude.{◌≡◌, ◌+◌, ◌*◌, ◌<◌, ◌≤◌, ℕ, List, length, OnOk};
 ghost use Rattle.rule_arena.specs.declared.key.Key.{Key};
-ghost use Rattle.slt_grammar.specs.Bodies.{real_nodes};
 ghost use Rattle.slt_grammar.specs.Digrams.{Saves};
-ghost use Rattle.slt_grammar.specs.Grammars.{body_at, calls_of, size, value, IsSwept};
+ghost use Rattle.slt_grammar.specs.Grammars.{size, value, IsSwept};
 ghost use Rattle.slt_grammar.specs.Keyed.{nodes_at, rules_of};
-ghost use Rattle.slt_grammar.specs.KeyedEdits.{rule_dropped};
 ghost use Rattle.slt_grammar.specs.Ranks.{greatest_rank};
 ghost use Rattle.digram_index.specs.Linked.{IsIndexOf};
 ghost use Rattle.rule_pruning.specs.Calls.{AreCallsOf};
@@ -14,11 +12,9 @@ ghost use Rattle.rule_pruning.specs.Saving.{AllSave};
 use crate::call_lists::{CallList, call_lists};
 use crate::inlining::inline_calls;
 use crate::savings::{all_save, body_length, saves};
-use digram_index::{Index, unlink_nodes};
+use digram_index::{Index, drop_linked};
 use slt_grammar::Grammar;
 use std::alloc::{AllocError, Global};
-use std::marker::Brand;
-use std::sync::ledger::Blank;
 
 /// Takes away the rules that save no nodes, and keeps the index. The value stays. A rule that is not called is dropped, and the body of
 /// any other comes in the place of its calls; callees go first, since each makes the bodies of its callers larger. The nodes of rules
@@ -59,26 +55,9 @@ fn sweep(grammar: &mut Grammar, index: &mut Index)
     for rule in (0..last).rev() {
         let _rules = grammar.rules();
         if grammar.calls(rule) == 0 {
-            drop_uncalled(grammar, index, rule);
+            drop_linked(grammar, index, rule);
         }
     }
-}
-
-// Drops a rule that is not called, with the occurrences in its body. It takes no memory.
-fn drop_uncalled(grammar: &mut Grammar, index: &mut Index, rule: usize)
-    requires there { rule + 1 < length grammar.old.rules }
-    requires uncalled { calls_of (rules_of grammar.old.rules) rule ≡ 0 }
-    requires index { IsIndexOf grammar.old index.old }
-    ensures rules { grammar.new.rules ≡ rule_dropped grammar.old.rules rule }
-    ensures size { size (rules_of grammar.new.rules) + real_nodes (body_at (rules_of grammar.old.rules) rule) ≡ size (rules_of grammar.old.rules) }
-    ensures value { value (rules_of grammar.new.rules) ≡ value (rules_of grammar.old.rules) }
-    ensures index { IsIndexOf grammar.new index.new }
-{
-    // The call tells that a key stands once.
-    let _limit = grammar.limit();
-    unlink_nodes::<Brand>(index, grammar, rule, Blank::new(1));
-    index.remove_rule(rule);
-    grammar.drop_rule(rule);
 }
 
 // Takes away the rules that save no nodes, where all rules are called.
@@ -137,7 +116,7 @@ fn take_away(
     inline_calls(grammar, index, rule, keys);
     // The call tells that a key stands once.
     let _inlined = grammar.limit();
-    drop_uncalled(grammar, index, rule);
+    drop_linked(grammar, index, rule);
     Ok(())
 }
 

@@ -1,80 +1,35 @@
-use Rattle.std.proofs.Common.{List, length, ap, arith}
-use Rattle.rule_arena.specs.Terms.{Node}
+use Rattle.std.proofs.Common.{◌≡◌, ◌≤◌, ℕ, length, subst, arith}
+use Rattle.rule_arena.specs.declared.key.Key.{Key}
+use Rattle.slt_grammar.specs.Keyed.{Keyed, IsKeyed, nodes_at}
+use Rattle.slt_grammar.specs.KeyedEdits.{StandsAsCall}
+use Rattle.digram_index.proofs.Inlined.{same-callee}
+use Rattle.rule_pruning.specs.Calls.{StandsAsCallOf}
 use Rattle.rule_pruning.proofs.InlineCalls.{as-call}
-use Rattle.rule_pruning.proofs.InlinedIndex.{copy-ready, root-stays}
-use Rattle.rule_pruning.proofs.NearInlines.{callee-same, in-new}
 use Rattle.rule_pruning.proofs.inlining.inline_call.Goals as goal
 
-pub kids_of-arguments-requires : goal.kids_of-arguments-requires
-kids_of-arguments-requires c =
-    let C = as-call c.args.grammar.now.rules c.args.rule c.args.call c.requires.call in
-    (C.here.rule, C.here.place, C.here.there)
+pub inline_linked-requires-clause-call : goal.inline_linked-requires-clause-call
+inline_linked-requires-clause-call c = as-call c.args.grammar.now.rules c.args.rule c.args.call c.requires.call
 
-pub inline-requires : goal.inline-requires
-inline-requires c = as-call c.args.grammar.now.rules c.args.rule c.args.call c.requires.call
+same : (g : Keyed) → IsKeyed g → (rule : ℕ) (call : Key) → StandsAsCallOf g.rules rule call → (C : StandsAsCall g.rules call) → rule ≡ C.called
+same g K rule call S C = same-callee g K call (as-call g.rules rule call S) C
 
-pub unwrap-copy-requires : goal.unwrap-copy-requires
-unwrap-copy-requires c = c.inline.ensures.succeeds (as-call c.args.grammar.now.rules c.args.rule c.args.call c.requires.call) c.requires.nodes
+pub inline_linked-requires-clause-nodes : goal.inline_linked-requires-clause-nodes
+inline_linked-requires-clause-nodes c = λ C. subst (λ (q : ℕ). length (nodes_at c.args.grammar.now.rules q) ≤ c.args.grammar.now.spare_nodes) (same c.args.grammar.now c.limit-limit.ensures.keyed c.args.rule c.args.call c.requires.call C) c.requires.nodes
 
-pub first_of_copy-first-requires : goal.first_of_copy-first-requires
-first_of_copy-first-requires c =
-    let C = as-call c.args.grammar.now.rules c.args.rule c.args.call c.requires.call in
-    let J = rw c.unwrap-copy.ensures at c.inline.ensures.rules in
-    (c.args.rule, 0, root-stays c.args.grammar.now c.inline.new.self c.limit-before.ensures.keyed c.limit-after.ensures.keyed c.args.call C c.root-root.result c.unwrap-copy.result (J C) c.root-root.ensures)
-
-pub link_copy-requires-clause-rule : goal.link_copy-requires-clause-rule
-link_copy-requires-clause-rule c =
-    let C = as-call c.args.grammar.now.rules c.args.rule c.args.call c.requires.call in
-    let J = rw c.unwrap-copy.ensures at c.inline.ensures.rules in
-    omega (arith, c.requires.there, in-new c.args.grammar.now c.inline.new.self c.limit-before.ensures.keyed c.limit-after.ensures.keyed c.args.call C c.root-root.result c.unwrap-copy.result (J C))
-
-pub link_copy-requires-clause-copy : goal.link_copy-requires-clause-copy
-link_copy-requires-clause-copy c =
-    let C = as-call c.args.grammar.now.rules c.args.rule c.args.call c.requires.call in
-    let J = rw c.unwrap-copy.ensures at c.inline.ensures.rules in
-    let U = c.unlink_call.ensures in (
-      c.root-root.result,
-      (
-        root-stays c.args.grammar.now c.inline.new.self c.limit-before.ensures.keyed c.limit-after.ensures.keyed c.args.call C c.root-root.result c.unwrap-copy.result (J C) c.root-root.ensures,
-        copy-ready c.args.grammar.now c.inline.new.self c.limit-before.ensures.keyed c.limit-after.ensures.keyed c.args.call C c.root-root.result c.unwrap-copy.result (J C) c.kids_of-arguments.result
-            (c.kids_of-arguments.ensures C.here.rule C.here.place C.here.there) c.args.index.now c.unlink_call.new.index c.requires.index U.free U.others U.stays U.rules c.first_of_copy-first.result c.root-root.ensures
-            c.first_of_copy-first.ensures,
-      ),
-    )
-
-pub link_copy-requires-clause-room : goal.link_copy-requires-clause-room
-link_copy-requires-clause-room c =
-    let C = as-call c.args.grammar.now.rules c.args.rule c.args.call c.requires.call in
-    let J = rw c.unwrap-copy.ensures at c.inline.ensures.rules in
-    let s = ap (λ (ns : List Node). length ns) (callee-same c.args.grammar.now c.inline.new.self c.limit-before.ensures.keyed c.limit-after.ensures.keyed c.args.call C c.root-root.result c.unwrap-copy.result (J C)) in
-    omega (arith, c.requires.links, c.unlink_call.ensures.spares.0, s)
-
-pub link_copy-requires-clause-cells : goal.link_copy-requires-clause-cells
-link_copy-requires-clause-cells c =
-    let C = as-call c.args.grammar.now.rules c.args.rule c.args.call c.requires.call in
-    omega (arith, c.inline.ensures.stays C c.requires.nodes, c.requires.cells, c.unlink_call.ensures.room)
+pub inline_linked-requires-clause-links : goal.inline_linked-requires-clause-links
+inline_linked-requires-clause-links c = λ C. subst (λ (q : ℕ). length (nodes_at c.args.grammar.now.rules q) ≤ c.args.index.now.spare_links) (same c.args.grammar.now c.limit-limit.ensures.keyed c.args.rule c.args.call c.requires.call C) c.requires.links
 
 pub returns-clause-inlined : goal.returns-clause-inlined
-returns-clause-inlined c = λ C. (c.root-root.result, (c.unwrap-copy.result, (rw c.unwrap-copy.ensures at c.inline.ensures.rules) C))
+returns-clause-inlined c = λ C. (c.args.call, (c.inline_linked.result.followed, c.inline_linked.ensures.rules C))
 
 pub returns-clause-size : goal.returns-clause-size
-returns-clause-size c =
-    let C = as-call c.args.grammar.now.rules c.args.rule c.args.call c.requires.call in
-    (rw c.unwrap-copy.ensures at c.inline.ensures.size) C
+returns-clause-size c = c.inline_linked.ensures.size (as-call c.args.grammar.now.rules c.args.rule c.args.call c.requires.call)
 
 pub returns-clause-nodes : goal.returns-clause-nodes
-returns-clause-nodes c =
-    let C = as-call c.args.grammar.now.rules c.args.rule c.args.call c.requires.call in
-    (rw c.unwrap-copy.ensures at c.inline.ensures.spare_nodes) C
+returns-clause-nodes c = c.inline_linked.ensures.spare_nodes (as-call c.args.grammar.now.rules c.args.rule c.args.call c.requires.call)
 
 pub returns-clause-links : goal.returns-clause-links
-returns-clause-links c =
-    let C = as-call c.args.grammar.now.rules c.args.rule c.args.call c.requires.call in
-    let J = rw c.unwrap-copy.ensures at c.inline.ensures.rules in
-    let s = ap (λ (ns : List Node). length ns) (callee-same c.args.grammar.now c.inline.new.self c.limit-before.ensures.keyed c.limit-after.ensures.keyed c.args.call C c.root-root.result c.unwrap-copy.result (J C)) in
-    omega (arith, c.link_copy.ensures.spare, c.unlink_call.ensures.spares.0, s)
+returns-clause-links c = c.inline_linked.ensures.links (as-call c.args.grammar.now.rules c.args.rule c.args.call c.requires.call)
 
 pub returns-clause-cells : goal.returns-clause-cells
-returns-clause-cells c =
-    let C = as-call c.args.grammar.now.rules c.args.rule c.args.call c.requires.call in
-    omega (arith, c.inline.ensures.stays C c.requires.nodes, c.requires.cells, c.unlink_call.ensures.room, c.link_copy.ensures.cells)
+returns-clause-cells c = omega (arith, c.inline_linked.ensures.limit, c.inline_linked.ensures.cells, c.requires.cells)

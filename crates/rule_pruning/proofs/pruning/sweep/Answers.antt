@@ -23,13 +23,13 @@ loop-rule-init c =
       called = λ q h k. absurd (omega (arith, v, n, s, h, k));
     }
 
-pub drop_uncalled-requires-clause-there : goal.drop_uncalled-requires-clause-there
-drop_uncalled-requires-clause-there c = omega (arith, c.loop-rule.invariant.some, c.loop-rule-test.true)
+pub drop_linked-requires-clause-there : goal.drop_linked-requires-clause-there
+drop_linked-requires-clause-there c = omega (arith, c.loop-rule.invariant.some, c.loop-rule-test.true)
 
 pub loop-rule-preserved-then-calls-eq0 : goal.loop-rule-preserved-then-calls-eq0
 loop-rule-preserved-then-calls-eq0 c =
     let I = c.loop-rule.invariant in
-    let E = c.drop_uncalled.ensures in
+    let E = c.drop_linked.ensures in
     let e = E.rules in
     let p : ℕ = c.loop-rule.rule - 1 in
     let h : p + 1 < length c.loop-rule.grammar.rules = omega (arith, I.some, c.loop-rule-test.true) in

@@ -2,12 +2,12 @@ use Rattle.std.proofs.Common.{ap, length, ◌∙◌, arith}
 use Rattle.rule_pruning.proofs.Taken.{IsTaken, taken}
 use Rattle.rule_pruning.proofs.pruning.take_away.Goals as goal
 
-is_taken : (c : goal.After-drop_uncalled) → IsTaken c.args.grammar.now.rules c.drop_uncalled.new.grammar.rules c.args.rule
+is_taken : (c : goal.After-drop_linked) → IsTaken c.args.grammar.now.rules c.drop_linked.new.grammar.rules c.args.rule
 is_taken c =
     let E = rw c.in_ok-make_room.ensures.rules at c.inline_calls.ensures in
     taken c.args.grammar.now.rules c.inline_calls.new.grammar c.limit-inlined.ensures.keyed c.args.rule (length c.as_slice-keys.result.now)
     (record { rules = E.rules; ranks = E.ranks; uncalled = E.uncalled; before = E.before; called = E.called; kept = E.kept; values = E.values; size = E.size }) c.requires.there (ap length c.as_slice-keys.ensures ∙ c.requires.calls.many) c.requires.swept
-    c.requires.useless c.drop_uncalled.new.grammar.rules c.drop_uncalled.ensures.rules c.drop_uncalled.ensures.size
+    c.requires.useless c.drop_linked.new.grammar.rules c.drop_linked.ensures.rules c.drop_linked.ensures.size
 
 pub returns-clause-rules : goal.returns-clause-rules
 returns-clause-rules c = (is_taken c).rules

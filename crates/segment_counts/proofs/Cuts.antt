@@ -1,5 +1,5 @@
 -- Rows that lie one behind another in one list, and a table of them.
-use Rattle.std.proofs.Common.{◌≡◌, ℕ, zero, suc, ◌+◌, ◌-◌, ◌<◌, ◌≤◌, List, [], ◌∷◌, ◌++◌, length, get_or, take, drop, refl, ap, sym, ◌∙◌, subst, arith, length-append, length-drop, length-take, get_or-drop}
+use Rattle.std.proofs.Common.{◌≡◌, ℕ, zero, suc, ◌+◌, ◌-◌, ◌*◌, ◌<◌, ◌≤◌, List, [], ◌∷◌, ◌++◌, length, get_or, take, drop, refl, ap, sym, ◌∙◌, subst, arith, length-append, length-drop, length-take, get_or-drop}
 use Rattle.std.specs.Prelude.{replicate, set}
 use Rattle.std.proofs.lemmas.List.{get_or-take, take-append-le, drop-append-le}
 use Rattle.std.proofs.Math.Seq.{drop-append_seam, take-length}
@@ -16,17 +16,22 @@ rows-push start ws [] more c =
     let n : length (ws ++ more) - start ≡ length more = omega (arith, c, length-append ws more) in
     ap (λ (x : List Weights). x ∷ []) (ap (take (length (ws ++ more) - start)) rest ∙ take_more more (length (ws ++ more) - start) n)
 rows-push start ws (e ∷ es) more c =
-    let inside : start ≤ length ws = omega (arith, c.0, c.1) in
+    let inside : start ≤ length ws = omega (arith, c.0, c.2) in
     let rest : drop start (ws ++ more) ≡ drop start ws ++ more = drop-append-le start ws more inside in
-    let room : e - start ≤ length (drop start ws) = omega (arith, c.0, c.1, length-drop start ws) in
+    let room : e - start ≤ length (drop start ws) = omega (arith, c.0, c.2, length-drop start ws) in
     let first : take (e - start) (drop start (ws ++ more)) ≡ take (e - start) (drop start ws) =
     ap (take (e - start)) rest ∙ take-append-le (e - start) (drop start ws) more room in
     ap (λ (x : List Weights). x ∷ cut_rows e (ws ++ more) (es ++ length (ws ++ more) ∷ [])) first
-    ∙ ap (λ (xs : List (List Weights)). take (e - start) (drop start ws) ∷ xs) (rows-push e ws es more c.2)
+    ∙ ap (λ (xs : List (List Weights)). take (e - start) (drop start ws) ∷ xs) (rows-push e ws es more c.3)
 
-cut-push : (start : ℕ) (ws : List Weights) (ends : List ℕ) (more : List Weights) → AreCut start ws ends → AreCut start (ws ++ more) (ends ++ length (ws ++ more) ∷ [])
-cut-push start ws [] more c = (omega (arith, c, length-append ws more), omega arith, refl)
-cut-push start ws (e ∷ es) more c = (c.0, omega (arith, c.1, length-append ws more), cut-push e ws es more c.2)
+cut-push : (start : ℕ) (ws : List Weights) (ends : List ℕ) (more : List Weights) → AreCut start ws ends → length more ≤ 9 → AreCut start (ws ++ more) (ends ++ length (ws ++ more) ∷ [])
+cut-push start ws [] more c n = (omega (arith, c, length-append ws more), omega (arith, c, n, length-append ws more), omega arith, refl)
+cut-push start ws (e ∷ es) more c n = (c.0, c.1, omega (arith, c.2, length-append ws more), cut-push e ws es more c.3 n)
+
+-- nine weights a row at most
+pub cut-narrow : (start : ℕ) (ws : List Weights) (ends : List ℕ) → AreCut start ws ends → length ws ≤ start + 9 * length ends
+cut-narrow start ws [] c = omega (arith, c)
+cut-narrow start ws (e ∷ es) c = omega (arith, c.1, cut-narrow e ws es c.3)
 
 pub rows-length : (start : ℕ) (ws : List Weights) (ends : List ℕ) → length (cut_rows start ws ends) ≡ length ends
 rows-length start ws [] = refl
@@ -42,8 +47,8 @@ row_at start ws (e ∷ es) (suc i) h = row_at e ws es i (omega (arith, h))
 -- a row lies within the list
 pub row_within : (start : ℕ) (ws : List Weights) (ends : List ℕ) (i : ℕ) → AreCut start ws ends → i < length ends → (get_or (start ∷ ends) i 0 ≤ get_or ends i 0) × (get_or ends i 0 ≤ length ws)
 row_within start ws [] i c h = absurd (omega (arith, h))
-row_within start ws (e ∷ es) zero c h = (c.0, c.1)
-row_within start ws (e ∷ es) (suc i) c h = row_within e ws es i c.2 (omega (arith, h))
+row_within start ws (e ∷ es) zero c h = (c.0, c.2)
+row_within start ws (e ∷ es) (suc i) c h = row_within e ws es i c.3 (omega (arith, h))
 
 pub nothing_at : {X : Type 0} (xs : List X) (i : ℕ) (d : X) → length xs ≤ i → get_or xs i d ≡ d
 nothing_at [] i d h = refl
@@ -92,9 +97,8 @@ module _ (ws ws' row : List Weights) (ends ends' : List ℕ) (end capacity capac
 
   pub pushed-room : HaveRoom ws' ends' capacity' end_capacity' room
   pushed-room = record {
-    cut = subst (λ us. AreCut 0 us ends') (sym longer) (subst (AreCut 0 (ws ++ row)) (sym ends-are) (cut-push 0 ws ends row kept.cut));
+    cut = subst (λ us. AreCut 0 us ends') (sym longer) (subst (AreCut 0 (ws ++ row)) (sym ends-are) (cut-push 0 ws ends row kept.cut narrow));
     within = omega (arith, free, ap length ended, length-append ends (end ∷ []));
-    narrow = omega (arith, narrow, kept.narrow, ap length longer, length-append ws row, ap length ended, length-append ends (end ∷ []));
     places = omega (arith, kept.places, more);
     end_places = omega (arith, kept.end_places, end_more);
     small = kept.small;

@@ -4,6 +4,9 @@ pub mod Tallying
 pub mod Sizes
 pub mod Rows
 pub mod Cuts
+pub mod RowMoves
+pub mod Brought
+pub mod Changed
 pub mod Weighed
 pub mod Telling
 pub mod Coded

@@ -1,9 +1,10 @@
 // Counting along the tours of the bodies.
-ghost use Rattle.std.specs.Prelude.{◌≡◌, ◌<◌, ◌≤◌, ◌*◌, ◌^◌, ℕ, [], length, get_or, sum_by, IfOk, IfSome, IfNone, Err, OnErr, OnOk, IsOk, true, false};
+ghost use Rattle.std.specs.Prelude.{◌≡◌, ◌<◌, ◌≤◌, ◌*◌, ◌^◌, ℕ, [], length, get_or, set, sum_by, IfOk, IfSome, IfNone, Err, OnErr, OnOk, IsOk, true, false};
 ghost use Rattle.slt_grammar.specs.Grammars.{IsSwept, value};
 ghost use Rattle.slt_grammar.specs.Keyed.{IsKeyed, rules_of};
 ghost use Rattle.slt_grammar.specs.Segments.{listed, preorder};
-ghost use Rattle.segment_counts.specs.Counting.{AreCounts, AreCountsBelow, no_weights, weight_by};
+ghost use Rattle.segment_counts.specs.Changes.{AreCountsBut};
+ghost use Rattle.segment_counts.specs.Counting.{AreCounts, AreCountsBelow, no_row, no_weights, weight_by};
 ghost use Rattle.segment_counts.specs.Tallies.{row_of};
 ghost use Rattle.segment_counts.specs.Weights.{weigh, count, node_weight};
 ghost use Rattle.segment_counts.specs.declared.counts.Measure.{Measure};
@@ -68,6 +69,47 @@ impl Counts {
             unreachable!()
         }
     }
+
+    /// Counts the row of one rule from its body, where those of the others are counted. Its value is within the limit of `new`. It takes
+    /// no memory.
+    pub fn count_rule(&mut self, grammar: &Grammar, names: &Names, rule: usize)
+        requires rule { rule < length grammar.now.rules }
+        requires others { AreCountsBut names.now rule (rules_of grammar.now.rules) self.old }
+        requires few { sum_by node_weight (preorder (rules_of grammar.now.rules) rule) < 2 ^ 63 }
+        ensures counts { AreCounts names.now (rules_of grammar.now.rules) self.new }
+        ensures row { self.new.rows ≡ set self.old.rows rule (get_or self.new.rows rule no_row) }
+        ensures room { length self.new.rows ≡ length self.old.rows }
+    {
+        // The call tells what is true of every grammar.
+        let _limit = grammar.limit();
+        recount::<Brand>(grammar, names, self, rule, Blank::new(1));
+    }
+}
+
+// Counts one rule on a counter of its own.
+fn recount<L: Ledger>(
+    grammar: &Grammar,
+    names: &Names,
+    counts: &mut Counts,
+    rule: usize,
+    blank: Blank,
+)
+    requires keyed { IsKeyed grammar.now }
+    requires name { blank.name ≡ L.name }
+    requires parts { blank.parts ≡ L.parts }
+    requires some { 0 < blank.parts }
+    requires rule { rule < length grammar.now.rules }
+    requires others { AreCountsBut names.now rule (rules_of grammar.now.rules) counts.old }
+    requires few { sum_by node_weight (preorder (rules_of grammar.now.rules) rule) < 2 ^ 63 }
+    ensures counts { AreCounts names.now (rules_of grammar.now.rules) counts.new }
+    ensures row { counts.new.rows ≡ set counts.old.rows rule (get_or counts.new.rows rule no_row) }
+    ensures room { length counts.new.rows ≡ length counts.old.rows }
+{
+    let mut steps: Steps<L> = Steps::new(blank);
+    let Some(tallies) = tally_rule(grammar, names, counts, rule, &mut steps) else {
+        unreachable!()
+    };
+    counts.set_row(rule, tallies.row());
 }
 
 // Counts all rules on a counter of its own, and answers false where a value has too many nodes.
@@ -87,7 +129,7 @@ fn count_all<L: Ledger>(grammar: &Grammar, names: &Names, counts: &mut Counts, b
     let rules = grammar.rules();
     counts.clear();
     for rule in 0..rules {
-        match count_rule(grammar, names, counts, rule, &mut steps) {
+        match tally_rule(grammar, names, counts, rule, &mut steps) {
             Some(tallies) => counts.push(tallies.row()),
             None => return false,
         }
@@ -96,7 +138,7 @@ fn count_all<L: Ledger>(grammar: &Grammar, names: &Names, counts: &mut Counts, b
 }
 
 // The numbers of a rule's segments, and None where its value has too many nodes.
-fn count_rule<L: Ledger>(
+fn tally_rule<L: Ledger>(
     grammar: &Grammar,
     names: &Names,
     counts: &Counts,

@@ -1,15 +1,20 @@
 // The numbers that are kept of each rule's segments.
-ghost use Rattle.std.specs.Prelude.{◌≡◌, ◌<◌, ◌≤◌, ◌+◌, ◌-◌, ◌*◌, ◌^◌, ℕ, List, [], ◌∷◌, get_or, length, set, slice_get, sum_by, IsOk, OnErr, OnOk};
+ghost use Rattle.std.specs.Prelude.{◌≡◌, ◌<◌, ◌≤◌, ◌+◌, ◌-◌, ◌*◌, ◌^◌, ℕ, List, [], ◌∷◌, ◌++◌, get_or, length, set, sum_by, IsOk, OnErr, OnOk};
+ghost use Rattle.std.specs.List.{insert, remove};
 ghost use Rattle.plain_tree.specs.declared.kind.Kind.{Kind};
 ghost use Rattle.slt_grammar.specs.Bodies.{CallsBelow};
-ghost use Rattle.slt_grammar.specs.Grammars.{IsGrammar, value};
+ghost use Rattle.slt_grammar.specs.Grammars.{IsGrammar, value, value_at};
 ghost use Rattle.slt_grammar.specs.Segments.{listed, part_of};
 ghost use Rattle.slt_grammar.specs.declared.rules.Rule.{Rule};
+ghost use Rattle.slt_grammar.specs.RuleValues.{HasRuleMore, HaveOtherValues};
+ghost use Rattle.segment_counts.specs.Changes.{AreCountsBut, HasMore, IsWeighed, leaf_weights, lowered, raised, start_weights};
 ghost use Rattle.segment_counts.specs.Counting.{AreCounts, AreCountsBelow, no_row, no_weights, told, told_before, weight_by};
 ghost use Rattle.segment_counts.specs.Cuts.{AreCut, cut_rows};
-ghost use Rattle.segment_counts.specs.Weights.{all_weight, count, node_weight, text_weight, valued, weigh};
+ghost use Rattle.segment_counts.specs.Weights.{all_weight, count, node_weight, text_weight, weigh};
 ghost use Rattle.segment_counts.specs.declared.counts.Measure.TheVariants.{Nodes, Texts, All};
 
+use crate::row_moves::{move_ends, put_between};
+use crate::tally::texts_of;
 use plain_tree::Names;
 use slt_grammar::Label;
 use std::alloc::{AllocError, Global};
@@ -32,12 +37,12 @@ pub enum Measure {
 // How many rules can have segments that are numbered by 32 bits, whatever their ranks.
 const MOST_RULES: usize = ((1 << 32) - 1) / MOST_SEGMENTS;
 
-// What a label or a segment weighs, by measure.
+/// What a label or a segment weighs, by measure.
 #[derive(Clone, Copy, Drop)]
-pub(crate) struct Weights {
-    pub(crate) nodes: u64,
-    pub(crate) texts: u64,
-    pub(crate) all: u64,
+pub struct Weights {
+    pub nodes: u64,
+    pub texts: u64,
+    pub all: u64,
 }
 
 pub(crate) const NO_WEIGHTS: Weights = Weights {
@@ -181,8 +186,8 @@ impl Counts {
         sum
     }
 
-    // What a part of a node weighs.
-    pub(crate) fn weights(&self, names: &Names, label: Label, part: usize) -> Weights
+    /// What a part of a node weighs: a call's parts are the segments of the called rule, and another node's first part is the node.
+    pub fn weights(&self, names: &Names, label: Label, part: usize) -> Weights
         ensures { (m : Measure) (k : ℕ) (G : List Rule) → AreCountsBelow names.now k G self.now.rows → CallsBelow k (label ∷ [])
             → weight_by m result ≡ sum_by (weigh names.now m) (part_of G label part) }
     {
@@ -237,6 +242,125 @@ impl Counts {
         self.segments.extend_from_slice(row).unwrap();
         self.ends.push_reserved(end as u32);
     }
+
+    /// Makes room for the row of a rule that was put in at a place. It takes no memory.
+    pub fn insert_rule(&mut self, place: usize)
+        requires place { place ≤ self.old.rules }
+        requires room { self.old.rules < length self.old.rows }
+        ensures rows { self.new.rows ++ no_row ∷ [] ≡ insert self.old.rows place no_row }
+        ensures room { length self.new.rows ≡ length self.old.rows }
+        ensures rules { self.new.rules ≡ self.old.rules + 1 }
+        ensures counts { (names : List (Kind × List ℕ)) (G H : List Rule) → AreCounts names G self.old → HasRuleMore place G H → AreCountsBut names place H self.new }
+    {
+        self.open_row(place);
+    }
+
+    /// Takes out the row of a rule that went. The room stays.
+    pub fn remove_rule(&mut self, rule: usize)
+        requires { rule < self.old.rules }
+        ensures rows { self.new.rows ≡ remove self.old.rows rule ++ no_row ∷ [] }
+        ensures room { length self.new.rows ≡ length self.old.rows }
+        ensures rules { self.new.rules + 1 ≡ self.old.rules }
+        ensures counts { (names : List (Kind × List ℕ)) (G H : List Rule) → AreCounts names H self.old → HasRuleMore rule G H → AreCounts names G self.new }
+    {
+        self.set_row(rule, &[]);
+        self.close_row(rule);
+    }
+
+    /// Puts in the row of a rule without parameters that was put in at a place, by how many nodes its value has and how many of them
+    /// have a text. It takes no memory.
+    pub fn insert_leaf(&mut self, rule: usize, nodes: u64, texts: u64)
+        requires rule { rule ≤ self.old.rules }
+        requires room { self.old.rules < length self.old.rows }
+        requires few { nodes < 2 ^ 63 }
+        ensures rows { self.new.rows ++ no_row ∷ [] ≡ insert self.old.rows rule (leaf_weights nodes texts ∷ []) }
+        ensures room { length self.new.rows ≡ length self.old.rows }
+        ensures rules { self.new.rules ≡ self.old.rules + 1 }
+        ensures counts { (names : List (Kind × List ℕ)) (G H : List Rule) → AreCounts names G self.old → HasRuleMore rule G H → IsWeighed names (value_at H rule) nodes texts → AreCounts names H self.new }
+    {
+        let row = [Weights {
+            nodes,
+            texts,
+            all: 2 * nodes + 1,
+        }];
+        self.open_row(rule);
+        self.set_row(rule, &row);
+    }
+
+    /// Takes in that the last rule's value has more nodes, and so many more texts. It takes no memory.
+    pub fn raise_start(&mut self, nodes: u64, texts: u64)
+        requires some { 0 < self.old.rules }
+        requires all { (start_weights self.old).all + 2 * nodes < 2 ^ 64 }
+        requires nodes { (start_weights self.old).nodes + nodes < 2 ^ 64 }
+        requires texts { (start_weights self.old).texts + texts < 2 ^ 64 }
+        ensures rows { self.new.rows ≡ set self.old.rows (self.old.rules - 1) (raised (start_weights self.old) nodes texts ∷ []) }
+        ensures rules { self.new.rules ≡ self.old.rules }
+        ensures counts { (names : List (Kind × List ℕ)) (G H : List Rule) → AreCounts names G self.old → HaveOtherValues (length G - 1) G H → HasMore names (value G) (value H) nodes texts → AreCounts names H self.new }
+    {
+        let start = self.rules() - 1;
+        let row = [Weights {
+            nodes: self.nodes(start, 0) + nodes,
+            texts: self.texts(start, 0) + texts,
+            all: self.all(start, 0) + 2 * nodes,
+        }];
+        self.set_row(start, &row);
+    }
+
+    /// Takes in that it has fewer.
+    pub fn lower_start(&mut self, nodes: u64, texts: u64)
+        requires some { 0 < self.old.rules }
+        requires nodes { nodes ≤ (start_weights self.old).nodes }
+        requires all { 2 * nodes ≤ (start_weights self.old).all }
+        requires texts { texts ≤ (start_weights self.old).texts }
+        ensures rows { self.new.rows ≡ set self.old.rows (self.old.rules - 1) (lowered (start_weights self.old) nodes texts ∷ []) }
+        ensures rules { self.new.rules ≡ self.old.rules }
+        ensures counts { (names : List (Kind × List ℕ)) (G H : List Rule) → AreCounts names G self.old → HaveOtherValues (length G - 1) G H → HasMore names (value H) (value G) nodes texts → AreCounts names H self.new }
+    {
+        let start = self.rules() - 1;
+        let row = [Weights {
+            nodes: self.nodes(start, 0) - nodes,
+            texts: self.texts(start, 0) - texts,
+            all: self.all(start, 0) - 2 * nodes,
+        }];
+        self.set_row(start, &row);
+    }
+
+    // Puts in an empty row. It takes no memory.
+    fn open_row(&mut self, place: usize)
+        requires place { place ≤ self.old.rules }
+        requires room { self.old.rules < length self.old.rows }
+        ensures rows { self.new.rows ++ no_row ∷ [] ≡ insert self.old.rows place no_row }
+        ensures room { length self.new.rows ≡ length self.old.rows }
+        ensures rules { self.new.rules ≡ self.old.rules + 1 }
+    {
+        let start = start_of(self.ends.as_slice(), place);
+        self.ends.insert(place, start as u32).unwrap();
+    }
+
+    // Takes out an empty row.
+    fn close_row(&mut self, rule: usize)
+        requires rule { rule < self.old.rules }
+        requires empty { get_or self.old.rows rule no_row ≡ no_row }
+        ensures rows { self.new.rows ≡ remove self.old.rows rule ++ no_row ∷ [] }
+        ensures room { length self.new.rows ≡ length self.old.rows }
+        ensures rules { self.new.rules + 1 ≡ self.old.rules }
+    {
+        self.ends.remove(rule);
+    }
+
+    // Puts a row in place of that of a rule that was counted. It takes no memory.
+    pub(crate) fn set_row(&mut self, rule: usize, row: &[Weights])
+        requires rule { rule < self.old.rules }
+        requires width { length row.now ≤ MOST_SEGMENTS }
+        ensures rows { self.new.rows ≡ set self.old.rows rule row.now }
+        ensures room { length self.new.rows ≡ length self.old.rows }
+        ensures rules { self.new.rules ≡ self.old.rules }
+    {
+        let from = start_of(self.ends.as_slice(), rule);
+        let to = self.ends[rule] as usize;
+        put_between(&mut self.segments, from, to, row);
+        move_ends(&mut self.ends, rule, to, from + row.len());
+    }
 }
 
 // The weights of a rule's segment, and none where there is no such segment.
@@ -256,24 +380,14 @@ fn segment_at(segments: &[Weights], ends: &[u32], rule: usize, segment: usize) -
     }
 }
 
-// Where a rule's segments begin.
+// Where a rule's segments begin, or would begin behind the others.
 fn start_of(ends: &[u32], rule: usize) -> usize
-    requires { rule < length ends.now }
+    requires { rule ≤ length ends.now }
     ensures { result ≡ get_or (0 ∷ ends.now) rule 0 }
 {
     if rule == 0 {
         0
     } else {
         ends[rule - 1] as usize
-    }
-}
-
-// How many texts a node of this symbol has: one or none.
-fn texts_of(names: &Names, symbol: usize) -> u64
-    ensures { result ≡ valued (slice_get names.now symbol) }
-{
-    match names.at(symbol) {
-        Some((kind, _name)) if kind.has_value() => 1,
-        _ => 0,
     }
 }

@@ -7,7 +7,8 @@
 
 mod counting;
 mod counts;
+mod row_moves;
 mod tally;
 
 pub use counting::CountError;
-pub use counts::{Counts, Measure};
+pub use counts::{Counts, Measure, Weights};

@@ -1,10 +1,12 @@
 // The sums along the tour of one rule's body.
-ghost use Rattle.std.specs.Prelude.{◌≡◌, ◌<◌, ◌≤◌, ◌+◌, ◌^◌, ℕ, true, false, get_or, length};
+ghost use Rattle.std.specs.Prelude.{◌≡◌, ◌<◌, ◌≤◌, ◌+◌, ◌^◌, ℕ, true, false, get_or, length, slice_get};
 ghost use Rattle.segment_counts.specs.Counting.{weight_by};
 ghost use Rattle.segment_counts.specs.Tallies.{Adds, limit_by, row_of, tally_by};
+ghost use Rattle.segment_counts.specs.Weights.{valued};
 ghost use Rattle.segment_counts.specs.declared.counts.Measure.{Measure};
 
 use crate::counts::{MOST_SEGMENTS, NO_WEIGHTS, Weights};
+use plain_tree::Names;
 use slt_grammar::Label;
 
 // The limit of a document: with its bottoms it still has fewer than 2^64.
@@ -78,8 +80,8 @@ impl Weights {
         others.all <= u64::MAX - self.all
     }
 
-    // Both together.
-    fn plus(self, others: Weights) -> Weights
+    /// Both together.
+    pub fn plus(self, others: Weights) -> Weights
         requires { (m : Measure) → weight_by m self + weight_by m others < 2 ^ 64 }
         ensures { (m : Measure) → weight_by m result ≡ weight_by m self + weight_by m others }
     {
@@ -88,5 +90,15 @@ impl Weights {
             texts: self.texts + others.texts,
             all: self.all + others.all,
         }
+    }
+}
+
+// How many texts a node of this symbol has: one or none.
+pub(crate) fn texts_of(names: &Names, symbol: usize) -> u64
+    ensures { result ≡ valued (slice_get names.now symbol) }
+{
+    match names.at(symbol) {
+        Some((kind, _name)) if kind.has_value() => 1,
+        _ => 0,
     }
 }

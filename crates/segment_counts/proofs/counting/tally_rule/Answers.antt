@@ -3,7 +3,7 @@ use Rattle.rule_arena.specs.Terms.{Node}
 use Rattle.slt_grammar.proofs.TourWalking.{node-here}
 use Rattle.segment_counts.specs.declared.counts.Measure.TheVariants.{Nodes}
 use Rattle.segment_counts.proofs.Tallying.{tallied-start, place-few, place-last, too-many, tallied-next, row-is, nodes-few}
-use Rattle.segment_counts.proofs.counting.count_rule.Goals as goal
+use Rattle.segment_counts.proofs.counting.tally_rule.Goals as goal
 
 pub stops-init : goal.stops-init
 stops-init g c =

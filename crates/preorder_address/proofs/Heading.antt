@@ -26,12 +26,12 @@ Heads G None [] f = ⊥
 Heads G (Some key) [] f = IsLast G key f
 Heads G last (l ∷ ls) f = LeadsTo G l.rule (l ∷ ls) f
 
-heads-start : (G : List KeyedRule) (r : ℕ) (ls : List Level) (f : Label) → LeadsTo G r ls f → Heads G None ls f
+pub heads-start : (G : List KeyedRule) (r : ℕ) (ls : List Level) (f : Label) → LeadsTo G r ls f → Heads G None ls f
 heads-start G r [] f c = c
 heads-start G r (l ∷ []) f c = (refl, c.1)
 heads-start G r (l ∷ k ∷ ls) f c = (refl, c.1, c.2)
 
-heads-more : (G : List KeyedRule) (last : Option Key) (l : Level) (ls : List Level) (f : Label) → Heads G last (l ∷ ls) f → Heads G (Some l.key) ls f
+pub heads-more : (G : List KeyedRule) (last : Option Key) (l : Level) (ls : List Level) (f : Label) → Heads G last (l ∷ ls) f → Heads G (Some l.key) ls f
 heads-more G last l [] f c = record { rule = l.rule; place = c.1.place; node = c.1.node; there = c.1.there; key_is = c.1.key; label = c.1.label }
 heads-more G last l (k ∷ ls) f c = heads-start G k.rule (k ∷ ls) f c.2
 

@@ -1,7 +1,7 @@
 -- A walk over the terms of a node's kids.
-use Rattle.std.proofs.Common.{◌≡◌, ℕ, zero, suc, ◌+◌, ◌-◌, ◌*◌, ◌<◌, ◌≤◌, List, [], ◌∷◌, length, get_or, set, take, drop, refl, ap, sym, ◌∙◌, arith, subst, Option, Some, None, length-drop}
+use Rattle.std.proofs.Common.{◌≡◌, ℕ, zero, suc, ◌+◌, ◌-◌, ◌*◌, ◌<◌, ◌≤◌, List, [], ◌∷◌, length, get_or, set, take, drop, refl, ap, sym, ◌∙◌, arith, subst, Option, Some, None, length-drop, ◌⊎◌, inl, inr}
 use Rattle.std.specs.Prelude.{slice_get, sum, Bool, true, false, eqb}
-use Rattle.std.proofs.lemmas.Bool.{eqb-true}
+use Rattle.std.proofs.lemmas.Bool.{cases_lt, eqb-true}
 use Rattle.std.proofs.lemmas.Option.{get_or_from_slice_get, same_Some}
 use Rattle.std.proofs.lemmas.List.Sums.{sum_by-cons}
 use Rattle.rule_arena.specs.Preorder.{AreTerms}
@@ -24,7 +24,7 @@ use Rattle.preorder_address.specs.Weighing.{params_at, passed}
 use Rattle.preorder_address.specs.declared.site.KidPlace.{KidPlace}
 use Rattle.preorder_address.proofs.Descending.{nodes-within}
 use Rattle.preorder_address.proofs.Locating.{nodes-few}
-use Rattle.preorder_address.proofs.KidWeighing.{Weighs, chosen, drop-twice, get_or-sum, weighs-start, weighs-next, weighs-end}
+use Rattle.preorder_address.proofs.KidWeighing.{Weighs, chosen, drop-twice, get_or-sum, weighs-start, weighs-next, weighs-some}
 
 -- a node has at most eight kids
 pub kids-few : (G : List Rule) → IsGrammar G → (l : Label) → CallsBelow (length G) (l ∷ []) → arity (ranks_of G) l ≤ 8
@@ -247,19 +247,24 @@ module _ (g : Keyed) (K : IsKeyed g) where
                     by_test true q l = omega (arith, s.enough h, e, eqb-true (place.left + y.kids) 1 q, s.weighs.some)
                     by_test false q l = omega (arith, s.enough h, e, s.weighs.some)
 
-      -- at its end
-      pub kids-end : IsKeyed g → k ≤ place.kid → (r p : ℕ) (x : Node) → slice_get (nodes_at g.rules r) p ≡ Some x → x.key ≡ key → (j : ℕ) → get_or weights j 0 ≡ get_or (take x.kids (term_weights w H (drop before args) (drop (p + 1) (nodes_at g.rules r)))) j 0
-      kids-end o h r p x e f j =
+      -- at its end, where it came to some of the kids or to all
+      pub kids-some : (limit : ℕ) → ((i : ℕ) → place.kid ≤ i → i < k → limit ≤ i) → (r p : ℕ) (x : Node) → slice_get (nodes_at g.rules r) p ≡ Some x → x.key ≡ key → (j : ℕ) → (limit ≤ j → x.kids ≤ j)
+          → get_or weights j 0 ≡ get_or (take x.kids (term_weights w H (drop before args) (drop (p + 1) (nodes_at g.rules r)))) j 0
+      kids-some limit o r p x e f j h =
           let a = node-key (nodes_at g.rules r) p x e ∙ ap Some f in
           let b = node-key (nodes_at g.rules s.rule) s.at s.node s.here ∙ ap Some s.key_is in
           let z = K.once key s.rule s.at r p b a in
-          let d = weighs-end k (term_weights w H (drop before args) (drop (s.at + 1) (nodes_at g.rules s.rule))) (term_weights w H (drop param args) (drop s.come (nodes_at g.rules s.rule))) place.kid place.left weights s.weighs h j in
           let i : Some s.node ≡ Some x = sym s.here ∙ ap (λ q. slice_get (nodes_at g.rules q) s.at) z.0 ∙ ap (slice_get (nodes_at g.rules r)) z.1 ∙ e in
           let n : s.node ≡ x = same_Some s.node x i in
           let m : k ≡ x.kids = sym s.kids_are ∙ ap (λ (y : Node). y.kids) n in
+          let d = weighs-some k (term_weights w H (drop before args) (drop (s.at + 1) (nodes_at g.rules s.rule))) (term_weights w H (drop param args) (drop s.come (nodes_at g.rules s.rule))) place.kid place.left weights s.weighs j (λ l. by_place m l (cases_lt j k)) in
           d ∙ ap (λ q. get_or (take q (term_weights w H (drop before args) (drop (s.at + 1) (nodes_at g.rules s.rule)))) j 0) m
           ∙ ap (λ q. get_or (take x.kids (term_weights w H (drop before args) (drop (s.at + 1) (nodes_at g.rules q)))) j 0) z.0
           ∙ ap (λ q. get_or (take x.kids (term_weights w H (drop before args) (drop (q + 1) (nodes_at g.rules r)))) j 0) z.1
+        where
+          by_place : k ≡ x.kids → place.kid ≤ j → (j < k) ⊎ (k ≤ j) → k ≤ j
+          by_place m l (inl b) = omega (arith, m, h (o j l b))
+          by_place m l (inr b) = b
 
       pub kids-steps : (r p : ℕ) → key_at g.rules r p ≡ Some key → steps + 2 ≤ first + 2 * length (nodes_at g.rules r)
       kids-steps r p a =

@@ -7,7 +7,7 @@ use Rattle.std.proofs.lemmas.List.Sums.{sum_by-cons}
 use Rattle.preorder_address.specs.Weighing.{passed}
 use Rattle.preorder_address.specs.declared.site.KidPlace.{KidPlace}
 
-sum-one : (us : List ℕ) → sum (take 1 us) ≡ get_or us 0 0
+pub sum-one : (us : List ℕ) → sum (take 1 us) ≡ get_or us 0 0
 sum-one [] = refl
 sum-one (u ∷ us) = omega (arith, sum_by-cons (λ (x : ℕ). x) u [])
 
@@ -27,7 +27,7 @@ take-past (suc k) [] j h = refl
 take-past (suc k) (u ∷ us) zero h = absurd (omega arith)
 take-past (suc k) (u ∷ us) (suc j) h = take-past k us j (omega arith)
 
-sums-apart : (a b : ℕ) (us : List ℕ) → sum (take (a + b) us) ≡ sum (take a us) + sum (take b (drop a us))
+pub sums-apart : (a b : ℕ) (us : List ℕ) → sum (take (a + b) us) ≡ sum (take a us) + sum (take b (drop a us))
 sums-apart zero b us = let z : 0 + b ≡ b = omega arith in omega (arith, ap (λ k. sum (take k us)) z)
 sums-apart (suc a) zero [] = let z : suc a + 0 ≡ suc a = omega arith in omega (arith, ap (λ (k : ℕ). sum (take k [])) z)
 sums-apart (suc a) (suc b) [] = let z : suc a + suc b ≡ suc (a + suc b) = omega arith in omega (arith, ap (λ (k : ℕ). sum (take k [])) z)
@@ -150,9 +150,9 @@ module _ (k : ℕ) (kids all : List ℕ) (o a kid left : ℕ) (weights : List �
           let e : a + (left - 1) ≡ left + a - 1 = omega (arith, s.some) in
           subst (λ (n : ℕ). Weighs k kids all kid n next) e (goes-on (left - 1) (omega (arith, s.some)) (omega (arith, s.some, z)))
 
-pub weighs-end : (k : ℕ) (kids rest : List ℕ) (kid left : ℕ) (weights : List ℕ) → Weighs k kids rest kid left weights → k ≤ kid → (j : ℕ) → get_or weights j 0 ≡ get_or (take k kids) j 0
-weighs-end k kids rest kid left weights s h j = by_place (cases_lt j k)
+pub weighs-some : (k : ℕ) (kids rest : List ℕ) (kid left : ℕ) (weights : List ℕ) → Weighs k kids rest kid left weights → (j : ℕ) → (kid ≤ j → k ≤ j) → get_or weights j 0 ≡ get_or (take k kids) j 0
+weighs-some k kids rest kid left weights s j h = by_place (cases_lt j kid)
   where
-    by_place : (j < k) ⊎ (k ≤ j) → get_or weights j 0 ≡ get_or (take k kids) j 0
-    by_place (inl l) = s.done j (omega arith) ∙ sym (get_or-take k kids j 0 l)
-    by_place (inr g) = s.past j g ∙ sym (take-past k kids j g)
+    by_place : (j < kid) ⊎ (kid ≤ j) → get_or weights j 0 ≡ get_or (take k kids) j 0
+    by_place (inl l) = s.done j l ∙ sym (get_or-take k kids j 0 (omega (arith, l, s.most)))
+    by_place (inr g) = s.past j (h g) ∙ sym (take-past k kids j (h g))

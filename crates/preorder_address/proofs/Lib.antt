@@ -36,3 +36,10 @@ pub mod ParentSiting
 pub mod TreeParents
 pub mod ParentWays
 pub mod TreeAbove
+pub mod SpotFinding
+pub mod SpotWeights
+pub mod Spotting
+pub mod TreeSpots
+pub mod KidRanges
+pub mod RangeSums
+pub mod Extending

@@ -29,7 +29,7 @@ listed-append t k = sym (listed-before t [] k)
 pub weight-listed : (w : Label → ℕ) (t : Term) (k : List Label) → sum_by w (listed t k) ≡ sum_by w (listed t []) + sum_by w k
 weight-listed w t k = ap (sum_by w) (listed-append t k) ∙ sum_by-append w (listed t []) k
 
-get-right : {X : Type 0} (xs ys : List X) (n i : ℕ) → n ≡ length xs → slice_get (xs ++ ys) (n + i) ≡ slice_get ys i
+pub get-right : {X : Type 0} (xs ys : List X) (n i : ℕ) → n ≡ length xs → slice_get (xs ++ ys) (n + i) ≡ slice_get ys i
 get-right [] ys n i e = let z : n + i ≡ i = omega arith in ap (slice_get ys) z
 get-right (x ∷ xs) ys zero i e = absurd (omega arith)
 get-right (x ∷ xs) ys (suc n) i e = let z : suc n + i ≡ suc (n + i) = omega arith in ap (slice_get (x ∷ (xs ++ ys))) z ∙ get-right xs ys n i (omega arith)
@@ -53,7 +53,7 @@ pub length-placed : (b : ℕ) (ts : Trees) → length (placed b ts) ≡ node_cou
 length-placed b none = refl
 length-placed b (more (node k n v ks) ts) = omega (arith, length-append (placed (b + 1) ks) (placed (b + 2 + 2 * node_count_all ks) ts), length-placed (b + 1) ks, length-placed (b + 2 + 2 * node_count_all ks) ts)
 
-length-siblings : (ts : Trees) → length (siblings_behind ts) ≡ node_count_all ts
+pub length-siblings : (ts : Trees) → length (siblings_behind ts) ≡ node_count_all ts
 length-siblings none = refl
 length-siblings (more (node k n v ks) ts) = omega (arith, length-append (siblings_behind ks) (siblings_behind ts), length-siblings ks, length-siblings ts)
 
@@ -66,7 +66,7 @@ own-valued names f Text n v e = ap valued e
 own-valued names f Comment n v e = ap valued e
 own-valued names f Instruction n v e = ap valued e
 
-own-first : (k : Kind) (n v : List ℕ) (ks : Trees) → length (values_of (node k n v ks ∷ [])) ≡ length (own k v)
+pub own-first : (k : Kind) (n v : List ℕ) (ks : Trees) → length (values_of (node k n v ks ∷ [])) ≡ length (own k v)
 own-first Document n v ks = refl
 own-first Element n v ks = refl
 own-first Attribute n v ks = refl

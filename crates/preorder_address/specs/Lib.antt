@@ -9,3 +9,5 @@ pub mod Staying
 pub mod Sites
 pub mod Weighing
 pub mod Parents
+pub mod Spots
+pub mod Ranges

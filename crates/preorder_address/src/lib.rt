@@ -6,7 +6,7 @@
 //!
 //! The other modules go along such levels. `site` adds up what stands before a node and what the code of its kids weighs, by what a
 //! `weigher` counts; `nodes` tells a node's kind, extent and text rank, `kids` the places in its list of kids and its next sibling,
-//! `parent` its parent. `way` makes a descent a `Way`, whose rules may change between its calls.
+//! `parent` its parent. `spot` tells of a node what one descent finds out. `way` makes a descent a `Way`, whose rules may change between its calls.
 #![tactic(auto)]
 
 mod descent;
@@ -16,6 +16,9 @@ mod nodes;
 mod numbering;
 mod parent;
 mod site;
+mod spot;
+mod spot_extent;
+mod spot_way;
 mod way;
 mod weigher;
 
@@ -25,4 +28,6 @@ pub use laws::descents_arrive;
 pub use nodes::{extent, kind_of, text_rank};
 pub use numbering::Numbering;
 pub use parent::parent_of;
+pub use spot::{Spot, find};
+pub use spot_way::SpotWay;
 pub use way::CountedDescent;

@@ -164,12 +164,39 @@ pub(crate) fn kid_weights<L: Ledger>(
         ≡ get_or (take x.kids (term_weights (weight_of weigher.now) (rules_of grammar.now.rules) (drop params args.now) (drop (p + 1) (nodes_at grammar.now.rules r)))) j 0 }
     ensures steps { (r p : ℕ) → key_at grammar.now.rules r p ≡ Some key → steps.new ≤ steps.old + 2 * length (nodes_at grammar.now.rules r) }
 {
+    first_kid_weights(
+        grammar, counts, weigher, key, MOST_KIDS, params, args, steps,
+    )
+}
+
+// The same of so many kids alone.
+pub(crate) fn first_kid_weights<L: Ledger>(
+    grammar: &Grammar,
+    counts: &Counts,
+    weigher: &Weigher<'_>,
+    key: Key,
+    limit: usize,
+    params: usize,
+    args: &[u64; MOST_KIDS],
+    steps: &mut Steps<L>,
+) -> [u64; MOST_KIDS]
+    requires keyed { IsKeyed grammar.now }
+    requires counts { AreCountsBy weigher.now (rules_of grammar.now.rules) counts.now }
+    requires there { (r : ℕ) × (p : ℕ) × (key_at grammar.now.rules r p ≡ Some key) }
+    requires few { params < 9 }
+    requires small { (r p : ℕ) (x : Node) → slice_get (nodes_at grammar.now.rules r) p ≡ Some x → x.key ≡ key
+        → sum (take x.kids (term_weights (weight_of weigher.now) (rules_of grammar.now.rules) (drop params args.now) (drop (p + 1) (nodes_at grammar.now.rules r)))) < 2 ^ 64 }
+    ensures weights { (r p : ℕ) (x : Node) → slice_get (nodes_at grammar.now.rules r) p ≡ Some x → x.key ≡ key → (j : ℕ) → (limit ≤ j → x.kids ≤ j) → get_or result j 0
+        ≡ get_or (take x.kids (term_weights (weight_of weigher.now) (rules_of grammar.now.rules) (drop params args.now) (drop (p + 1) (nodes_at grammar.now.rules r)))) j 0 }
+    ensures steps { (r p : ℕ) → key_at grammar.now.rules r p ≡ Some key → steps.new ≤ steps.old + 2 * length (nodes_at grammar.now.rules r) }
+{
     let (_label, arity) = node_of(grammar, key, steps);
+    let end = lesser(arity, limit);
     let mut next = grammar.next_in_preorder(key, steps);
     let mut place = KidPlace { kid: 0, left: 1 };
     let mut param = params;
     let mut weights = [0; MOST_KIDS];
-    while place.kid < arity {
+    while place.kid < end {
         let Some(node) = next else { unreachable!() };
         let (label, kids) = node_of(grammar, node, steps);
         weights[place.kid] += node_weight(counts, weigher, label, kids, args, param);
@@ -178,6 +205,13 @@ pub(crate) fn kid_weights<L: Ledger>(
         next = grammar.next_in_preorder(node, steps);
     }
     weights
+}
+
+fn lesser(first: usize, second: usize) -> usize
+    ensures under { result ≤ first }
+    ensures reached { (j : ℕ) → result ≤ j → j < first → second ≤ j }
+{
+    if first < second { first } else { second }
 }
 
 // The label of a node, and how many kids it has.

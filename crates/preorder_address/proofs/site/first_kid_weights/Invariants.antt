@@ -3,7 +3,7 @@ use Rattle.slt_grammar.specs.Grammars.{whole}
 use Rattle.slt_grammar.specs.Keyed.{rules_of}
 use Rattle.preorder_address.specs.Weighing.{weight_of}
 use Rattle.preorder_address.proofs.KidWalking.{KidsWalking}
-use Rattle.preorder_address.proofs.site.kid_weights.Given as goal
+use Rattle.preorder_address.proofs.site.first_kid_weights.Given as goal
 
 abbrev pub invariant-loop-place : goal.invariant-loop-place
 invariant-loop-place g l = KidsWalking l.grammar.rules (weight_of l.weigher) l.args l.fn.params l.fn.key l.arity l.next l.place l.param l.weights l.initial.steps l.steps

@@ -1,0 +1,7 @@
+use Rattle.preorder_address.proofs.TreeSpots.{spot-place}
+use Rattle.preorder_address.proofs.spot.Spot.place.Goals as goal
+
+pub returns : goal.returns
+returns c = λ names G n t s code.
+    let a = c.args.self.now in
+    spot-place names G t code n a.levels.items a.symbol a.before s

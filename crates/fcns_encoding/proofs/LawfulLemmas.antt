@@ -10,7 +10,7 @@ use Rattle.fcns_encoding.specs.Laws.{AreLawful}
 lawful-at : (p q : Pair) → p ≡ q → IsLawfulName p.0 p.1 → IsLawfulName q.0 q.1
 lawful-at p q e h = subst (λ (r : Pair). IsLawfulName r.0 r.1) e h
 
-none-lawful : AreLawful []
+pub none-lawful : AreLawful []
 none-lawful i kind name e = cc
 
 pub lawful-cons : (p : Pair) (ps : List Pair) → IsLawfulName p.0 p.1 → AreLawful ps → AreLawful (p ∷ ps)
@@ -33,7 +33,7 @@ mutual
   tree-lawful : (t : Tree) → IsLawfulTree t → AreLawful (map tree_pair (nodes t))
   tree-lawful (node k n v ks) l = lawful-cons (k, n) (map tree_pair (nodes_all ks)) l.0.0 (trees-lawful ks l.2)
 
-  trees-lawful : (ts : Trees) → AreLawfulTrees ts → AreLawful (map tree_pair (nodes_all ts))
+  pub trees-lawful : (ts : Trees) → AreLawfulTrees ts → AreLawful (map tree_pair (nodes_all ts))
   trees-lawful none l = none-lawful
   trees-lawful (more t ts) l =
       subst AreLawful (sym (map-append tree_pair (nodes t) (nodes_all ts))) (lawful-append (map tree_pair (nodes t)) (map tree_pair (nodes_all ts)) (tree-lawful t l.0) (trees-lawful ts l.1))

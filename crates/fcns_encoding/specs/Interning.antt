@@ -1,12 +1,6 @@
 -- Tables of names that grow.
-use Rattle.std.specs.Prelude.{◌≡◌, ℕ, List, [], ◌∷◌, ◌++◌, map, Some, slice_get, ◌⊎◌}
-use Rattle.plain_tree.specs.declared.kind.Kind.{Kind}
-use Rattle.plain_tree.specs.Tree.{Tree, node, Trees}
-use Rattle.plain_tree.specs.Numbers.{nodes, nodes_all}
-
--- a kind and a name
-abbrev pub Pair : Type 0
-Pair = Kind × List ℕ
+use Rattle.std.specs.Prelude.{◌≡◌, ℕ, List, [], ◌∷◌, ◌++◌, Some, slice_get, ◌⊎◌}
+pub use Rattle.plain_tree.specs.NodePairs.{Pair, tree_pair, pairs_of_tree, pairs_of_trees}
 
 abbrev pub IsIn : Pair → List Pair → Type 0
 IsIn pair names = (place : ℕ) × (slice_get names place ≡ Some pair)
@@ -16,14 +10,3 @@ IsIn pair names = (place : ℕ) × (slice_get names place ≡ Some pair)
 abbrev pub Interns : List Pair → List Pair → List Pair → Type 0
 Interns old [] new = new ≡ old
 Interns old (pair ∷ pairs) new = (IsIn pair old × Interns old pairs new) ⊎ ((IsIn pair old → ⊥) × Interns (old ++ pair ∷ []) pairs new)
-
-abbrev pub tree_pair : Tree → Pair
-tree_pair (node kind name value kids) = (kind, name)
-
--- the kinds and names of a tree's nodes, in document order
-abbrev pub pairs_of_tree : Tree → List Pair
-pairs_of_tree t = map tree_pair (nodes t)
-
--- and those of a list of trees
-abbrev pub pairs_of_trees : Trees → List Pair
-pairs_of_trees ts = map tree_pair (nodes_all ts)

@@ -1,0 +1,9 @@
+pub mod Clearing
+pub mod Kept
+pub mod Between
+pub mod Parts
+pub mod NearLifts
+pub mod Lifted
+pub mod NodeUps
+pub mod SharedIndex
+pub mod Relabelled

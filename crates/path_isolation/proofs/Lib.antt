@@ -1,0 +1,6 @@
+pub mod Marks
+pub mod Copied
+pub mod ChainLemmas
+pub mod Around
+pub mod Walks
+pub mod Lengths

@@ -1,0 +1,102 @@
+// A node that goes with all below it.
+ghost use Rattle.std.specs.Prelude.{◌≡◌, ◌<◌, ◌≤◌, ◌+◌, ◌*◌, ◌^◌, OnOk, length};
+ghost use Rattle.plain_tree.specs.Allowed.{IsAllowed};
+ghost use Rattle.plain_tree.specs.declared.edit.Edit.TheVariants.{Delete};
+ghost use Rattle.plain_tree.specs.Edits.{edited, placed};
+ghost use Rattle.plain_tree.specs.Tree.{Tree};
+ghost use Rattle.slt_grammar.specs.Grammars.{size};
+ghost use Rattle.slt_grammar.specs.Keyed.{rules_of};
+ghost use Rattle.path_isolation.specs.Isolations.{room_along};
+ghost use Rattle.preorder_address.specs.Spots.{IsSpot};
+ghost use Rattle.tree_updates.specs.Extents.{IsUnsweptFor, LeavesDocument};
+ghost use Rattle.tree_updates.specs.Stores.{Applies, IsStoreFor};
+
+use crate::isolating::lift_node;
+use crate::node_extent::extent_of;
+use crate::store::{EditError, Store};
+use crate::sweeping::sweep_uncalled;
+use path_isolation::nodes_along;
+use preorder_address::Spot;
+use read_steps::Steps;
+use std::alloc::AllocError;
+use std::sync::ledger::Ledger;
+
+// Deletes the spot's node, at which no texts meet. All memory is taken first.
+fn delete_apart<L: Ledger>(
+    store: &mut Store,
+    number: u64,
+    spot: &Spot,
+    steps: &mut Steps<L>,
+) -> Result<(), EditError>
+    requires store { (t : Tree) × IsStoreFor store.old t × IsAllowed t (Delete number) }
+    requires spot { IsSpot store.old.names store.old.grammar.rules number spot.now }
+    ensures applies { (t : Tree) → IsStoreFor store.old t → IsAllowed t (Delete number) → edited t (Delete number) ≡ placed t (Delete number)
+        → Applies t (Delete number) store.old result store.new }
+{
+    // The call tells what is true of every grammar.
+    let _limit = store.grammar.limit();
+    let nodes = nodes_along(&store.grammar, spot.way(), steps);
+    reserve_room(store, nodes)?;
+    delete_plain(store, number, spot, steps);
+    Ok(())
+}
+
+// Makes room for so many more nodes, and for as many links and one more. The store stays.
+fn reserve_room(store: &mut Store, nodes: usize) -> Result<(), AllocError>
+    requires few { nodes < 2 ^ 63 }
+    ensures nodes { OnOk result (nodes ≤ store.new.grammar.spare_nodes) }
+    ensures links { OnOk result (nodes + 1 ≤ store.new.index.spare_links) }
+    ensures cells { OnOk result (store.new.grammar.limit ≤ length store.new.index.cells) }
+    ensures rules { store.new.grammar.rules ≡ store.old.grammar.rules }
+    ensures texts { store.new.texts.texts ≡ store.old.texts.texts }
+    ensures names { store.new.names ≡ store.old.names }
+    ensures store { (t : Tree) → IsStoreFor store.old t → IsStoreFor store.new t }
+{
+    store.grammar.reserve(nodes, 0)?;
+    store.index.reserve(&store.grammar, nodes + 1, 0)
+}
+
+// Takes the spot's node out, with all below it. Texts that meet by it stay two. There is room for the nodes of the bodies of the spot's
+// levels behind the first, for as many links and one more, so it takes no memory.
+fn delete_plain<L: Ledger>(store: &mut Store, number: u64, spot: &Spot, steps: &mut Steps<L>)
+    requires store { (t : Tree) × IsUnsweptFor store.old t × LeavesDocument t (Delete number) }
+    requires spot { IsSpot store.old.names store.old.grammar.rules number spot.now }
+    requires room { room_along store.old.grammar.rules spot.now.levels.items ≤ store.old.grammar.spare_nodes }
+    requires links { room_along store.old.grammar.rules spot.now.levels.items + 1 ≤ store.old.index.spare_links }
+    requires cells { store.old.grammar.limit ≤ length store.old.index.cells }
+    ensures store { (t : Tree) → IsUnsweptFor store.old t → LeavesDocument t (Delete number) → IsStoreFor store.new (placed t (Delete number)) }
+    ensures names { store.new.names ≡ store.old.names }
+    ensures size { size (rules_of store.new.grammar.rules) ≤ 2 * size (rules_of store.old.grammar.rules) }
+{
+    take_out(store, number, spot, steps);
+    sweep(store);
+}
+
+// The same, but rules that nobody calls any more stay.
+fn take_out<L: Ledger>(store: &mut Store, number: u64, spot: &Spot, steps: &mut Steps<L>)
+    requires store { (t : Tree) × IsUnsweptFor store.old t × LeavesDocument t (Delete number) }
+    requires spot { IsSpot store.old.names store.old.grammar.rules number spot.now }
+    requires room { room_along store.old.grammar.rules spot.now.levels.items ≤ store.old.grammar.spare_nodes }
+    requires links { room_along store.old.grammar.rules spot.now.levels.items + 1 ≤ store.old.index.spare_links }
+    requires cells { store.old.grammar.limit ≤ length store.old.index.cells }
+    ensures store { (t : Tree) → IsUnsweptFor store.old t → LeavesDocument t (Delete number) → IsUnsweptFor store.new (placed t (Delete number)) }
+    ensures names { store.new.names ≡ store.old.names }
+    ensures size { size (rules_of store.new.grammar.rules) ≤ 2 * size (rules_of store.old.grammar.rules) }
+{
+    // The call tells what is true of every grammar.
+    let _limit = store.grammar.limit();
+    let extent = extent_of(store, number, spot, steps);
+    lift_node(&mut store.grammar, &mut store.index, spot, steps);
+    store.texts.remove_range(extent.rank, extent.texts);
+    store.counts.lower_start(extent.nodes, extent.texts);
+}
+
+// Drops the rules that nobody calls.
+fn sweep(store: &mut Store)
+    requires store { (t : Tree) × IsUnsweptFor store.old t }
+    ensures store { (t : Tree) → IsUnsweptFor store.old t → IsStoreFor store.new t }
+    ensures names { store.new.names ≡ store.old.names }
+    ensures size { size (rules_of store.new.grammar.rules) ≤ size (rules_of store.old.grammar.rules) }
+{
+    sweep_uncalled(&mut store.grammar, &mut store.index, &mut store.counts);
+}

@@ -1,0 +1,112 @@
+// The node of a spot, made a node of the start's body, and changes there.
+ghost use Rattle.std.specs.Prelude.{◌≡◌, ◌≤◌, ◌+◌, ◌-◌, ◌*◌, ℕ, List, length};
+ghost use Rattle.plain_tree.specs.declared.kind.Kind.{Kind};
+ghost use Rattle.slt_grammar.specs.Bodies.{real_nodes};
+ghost use Rattle.slt_grammar.specs.ChangedValues.{start_body};
+ghost use Rattle.slt_grammar.specs.Grammars.{size, value_at};
+ghost use Rattle.slt_grammar.specs.Keyed.{rules_of};
+ghost use Rattle.slt_grammar.specs.RuleValues.{HaveOtherValues};
+ghost use Rattle.digram_index.specs.Linked.{IsIndexOf};
+ghost use Rattle.path_isolation.specs.Isolations.{DifferInStart, room_along};
+ghost use Rattle.preorder_address.specs.Spots.{IsSpot};
+ghost use Rattle.tree_updates.specs.Numbered.{GetsSymbol, IsNodeIsolated, LosesNode};
+
+use digram_index::Index;
+use linked_edits::{lift_linked, relabel_linked};
+use path_isolation::isolate_linked;
+use preorder_address::Spot;
+use read_steps::Steps;
+use slt_grammar::{Grammar, Key};
+use std::sync::ledger::Ledger;
+
+/// In the value the spot's node gives way to what stands in its second child's place. There is room for the nodes of the bodies of the
+/// spot's levels behind the first, for as many links and one more, so it takes no memory. Rules that nobody calls any more stay.
+pub fn lift_node<L: Ledger>(
+    grammar: &mut Grammar,
+    index: &mut Index,
+    spot: &Spot,
+    steps: &mut Steps<L>,
+)
+    requires spot { (names : List (Kind × List ℕ)) × (number : ℕ) × IsSpot names grammar.old.rules number spot.now }
+    requires index { IsIndexOf grammar.old index.old }
+    requires room { room_along grammar.old.rules spot.now.levels.items ≤ grammar.old.spare_nodes }
+    requires links { room_along grammar.old.rules spot.now.levels.items + 1 ≤ index.old.spare_links }
+    requires cells { grammar.old.limit ≤ length index.old.cells }
+    ensures value { (names : List (Kind × List ℕ)) (number : ℕ) → IsSpot names grammar.old.rules number spot.now
+        → LosesNode (rules_of grammar.old.rules) (rules_of grammar.new.rules) number }
+    ensures values { HaveOtherValues (length (rules_of grammar.old.rules) - 1) (rules_of grammar.old.rules) (rules_of grammar.new.rules) }
+    ensures size { size (rules_of grammar.new.rules) ≤ 2 * size (rules_of grammar.old.rules) }
+    ensures index { IsIndexOf grammar.new index.new }
+    ensures spare_nodes { grammar.old.spare_nodes ≤ grammar.new.spare_nodes + room_along grammar.old.rules spot.now.levels.items }
+    ensures spare_rules { grammar.new.spare_rules ≡ grammar.old.spare_rules }
+    ensures limit { grammar.new.limit ≡ grammar.old.limit }
+    ensures links { index.old.spare_links ≤ index.new.spare_links + (room_along grammar.old.rules spot.now.levels.items + 1) }
+    ensures numbers { index.new.spare_rules ≡ index.old.spare_rules }
+    ensures cells { length index.old.cells ≤ length index.new.cells }
+    ensures steps { steps.new ≤ steps.old }
+{
+    let at = isolate_node(grammar, index, spot, steps);
+    lift_linked(grammar, index, at);
+}
+
+/// In the value the spot's node gets another symbol. There is room for the nodes of the bodies of the spot's levels behind the first, for
+/// as many links and three more, so it takes no memory. Rules that nobody calls any more stay.
+pub fn relabel_node<L: Ledger>(
+    grammar: &mut Grammar,
+    index: &mut Index,
+    spot: &Spot,
+    symbol: usize,
+    steps: &mut Steps<L>,
+)
+    requires spot { (names : List (Kind × List ℕ)) × (number : ℕ) × IsSpot names grammar.old.rules number spot.now }
+    requires index { IsIndexOf grammar.old index.old }
+    requires room { room_along grammar.old.rules spot.now.levels.items ≤ grammar.old.spare_nodes }
+    requires links { room_along grammar.old.rules spot.now.levels.items + 3 ≤ index.old.spare_links }
+    requires cells { grammar.old.limit ≤ length index.old.cells }
+    ensures value { (names : List (Kind × List ℕ)) (number : ℕ) → IsSpot names grammar.old.rules number spot.now
+        → GetsSymbol (rules_of grammar.old.rules) (rules_of grammar.new.rules) number symbol }
+    ensures values { HaveOtherValues (length (rules_of grammar.old.rules) - 1) (rules_of grammar.old.rules) (rules_of grammar.new.rules) }
+    ensures size { size (rules_of grammar.new.rules) ≤ 2 * size (rules_of grammar.old.rules) }
+    ensures index { IsIndexOf grammar.new index.new }
+    ensures spare_nodes { grammar.old.spare_nodes ≤ grammar.new.spare_nodes + room_along grammar.old.rules spot.now.levels.items }
+    ensures spare_rules { grammar.new.spare_rules ≡ grammar.old.spare_rules }
+    ensures limit { grammar.new.limit ≡ grammar.old.limit }
+    ensures links { index.old.spare_links ≤ index.new.spare_links + (room_along grammar.old.rules spot.now.levels.items + 3) }
+    ensures numbers { index.new.spare_rules ≡ index.old.spare_rules }
+    ensures cells { length index.old.cells ≤ length index.new.cells }
+    ensures steps { steps.new ≤ steps.old }
+{
+    let at = isolate_node(grammar, index, spot, steps);
+    relabel_linked(grammar, index, at, symbol);
+}
+
+// Makes the spot's node a node of the start's body, and answers it. It takes no memory.
+pub(crate) fn isolate_node<L: Ledger>(
+    grammar: &mut Grammar,
+    index: &mut Index,
+    spot: &Spot,
+    steps: &mut Steps<L>,
+) -> Key
+    requires spot { (names : List (Kind × List ℕ)) × (number : ℕ) × IsSpot names grammar.old.rules number spot.now }
+    requires index { IsIndexOf grammar.old index.old }
+    requires room { room_along grammar.old.rules spot.now.levels.items ≤ grammar.old.spare_nodes }
+    requires links { room_along grammar.old.rules spot.now.levels.items ≤ index.old.spare_links }
+    requires cells { grammar.old.limit ≤ length index.old.cells }
+    ensures node { (names : List (Kind × List ℕ)) (number : ℕ) → IsSpot names grammar.old.rules number spot.now → IsNodeIsolated grammar.new.rules number result }
+    ensures others { DifferInStart grammar.old.rules grammar.new.rules }
+    ensures values { (r : ℕ) → value_at (rules_of grammar.new.rules) r ≡ value_at (rules_of grammar.old.rules) r }
+    ensures most { size (rules_of grammar.new.rules) + real_nodes (start_body (rules_of grammar.old.rules)) ≤ 2 * size (rules_of grammar.old.rules) }
+    ensures index { IsIndexOf grammar.new index.new }
+    ensures spare_nodes { grammar.old.spare_nodes ≤ grammar.new.spare_nodes + room_along grammar.old.rules spot.now.levels.items }
+    ensures spare_rules { grammar.new.spare_rules ≡ grammar.old.spare_rules }
+    ensures limit { grammar.new.limit ≡ grammar.old.limit }
+    ensures links { index.old.spare_links ≤ index.new.spare_links + room_along grammar.old.rules spot.now.levels.items }
+    ensures numbers { index.new.spare_rules ≡ index.old.spare_rules }
+    ensures cells { length index.old.cells ≤ length index.new.cells }
+    ensures steps { steps.new ≤ steps.old }
+{
+    // The call tells what is true of every grammar.
+    let _limit = grammar.limit();
+    let way = spot.way();
+    isolate_linked(grammar, index, way, steps)
+}

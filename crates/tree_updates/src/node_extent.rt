@@ -1,0 +1,53 @@
+// Which nodes and texts of a document a node has with all below it.
+ghost use Rattle.std.specs.Prelude.{◌≡◌, ◌≤◌, length, take};
+ghost use Rattle.plain_tree.specs.Numbers.{nodes, values_of};
+ghost use Rattle.plain_tree.specs.Tree.{Tree, node_count};
+ghost use Rattle.preorder_address.specs.Spots.{IsSpot};
+ghost use Rattle.tree_updates.specs.Extents.{IsExtentOf, IsUnsweptFor};
+
+use crate::store::Store;
+use preorder_address::{Spot, text_rank};
+use read_steps::Steps;
+use std::sync::ledger::Ledger;
+
+// A node and all below it: how many nodes these are, the rank of their first text among the document's, and how many texts they have.
+#[derive(Clone, Copy, Drop)]
+pub(crate) struct Extent {
+    pub(crate) nodes: u64,
+    pub(crate) rank: u64,
+    pub(crate) texts: u64,
+}
+
+// The extent of the spot's node.
+pub(crate) fn extent_of<L: Ledger>(
+    store: &Store,
+    number: u64,
+    spot: &Spot,
+    steps: &mut Steps<L>,
+) -> Extent
+    requires store { (t : Tree) × IsUnsweptFor store.now t }
+    requires spot { IsSpot store.now.names store.now.grammar.rules number spot.now }
+    ensures extent { (t : Tree) → IsUnsweptFor store.now t → IsExtentOf t number result }
+{
+    let rank = spot.text_rank();
+    let nodes = spot.extent(&store.grammar, &store.counts, steps) + 1;
+    let end = texts_before(store, number + nodes, steps);
+    Extent {
+        nodes,
+        rank,
+        texts: end - rank,
+    }
+}
+
+// How many texts belong to the nodes before a number, which may be the count of all nodes.
+fn texts_before<L: Ledger>(store: &Store, number: u64, steps: &mut Steps<L>) -> u64
+    requires store { (t : Tree) × IsUnsweptFor store.now t × (number ≤ node_count t) }
+    ensures texts { (t : Tree) → IsUnsweptFor store.now t → result ≡ length (values_of (take number (nodes t))) }
+{
+    // The call tells what is true of every grammar.
+    let _limit = store.grammar.limit();
+    match text_rank(&store.grammar, &store.counts, &store.names, number, steps) {
+        Some(rank) => rank,
+        None => store.counts.total_texts(),
+    }
+}

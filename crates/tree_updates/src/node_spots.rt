@@ -1,0 +1,42 @@
+// Where the node stands at which an edit is to be made.
+ghost use Rattle.std.specs.Prelude.{◌≡◌, ◌<◌, ℕ, IfOk, IfErr};
+ghost use Rattle.plain_tree.specs.Edits.{number_of};
+ghost use Rattle.plain_tree.specs.Tree.{Tree, node_count};
+ghost use Rattle.plain_tree.specs.declared.edit.Edit.{Edit};
+ghost use Rattle.preorder_address.specs.Spots.{IsSpot};
+ghost use Rattle.tree_updates.specs.Stores.{IsRefusedFor, IsStoreFor};
+
+use crate::store::{EditError, Store};
+use preorder_address::{Spot, find};
+use read_steps::Steps;
+use std::alloc::Global;
+use std::sync::ledger::Ledger;
+
+// The spot of the node with this number. Memory is asked for its levels alone.
+pub(crate) fn spot_at<L: Ledger>(
+    alloc: Global,
+    store: &Store,
+    number: u64,
+    steps: &mut Steps<L>,
+) -> Result<Spot, EditError>
+    requires store { (t : Tree) × IsStoreFor store.now t }
+    ensures spot { IfOk result (λ spot. IsSpot store.now.names store.now.grammar.rules number spot) }
+    ensures there { IfOk result (λ spot. (t : Tree) → IsStoreFor store.now t → number < node_count t) }
+    ensures refused { IfErr result (λ error. (t : Tree) (e : Edit) → IsStoreFor store.now t → number_of e ≡ number → IsRefusedFor error t e) }
+{
+    // The call tells what is true of every grammar.
+    let _rules = store.grammar.rules();
+    let count = store.counts.total();
+    let found = find(
+        alloc,
+        &store.grammar,
+        &store.counts,
+        &store.names,
+        number,
+        steps,
+    )?;
+    match found {
+        Some(spot) => Ok(spot),
+        None => Err(EditError::NoNode { count }),
+    }
+}

@@ -6,7 +6,7 @@ use Rattle.plain_tree.specs.declared.kind.Kind.{Kind}
 use Rattle.plain_tree.specs.declared.kind.Kind.TheVariants.{Text}
 use Rattle.plain_tree.specs.Allowed.{IsAllowed, IsAllowedAt, AreLawfulParts}
 use Rattle.plain_tree.specs.Edits.{changed, chained, others, made, placed, edited}
-use Rattle.plain_tree.specs.EditLaws.{PlainEditsInTurn}
+use Rattle.plain_tree.specs.EditLaws.{IsEditOf, PlainEditsInTurn}
 use Rattle.plain_tree.specs.InTurn.{first_text, last_text, text_before_node, all_but_last, delete_edits, copy_edits, insert_any, insert_before, insert_edits, append_any, append_edits, plain_edits, in_turn, LeaveDocuments}
 use Rattle.plain_tree.specs.Joined.{join_front}
 use Rattle.plain_tree.specs.Lawful.{AreChars, AreLawfulTrees, IsDocument}
@@ -14,7 +14,7 @@ use Rattle.plain_tree.specs.Siblings.{from_node, first_kids, begins_text, text_b
 use Rattle.plain_tree.specs.Tree.{Tree, node, Trees, none, more, trees, node_count, node_count_all}
 use Rattle.plain_tree.proofs.Changing.{from-inside, from-deeper, changed-same, some-from, count-chained}
 use Rattle.plain_tree.proofs.EditCounts.{count-valued, count-deleted}
-use Rattle.plain_tree.proofs.EditedDocuments.{place-from, edited-alone}
+use Rattle.plain_tree.proofs.EditedDocuments.{place-from, edited-becomes, edited-alone}
 use Rattle.plain_tree.proofs.EditSteps.{step-alone, valued-document, right-becomes, first-alone, right-there}
 use Rattle.plain_tree.proofs.LawfulDocuments.{BecomesDocument, Stands, stands, root-place, place-low}
 use Rattle.plain_tree.proofs.LawfulEdits.{more-chars}
@@ -358,3 +358,20 @@ plain-edits-in-turn t e h =
     let size = ap node_count_all is in
     let way = in-turn (max (node_count t) (node_count (edited t e))) (plain_edits t e) t r.but_last b (omega arith) (omega (arith, size)) in
     (way.0, first-of (in_turn t (plain_edits t e)) (edited t e) (sym way.1 ∙ is))
+
+-- after each of them the list of the document has it alone
+abbrev pub AreAlone : Tree → List Edit → Type 0
+AreAlone t [] = Unit {0}
+AreAlone t (e ∷ es) = BecomesDocument (made more e (more t none)) × AreAlone (placed t e) es
+
+steps-alone : (es : List Edit) (t : Tree) → ButLast (more t none) es → BecomesDocument (turn_all (more t none) es) → AreAlone t es
+steps-alone [] t w b = tt
+steps-alone (e ∷ []) t w b = (b, tt)
+steps-alone (e ∷ f ∷ es) t w b =
+    let s = step-alone t e w.0 in
+    (w.0, steps-alone (f ∷ es) (placed t e) (subst (λ us. ButLast us (f ∷ es)) s.0 w.2) (subst (λ us. BecomesDocument (turn_all us (f ∷ es))) s.0 b))
+
+pub plain-edits-alone : (t : Tree) (e : Edit) → IsEditOf t e → AreAlone t (plain_edits t e)
+plain-edits-alone t e h =
+    let r = edit-turns t h.document_is e h.allowed h.parts in
+    steps-alone (plain_edits t e) t r.but_last (subst BecomesDocument r.last (edited-becomes t h.document_is e h.allowed h.parts))

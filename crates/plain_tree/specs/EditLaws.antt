@@ -43,7 +43,7 @@ EditsKeepTextsJoined = (t : Tree) (e : Edit) → IsEditOf t e → HasJoinedFragm
 abbrev pub EditsAreCounted : Type 0
 EditsAreCounted = (t : Tree) (e : Edit) → IsEditOf t e → node_count (placed t e) + nodes_go t e ≡ node_count t + nodes_come t e
 
--- the edit is edits, one after another, whose nodes are placed and join nothing; no document on the way has more nodes than the first and the last
+-- the edit is edits, one after another, whose nodes are placed and join nothing; no document on the way has more nodes than the first or the last
 abbrev pub PlainEditsInTurn : Type 0
 PlainEditsInTurn = (t : Tree) (e : Edit) → IsEditOf t e
     → LeaveDocuments (max (node_count t) (node_count (edited t e))) t (plain_edits t e) × (in_turn t (plain_edits t e) ≡ edited t e)

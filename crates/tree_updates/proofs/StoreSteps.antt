@@ -14,7 +14,7 @@ use Rattle.plain_tree.specs.Numbers.{has_value, texts_all}
 use Rattle.plain_tree.specs.Siblings.{from_node}
 use Rattle.plain_tree.specs.Tree.{Tree, node, Trees, none, more, trees, node_count, node_count_all}
 use Rattle.plain_tree.proofs.Changing.{each-node, if-from, from-inside, from-later, from-deeper, count-chained}
-use Rattle.plain_tree.proofs.EditTurns.{plain-edits-in-turn}
+use Rattle.plain_tree.proofs.EditTurns.{AreAlone, plain-edits-alone, plain-edits-in-turn}
 use Rattle.plain_tree.proofs.LawfulDocuments.{BecomesDocument}
 use Rattle.plain_tree.proofs.PlainEdits.{valued_at}
 use Rattle.plain_tree.proofs.TextsAt.{from-end}
@@ -198,17 +198,12 @@ module _ (names : List (Kind × List ℕ)) (t : Tree) (G H : List Rule) (old new
       (subst (λ us. Codes names us (value H)) (sym is) (subst (Codes names (valued_at w m T)) (sym same) (code-kept names T (value G) w m (attribute-low n t a x o) s.code)))
       (list ∙ ap (λ xs. slice_set xs (rank_of m t) w) (sym were-texts) ∙ sym (texts-valued m T (attribute-low n t a x o) Attribute x o.content o.below o.behind (attribute-here n t a x o) w refl) ∙ ap texts_all (sym is))
 
--- after each of the edits the list of the document has it alone
-abbrev pub AreAlone : Tree → List Edit → Type 0
-AreAlone t [] = Unit {0}
-AreAlone t (e ∷ es) = BecomesDocument (made more e (more t none)) × AreAlone (placed t e) es
-
 pub changes-stand : (names : List (Kind × List ℕ)) (es : List Edit) (t : Tree) (G H : List Rule) (old new : List (List ℕ)) → StandsFor G names old t → AreAlone t es → StoreChangesInTurn names t es G H old new → StandsFor H names new (in_turn t es)
 changes-stand names [] t G H old new s b c = subst (λ xs. StandsFor H names xs t) (sym c.1) (subst (λ K. StandsFor K names old t) (sym c.0) s)
 changes-stand names (e ∷ es) t G H old new s b c = changes-stand names es (placed t e) c.0 H c.1 new (change-stands names t G c.0 old c.1 s e c.2 b.0) b.1 c.3
 
 -- rules and texts that change by the edits that an edit comes to stand for the edited document
-pub edited-stands : (names : List (Kind × List ℕ)) (t : Tree) (e : Edit) (G H : List Rule) (old new : List (List ℕ)) → StandsFor G names old t → IsEditOf t e → AreAlone t (plain_edits t e) → StoreChangesInTurn names t (plain_edits t e) G H old new
+pub edited-stands : (names : List (Kind × List ℕ)) (t : Tree) (e : Edit) (G H : List Rule) (old new : List (List ℕ)) → StandsFor G names old t → IsEditOf t e → StoreChangesInTurn names t (plain_edits t e) G H old new
     → StandsFor H names new (edited t e)
-edited-stands names t e G H old new s h b c =
-    subst (StandsFor H names new) (plain-edits-in-turn t e h).1 (changes-stand names (plain_edits t e) t G H old new s b c)
+edited-stands names t e G H old new s h c =
+    subst (StandsFor H names new) (plain-edits-in-turn t e h).1 (changes-stand names (plain_edits t e) t G H old new s (plain-edits-alone t e h) c)

@@ -7,3 +7,4 @@ pub mod FedDocuments
 pub mod Fragments
 pub mod FragmentReading
 pub mod Valued
+pub mod ValueChars

@@ -1,6 +1,7 @@
 // Values of edits from bytes that are all there.
 ghost use Rattle.std.specs.Prelude.{◌≡◌, ℕ, ◌++◌, IfOk, OnOk, Err};
 ghost use Rattle.std.specs.Char.{encode_utf8};
+ghost use Rattle.plain_tree.specs.Lawful.{AreChars};
 ghost use Rattle.xml_nodes.specs.Spelling.{SpellsValue};
 ghost use Rattle.xml_profile.specs.Reading.{IsBadValue};
 
@@ -60,6 +61,7 @@ impl TokenSink for ValueSink {
 /// spell none, and tells the place.
 pub fn read_value(alloc: Global, bytes: &[u8]) -> Result<Bytes, XmlError>
     ensures spelled { IfOk result (λ value. SpellsValue bytes.now value) }
+    ensures chars { IfOk result AreChars }
     ensures bad { (at : ℕ) → result ≡ Err (XmlError.Bad at) → IsBadValue bytes.now at }
 {
     let mut sink = ValueSink {

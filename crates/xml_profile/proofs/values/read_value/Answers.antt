@@ -4,6 +4,7 @@ use Rattle.xml_tokenizer.specs.Taking.{taken}
 use Rattle.xml_nodes.specs.Spelling.{SpellsValue}
 use Rattle.xml_profile.specs.Reading.{IsBadValue}
 use Rattle.xml_profile.specs.Valuing.{value_step}
+use Rattle.xml_profile.proofs.ValueChars.{value_chars}
 use Rattle.xml_profile.proofs.Valued.{taken_spells, value_ends_bad, value_breaks_bad}
 use Rattle.xml_profile.proofs.values.read_value.Goals as goal
 
@@ -20,6 +21,9 @@ returns-then-is_whole-clause-spelled c =
     let took = subst (λ z. taken value_step z on.more ≡ Some c.feed.new.sink.value.items) c.new.ensures.items on.took in
     subst (λ z. SpellsValue c.args.bytes.now z) (sym c.as_slice.ensures.value ∙ sym c.in_ok-from_slice.ensures)
     (taken_spells c.args.bytes.now c.feed.new.sink.value.items on.more took (c.is_whole.ensures.whole c.if-is_whole.true on.more c.args.bytes.now on.holds))
+
+pub returns-then-is_whole-clause-chars : goal.returns-then-is_whole-clause-chars
+returns-then-is_whole-clause-chars c = value_chars c.args.bytes.now c.in_ok-from_slice.field-0 (returns-then-is_whole-clause-spelled c)
 
 pub returns-clause-bad : goal.returns-clause-bad
 returns-clause-bad c = λ at e.

@@ -34,3 +34,7 @@ pub mod NamedValues
 pub mod RegrownNames
 pub mod RenamedStores
 pub mod NameableNodes
+pub mod AttributeTokens
+pub mod ParentKids
+pub mod AttributeNames
+pub mod AloneNames

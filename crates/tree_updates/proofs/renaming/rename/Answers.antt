@@ -1,0 +1,64 @@
+use Rattle.std.proofs.Common.{◌-◌, ℕ, List, length, ap, sym, subst, arith, refl}
+use Rattle.std.proofs.lemmas.Result.{err_from_is_err_and}
+use Rattle.slt_grammar.specs.Grammars.{size}
+use Rattle.slt_grammar.specs.Keyed.{KeyedRule, rules_of}
+use Rattle.slt_grammar.specs.RuleValues.{HaveOtherValues}
+use Rattle.slt_grammar.specs.declared.rules.Rule.{Rule}
+use Rattle.fcns_encoding.proofs.InternLemmas.{interned}
+use Rattle.preorder_address.specs.Spots.{IsSpot}
+use Rattle.tree_updates.specs.Numbered.{GetsSymbol}
+use Rattle.tree_updates.proofs.RenamedStores.{counts-after, refused-grown, renamed-store}
+use Rattle.tree_updates.proofs.renaming.rename.Goals as goal
+
+pub returns-in_err-make_room : goal.returns-in_err-make_room
+returns-in_err-make_room g c =
+    let s = c.args.store.now in
+    let a = c.in_ok-found.found in
+    let x = c.args.name.now in
+    let grown = interned s.names c.intern.new.self a.kind x x refl c.in_ok-symbol.ensures.kept c.in_ok-symbol.ensures.added in
+    let p = err_from_is_err_and c.from_residual-in_err-make_room.result c.from_residual-in_err-make_room.ensures.1 in
+    rw (p.1, p.2) (record {
+      applies = λ t i.
+          refused-grown s t i c.args.number x c.requires.name (c.in_ok-found.ensures.allowed t i) a.kind (c.in_ok-found.ensures.kind t i) c.intern.new.self grown c.limit-limit.ensures.keyed.grammar c.make_room.new.grammar c.make_room.new.index
+          c.in_err-make_room.ensures.rules c.in_err-make_room.ensures.index;
+    })
+
+pub sweep_uncalled-requires-clause-counts : goal.sweep_uncalled-requires-clause-counts
+sweep_uncalled-requires-clause-counts g c =
+    let s = c.args.store.now in
+    let a = c.in_ok-found.found in
+    let x = c.args.name.now in
+    let r = c.requires.store in
+    let n : ℕ = c.args.number in
+    let same = c.in_ok-make_room.ensures.rules in
+    let H : List Rule = rules_of c.relabel_node.new.grammar.rules in
+    let grown = interned s.names c.intern.new.self a.kind x x refl c.in_ok-symbol.ensures.kept c.in_ok-symbol.ensures.added in
+    let spot = subst (λ (R : List KeyedRule). IsSpot s.names R n a.spot) (sym same) c.in_ok-found.ensures.spot in
+    let gets = subst (λ (R : List KeyedRule). GetsSymbol (rules_of R) H n c.in_ok-symbol.symbol) same (c.relabel_node.ensures.value s.names n spot) in
+    let others = subst (λ (R : List KeyedRule). HaveOtherValues (length (rules_of R) - 1) (rules_of R) H) same c.relabel_node.ensures.values in (
+      c.intern.new.self,
+      counts-after s r.0 r.1 n x c.requires.name (c.in_ok-found.ensures.allowed r.0 r.1) a.kind (c.in_ok-found.ensures.kind r.0 r.1) c.intern.new.self grown c.limit-limit.ensures.keyed.grammar H c.in_ok-symbol.symbol c.in_ok-symbol.ensures.place gets others,
+    )
+
+pub returns : goal.returns
+returns g c =
+    let s = c.args.store.now in
+    let a = c.in_ok-found.found in
+    let x = c.args.name.now in
+    let n : ℕ = c.args.number in
+    let same = c.in_ok-make_room.ensures.rules in
+    let H : List Rule = rules_of c.relabel_node.new.grammar.rules in
+    let grown = interned s.names c.intern.new.self a.kind x x refl c.in_ok-symbol.ensures.kept c.in_ok-symbol.ensures.added in
+    let spot = subst (λ (R : List KeyedRule). IsSpot s.names R n a.spot) (sym same) c.in_ok-found.ensures.spot in
+    let gets = subst (λ (R : List KeyedRule). GetsSymbol (rules_of R) H n c.in_ok-symbol.symbol) same (c.relabel_node.ensures.value s.names n spot) in
+    let others = subst (λ (R : List KeyedRule). HaveOtherValues (length (rules_of R) - 1) (rules_of R) H) same c.relabel_node.ensures.values in
+    let w = c.sweep_uncalled.ensures in
+    record {
+      applies = λ t i.
+          let lawful = c.limit-limit.ensures.keyed.grammar in
+          let allowed = c.in_ok-found.ensures.allowed t i in
+          let kind = c.in_ok-found.ensures.kind t i in
+          let counts = counts-after s t i n x c.requires.name allowed a.kind kind c.intern.new.self grown lawful H c.in_ok-symbol.symbol c.in_ok-symbol.ensures.place gets others in
+          renamed-store s t i n x c.requires.name allowed a.kind kind c.intern.new.self grown lawful H c.in_ok-symbol.symbol c.in_ok-symbol.ensures.place gets c.sweep_uncalled.new.grammar c.sweep_uncalled.new.index c.sweep_uncalled.new.counts
+          w.value w.swept (w.counts c.intern.new.self counts) w.index (omega (arith, w.size, c.relabel_node.ensures.size, ap (λ (R : List KeyedRule). size (rules_of R)) same));
+    }

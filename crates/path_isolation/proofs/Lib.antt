@@ -4,3 +4,4 @@ pub mod ChainLemmas
 pub mod Around
 pub mod Walks
 pub mod Lengths
+pub mod Elsewhere

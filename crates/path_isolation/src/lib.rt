@@ -10,4 +10,4 @@ mod measuring;
 
 pub use isolation::{isolate, isolate_within};
 pub use linked::isolate_linked;
-pub use measuring::nodes_along;
+pub use measuring::{nodes_along, nodes_elsewhere};

@@ -1,9 +1,11 @@
 // How many nodes come, and how many there are.
 ghost use Rattle.std.specs.Prelude.{◌≡◌, ◌<◌, ◌≤◌, ◌+◌, ℕ, List, length};
 ghost use Rattle.slt_grammar.specs.Grammars.{whole};
-ghost use Rattle.slt_grammar.specs.Keyed.{nodes_at, rules_of};
+ghost use Rattle.slt_grammar.specs.Holding.{IsLawful};
+ghost use Rattle.slt_grammar.specs.Keyed.{KeyedRule, nodes_at, rules_of};
+ghost use Rattle.slt_grammar.specs.declared.level.Level.{Level};
 ghost use Rattle.path_isolation.specs.Chains.{IsChain};
-ghost use Rattle.path_isolation.specs.Isolations.{room_along};
+ghost use Rattle.path_isolation.specs.Isolations.{DifferInStart, room_along, start_of};
 
 use crate::isolation::first_key;
 use read_steps::Steps;
@@ -26,6 +28,20 @@ pub fn nodes_along<W: Way, L: Ledger>(grammar: &Grammar, mut way: W, steps: &mut
         nodes += body_length(grammar, level.rule, steps);
     }
     nodes
+}
+
+/// How many nodes the bodies of all rules but the start have, with their parameters. So much room is enough to isolate any node, also
+/// once the start's body is another. It reads the start's body.
+pub fn nodes_elsewhere<L: Ledger>(grammar: &Grammar, steps: &mut Steps<L>) -> usize
+    ensures value { result + length (nodes_at grammar.now.rules (start_of grammar.now.rules)) ≡ whole (rules_of grammar.now.rules) }
+    ensures enough { (H : List KeyedRule) (levels : List Level) (ps : List ℕ) → DifferInStart grammar.now.rules H → IsLawful H → IsChain H levels ps
+        → room_along H levels ≤ result }
+    ensures steps { steps.new ≤ steps.old + whole (rules_of grammar.now.rules) }
+{
+    // The call tells that nodes are few.
+    let _limit = grammar.limit();
+    let start = grammar.rules() - 1;
+    count_nodes(grammar) - body_length(grammar, start, steps)
 }
 
 // How many nodes a body has, with its parameters. One step each.

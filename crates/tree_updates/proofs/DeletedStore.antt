@@ -41,7 +41,7 @@ module _ (G K H : List Rule) (names : List (Kind × List ℕ)) (values : List (L
   abbrev first_texts : List (List ℕ)
   first_texts = slice_set values (rank_in (suc i) (more t none)) (x ++ y)
 
-  first-stands : StandsFor G names first_texts one
+  pub first-stands : StandsFor G names first_texts one
   first-stands =
       stands-valued G G names values t s (suc i) (x ++ y) Text [] x none (more (node k m v ks) (more (text y) us)) refl (low-all t s.document i x y k m v ks us here low) here refl
       (left-becomes t s.document i x y k m v ks us here low chars some allowed)
@@ -55,31 +55,31 @@ module _ (G K H : List Rule) (names : List (Kind × List ℕ)) (values : List (L
   abbrev second_texts : List (List ℕ)
   second_texts = remove_range first_texts (rank_in right (more one none)) (rank_in right (more one none) + length (own Text y ++ texts_all none))
 
+  -- in the document without the right text node n stands before what stood behind that
+  pub node-here : from_node n (more two none) ≡ more (node k m v ks) us
+  node-here =
+      let W : Trees = valued_at (x ++ y) (suc i) (more t none) in
+      let c : ℕ = node_count_all ks in
+      let all : Trees = more (node k m v ks) (more (text y) us) in
+      let h : Trees → Trees = changed more others (suc c) in
+      let w = valued-there in
+      let z : suc c ≡ suc (c + 0) = omega arith in
+      let gone : h all ≡ more (node k m v ks) us = ap (λ (j : ℕ). changed more others j all) z ∙ more-later others k m v ks (more (text y) us) 0 in
+      let made-h : h (from_node n W) ≡ more (node k m v ks) us = ap h w.1 ∙ gone in
+      let second = (second-alone t s.document i x y k m v ks us here low chars some allowed).0 in
+      ap (from_node n) (sym second ∙ ap (changed more others right) (sym one-alone) ∙ changed-deeper more others n W w.0 c (rw w.1 (omega arith)))
+      ∙ from-changed h n W w.0 (rw made-h (omega arith)) ∙ made-h
+    where
+      valued-there : (n < node_count_all (valued_at (x ++ y) (suc i) (more t none))) × (from_node n (valued_at (x ++ y) (suc i) (more t none)) ≡ more (node k m v ks) (more (text y) us))
+      valued-there = (
+        (let r = right-there t s.document i x y k m v ks us here low in omega (arith, r.0)),
+        valued-from (suc i) (more t none) x (node k m v ks) (more (text y) us) here (low-all t s.document i x y k m v ks us here low) (x ++ y),
+      )
+
   module _ (f g : ℕ) (l r p q : Term) (right-goes : DifferThere node_weight G K right (Node f l r) r) (node-goes : DifferThere node_weight K H n (Node g p q) q) where
     second-stands : StandsFor K names second_texts two
     second-stands =
         stands-deleted G K names first_texts one first-stands right f l r r right-goes Text [] y none us right-here refl (right-becomes t s.document i x y k m v ks us here low chars some allowed)
-
-    -- in the document without the right text node n stands before what stood behind that
-    node-here : from_node n (more two none) ≡ more (node k m v ks) us
-    node-here =
-        let W : Trees = valued_at (x ++ y) (suc i) (more t none) in
-        let c : ℕ = node_count_all ks in
-        let all : Trees = more (node k m v ks) (more (text y) us) in
-        let h : Trees → Trees = changed more others (suc c) in
-        let w = valued-there in
-        let z : suc c ≡ suc (c + 0) = omega arith in
-        let gone : h all ≡ more (node k m v ks) us = ap (λ (j : ℕ). changed more others j all) z ∙ more-later others k m v ks (more (text y) us) 0 in
-        let made-h : h (from_node n W) ≡ more (node k m v ks) us = ap h w.1 ∙ gone in
-        let second = (second-alone t s.document i x y k m v ks us here low chars some allowed).0 in
-        ap (from_node n) (sym second ∙ ap (changed more others right) (sym one-alone) ∙ changed-deeper more others n W w.0 c (rw w.1 (omega arith)))
-        ∙ from-changed h n W w.0 (rw made-h (omega arith)) ∙ made-h
-      where
-        valued-there : (n < node_count_all (valued_at (x ++ y) (suc i) (more t none))) × (from_node n (valued_at (x ++ y) (suc i) (more t none)) ≡ more (node k m v ks) (more (text y) us))
-        valued-there = (
-          (let r = right-there t s.document i x y k m v ks us here low in omega (arith, r.0)),
-          valued-from (suc i) (more t none) x (node k m v ks) (more (text y) us) here (low-all t s.document i x y k m v ks us here low) (x ++ y),
-        )
 
     -- what is left stands for the edited document
     pub deleted-stands : StandsFor H names (remove_range second_texts (rank_in n (more two none)) (rank_in n (more two none) + length (own k v ++ texts_all ks))) (edited t (Delete n))

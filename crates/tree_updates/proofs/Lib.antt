@@ -38,3 +38,6 @@ pub mod AttributeTokens
 pub mod ParentKids
 pub mod AttributeNames
 pub mod AloneNames
+pub mod NodeWays
+pub mod BetweenTexts
+pub mod BetweenStores

@@ -65,7 +65,7 @@ spot-low names G t n s c S =
 its-texts : (k : Kind) (m v : List ℕ) (ks : Trees) → length (texts (node k m v ks)) ≡ length (own k v ++ texts_all ks)
 its-texts k m v ks = ap length (sym (texts-one (node k m v ks)) ∙ texts_all-more k m v ks none ∙ ap (λ xs. own k v ++ xs) (append-nil (texts_all ks)))
 
-rank-is : (t : Tree) (n : ℕ) → rank_in n (more t none) ≡ length (values_of (take n (nodes t)))
+pub rank-is : (t : Tree) (n : ℕ) → rank_in n (more t none) ≡ length (values_of (take n (nodes t)))
 rank-is t n = ap (λ xs. length (values_of (take n xs))) (append-nil (nodes t))
 
 module _ (t : Tree) (n : ℕ) (low : n < node_count t) where

@@ -28,6 +28,7 @@ use Rattle.path_isolation.specs.Isolations.{IsIsolated, start_of}
 use Rattle.tree_updates.specs.Differences.{hole_at}
 use Rattle.tree_updates.specs.Marked.{chain_number}
 use Rattle.tree_updates.specs.Numbered.{IsNodeIsolated}
+use Rattle.tree_updates.specs.Ways.{LeadToNode}
 use Rattle.tree_updates.proofs.Bridging.{leads-on, of-value}
 use Rattle.tree_updates.proofs.HoleNumbers.{hole-number}
 use Rattle.tree_updates.proofs.RouteNumbers.{levels-number}
@@ -88,24 +89,32 @@ pub number-isolated : (by : Numbering) (K : Keyed) (sound : IsKeyed K) (H : List
     → hole_at (weigh_by by) (term_around (rules_of H) I.place) ≡ n
 number-isolated by K sound H n ls key N I = ap (hole_at (weigh_by by)) I.around ∙ hole-number (weigh_by by) K.rules sound.grammar ls N.places N.chain ∙ N.number
 
-module _ (names : List (Kind × List ℕ)) (K : Keyed) (sound : IsKeyed K) (n : ℕ) (s : Spot) (S : IsSpot names K.rules n s) where
-  spot-low : n < sum_by node_weight (preorder (rules_of K.rules) (length K.rules - 1))
+-- levels that lead to a node
+pub leading : (K : Keyed) (sound : IsKeyed K) (n : ℕ) (ls : List Level) → LeadToNode K.rules ls n → AreNumbered Nodes K.rules n ls
+leading K sound n ls L = subst (AreNumbered Nodes K.rules n) (sym L.located) (numbered Nodes K sound n L.low)
+
+-- their node, once it stands in the start's body
+pub node-isolated : (K : Keyed) (sound : IsKeyed K) (n : ℕ) (ls : List Level) (L : LeadToNode K.rules ls n) (H : List KeyedRule) (key : Key)
+    → length H ≡ length K.rules → IsIsolated K.rules H ls (leading K sound n ls L).places key → IsNodeIsolated H n key
+node-isolated K sound n ls L H key m I =
+    let N = leading K sound n ls L in
+    let f = symbol-of (last_label K.rules Bottom ls N.places) N.counted in
+    let e : start_of K.rules ≡ length H - 1 = ap (λ (k : ℕ). k - 1) (sym m) in
+    record {
+      place = I.place;
+      symbol = f.0;
+      there = subst (λ r. key_at H r I.place ≡ Some key) e I.there;
+      label = ap (λ r. label_at H r I.place) (sym e) ∙ I.label ∙ f.1;
+      before = number-isolated Nodes K sound H n ls key N I;
+    }
+
+module _ (names : List (Kind × List ℕ)) (G : List KeyedRule) (n : ℕ) (s : Spot) (S : IsSpot names G n s) where
+  spot-low : n < sum_by node_weight (preorder (rules_of G) (length G - 1))
   spot-low = omega (arith, ap (sum_by node_weight) S.split, sum_by-append node_weight S.earlier (Symbol s.symbol ∷ S.later), sum_by-cons node_weight (Symbol s.symbol) S.later, S.number)
 
   -- the levels of a spot
-  pub spot-numbered : AreNumbered Nodes K.rules n s.levels.items
-  spot-numbered = subst (AreNumbered Nodes K.rules n) (sym S.located) (numbered Nodes K sound n spot-low)
+  pub spot-leads : (ls : List Level) → ls ≡ s.levels.items → LeadToNode G ls n
+  spot-leads ls e = record { located = e ∙ S.located; low = spot-low }
 
-  -- a spot's node, once it stands in the start's body
-  pub node-isolated : (H : List KeyedRule) (key : Key) → length H ≡ length K.rules → IsIsolated K.rules H s.levels.items spot-numbered.places key → IsNodeIsolated H n key
-  node-isolated H key m I =
-      let N = spot-numbered in
-      let f = symbol-of (last_label K.rules Bottom s.levels.items N.places) N.counted in
-      let e : start_of K.rules ≡ length H - 1 = ap (λ (k : ℕ). k - 1) (sym m) in
-      record {
-        place = I.place;
-        symbol = f.0;
-        there = subst (λ r. key_at H r I.place ≡ Some key) e I.there;
-        label = ap (λ r. label_at H r I.place) (sym e) ∙ I.label ∙ f.1;
-        before = number-isolated Nodes K sound H n s.levels.items key N I;
-      }
+pub spot-numbered : (names : List (Kind × List ℕ)) (K : Keyed) (sound : IsKeyed K) (n : ℕ) (s : Spot) → IsSpot names K.rules n s → AreNumbered Nodes K.rules n s.levels.items
+spot-numbered names K sound n s S = leading K sound n s.levels.items (spot-leads names K.rules n s S s.levels.items refl)

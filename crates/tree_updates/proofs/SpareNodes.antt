@@ -150,3 +150,8 @@ told-low t n kind e = by_node (slice_get (nodes t) n) refl e
     by_node : (o : Option Tree) → slice_get (nodes t) n ≡ o → option_map kind_of o ≡ Some kind → n < node_count t
     by_node None f g = absurd cc
     by_node (Some s) f g = omega (arith, slice_get_within (nodes t) n s f, length-nodes t)
+
+-- the document stays
+pub number-some : (t : Tree) (n : ℕ) → IsAllowed t (Delete n) → 0 < n
+number-some (node k m v ks) zero h = absurd h
+number-some (node k m v ks) (suc n) h = omega arith

@@ -109,7 +109,8 @@ first-is s t us vs e = cc
 some-is : (p q : ℕ) → Some p ≡ Some q → p ≡ q
 some-is p q e = cc
 
-low-at : (n : ℕ) (ts : Trees) (k : Kind) (m v : List ℕ) (ks us : Trees) → from_node n ts ≡ more (node k m v ks) us → n < node_count_all ts
+-- where a node stands there is one
+pub low-at : (n : ℕ) (ts : Trees) (k : Kind) (m v : List ℕ) (ks us : Trees) → from_node n ts ≡ more (node k m v ks) us → n < node_count_all ts
 low-at zero none k m v ks us e = absurd cc
 low-at zero (more (node k' m' v' ks') ts) k m v ks us e = omega arith
 low-at (suc n) none k m v ks us e = absurd cc

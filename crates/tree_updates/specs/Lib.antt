@@ -4,3 +4,4 @@ pub mod Extents
 pub mod Marked
 pub mod Numbered
 pub mod Stores
+pub mod Ways

@@ -1,5 +1,5 @@
 // A node that goes with all below it.
-ghost use Rattle.std.specs.Prelude.{◌≡◌, ◌<◌, ◌≤◌, ◌+◌, ◌*◌, ◌^◌, OnOk, length};
+ghost use Rattle.std.specs.Prelude.{◌≡◌, ◌≤◌, ◌+◌, ◌*◌, length};
 ghost use Rattle.plain_tree.specs.Allowed.{IsAllowed};
 ghost use Rattle.plain_tree.specs.declared.edit.Edit.TheVariants.{Delete};
 ghost use Rattle.plain_tree.specs.Edits.{edited, placed};
@@ -11,15 +11,38 @@ ghost use Rattle.preorder_address.specs.Spots.{IsSpot};
 ghost use Rattle.tree_updates.specs.Extents.{IsUnsweptFor, LeavesDocument};
 ghost use Rattle.tree_updates.specs.Stores.{Applies, IsStoreFor};
 
+use crate::deleting_between::delete_between;
 use crate::isolating::lift_node;
+use crate::meeting_text::meeting_text;
 use crate::node_extent::extent_of;
+use crate::room::reserve_room;
+use crate::spare_node::spare_spot;
 use crate::store::{EditError, Store};
-use crate::sweeping::sweep_uncalled;
+use crate::sweeping::sweep;
 use path_isolation::nodes_along;
 use preorder_address::Spot;
 use read_steps::Steps;
-use std::alloc::AllocError;
+use std::alloc::Global;
 use std::sync::ledger::Ledger;
+
+/// Takes the node with this number out of the document, with all below it. Where it stands between two texts, these become one. It is
+/// refused where there is no such node, where the node is the document or the root element, and for want of memory: all of that is asked for
+/// before the first change.
+pub(crate) fn delete<L: Ledger>(
+    alloc: Global,
+    store: &mut Store,
+    number: u64,
+    steps: &mut Steps<L>,
+) -> Result<(), EditError>
+    requires store { (t : Tree) × IsStoreFor store.old t }
+    ensures applies { (t : Tree) → IsStoreFor store.old t → Applies t (Delete number) store.old result store.new }
+{
+    let spot = spare_spot(alloc, store, number, steps)?;
+    match meeting_text(store, number, steps) {
+        None => delete_apart(store, number, &spot, steps),
+        Some(right) => delete_between(alloc, store, number, right, steps),
+    }
+}
 
 // Deletes the spot's node, at which no texts meet. All memory is taken first.
 fn delete_apart<L: Ledger>(
@@ -39,21 +62,6 @@ fn delete_apart<L: Ledger>(
     reserve_room(store, nodes)?;
     delete_plain(store, number, spot, steps);
     Ok(())
-}
-
-// Makes room for so many more nodes, and for as many links and one more. The store stays.
-fn reserve_room(store: &mut Store, nodes: usize) -> Result<(), AllocError>
-    requires few { nodes < 2 ^ 63 }
-    ensures nodes { OnOk result (nodes ≤ store.new.grammar.spare_nodes) }
-    ensures links { OnOk result (nodes + 1 ≤ store.new.index.spare_links) }
-    ensures cells { OnOk result (store.new.grammar.limit ≤ length store.new.index.cells) }
-    ensures rules { store.new.grammar.rules ≡ store.old.grammar.rules }
-    ensures texts { store.new.texts.texts ≡ store.old.texts.texts }
-    ensures names { store.new.names ≡ store.old.names }
-    ensures store { (t : Tree) → IsStoreFor store.old t → IsStoreFor store.new t }
-{
-    store.grammar.reserve(nodes, 0)?;
-    store.index.reserve(&store.grammar, nodes + 1, 0)
 }
 
 // Takes the spot's node out, with all below it. Texts that meet by it stay two. There is room for the nodes of the bodies of the spot's
@@ -89,14 +97,4 @@ fn take_out<L: Ledger>(store: &mut Store, number: u64, spot: &Spot, steps: &mut 
     lift_node(&mut store.grammar, &mut store.index, spot, steps);
     store.texts.remove_range(extent.rank, extent.texts);
     store.counts.lower_start(extent.nodes, extent.texts);
-}
-
-// Drops the rules that nobody calls.
-fn sweep(store: &mut Store)
-    requires store { (t : Tree) × IsUnsweptFor store.old t }
-    ensures store { (t : Tree) → IsUnsweptFor store.old t → IsStoreFor store.new t }
-    ensures names { store.new.names ≡ store.old.names }
-    ensures size { size (rules_of store.new.grammar.rules) ≤ size (rules_of store.old.grammar.rules) }
-{
-    sweep_uncalled(&mut store.grammar, &mut store.index, &mut store.counts);
 }

@@ -10,13 +10,14 @@ ghost use Rattle.digram_index.specs.Linked.{IsIndexOf};
 ghost use Rattle.path_isolation.specs.Isolations.{DifferInStart, room_along};
 ghost use Rattle.preorder_address.specs.Spots.{IsSpot};
 ghost use Rattle.tree_updates.specs.Numbered.{GetsSymbol, IsNodeIsolated, LosesNode};
+ghost use Rattle.tree_updates.specs.Ways.{LeadToNode};
 
 use digram_index::Index;
 use linked_edits::{lift_linked, relabel_linked};
 use path_isolation::isolate_linked;
 use preorder_address::Spot;
 use read_steps::Steps;
-use slt_grammar::{Grammar, Key};
+use slt_grammar::{Grammar, Key, Way};
 use std::sync::ledger::Ledger;
 
 /// In the value the spot's node gives way to what stands in its second child's place. There is room for the nodes of the bodies of the
@@ -35,6 +36,8 @@ pub fn lift_node<L: Ledger>(
     ensures value { (names : List (Kind × List ℕ)) (number : ℕ) → IsSpot names grammar.old.rules number spot.now
         → LosesNode (rules_of grammar.old.rules) (rules_of grammar.new.rules) number }
     ensures values { HaveOtherValues (length (rules_of grammar.old.rules) - 1) (rules_of grammar.old.rules) (rules_of grammar.new.rules) }
+    ensures others { DifferInStart grammar.old.rules grammar.new.rules }
+    ensures most { size (rules_of grammar.new.rules) + real_nodes (start_body (rules_of grammar.old.rules)) ≤ 2 * size (rules_of grammar.old.rules) }
     ensures size { size (rules_of grammar.new.rules) ≤ 2 * size (rules_of grammar.old.rules) }
     ensures index { IsIndexOf grammar.new index.new }
     ensures spare_nodes { grammar.old.spare_nodes ≤ grammar.new.spare_nodes + room_along grammar.old.rules spot.now.levels.items }
@@ -45,7 +48,37 @@ pub fn lift_node<L: Ledger>(
     ensures cells { length index.old.cells ≤ length index.new.cells }
     ensures steps { steps.new ≤ steps.old }
 {
-    let at = isolate_node(grammar, index, spot, steps);
+    lift_along(grammar, index, spot.way(), steps);
+}
+
+// The same of the node to which a way leads.
+pub(crate) fn lift_along<W: Way, L: Ledger>(
+    grammar: &mut Grammar,
+    index: &mut Index,
+    way: W,
+    steps: &mut Steps<L>,
+)
+    requires ready { W.ready way grammar.old.rules }
+    requires leads { (number : ℕ) × LeadToNode grammar.old.rules (W.levels way grammar.old.rules) number }
+    requires index { IsIndexOf grammar.old index.old }
+    requires room { room_along grammar.old.rules (W.levels way grammar.old.rules) ≤ grammar.old.spare_nodes }
+    requires links { room_along grammar.old.rules (W.levels way grammar.old.rules) + 1 ≤ index.old.spare_links }
+    requires cells { grammar.old.limit ≤ length index.old.cells }
+    ensures value { (number : ℕ) → LeadToNode grammar.old.rules (W.levels way grammar.old.rules) number
+        → LosesNode (rules_of grammar.old.rules) (rules_of grammar.new.rules) number }
+    ensures values { HaveOtherValues (length (rules_of grammar.old.rules) - 1) (rules_of grammar.old.rules) (rules_of grammar.new.rules) }
+    ensures others { DifferInStart grammar.old.rules grammar.new.rules }
+    ensures most { size (rules_of grammar.new.rules) + real_nodes (start_body (rules_of grammar.old.rules)) ≤ 2 * size (rules_of grammar.old.rules) }
+    ensures index { IsIndexOf grammar.new index.new }
+    ensures spare_nodes { grammar.old.spare_nodes ≤ grammar.new.spare_nodes + room_along grammar.old.rules (W.levels way grammar.old.rules) }
+    ensures spare_rules { grammar.new.spare_rules ≡ grammar.old.spare_rules }
+    ensures limit { grammar.new.limit ≡ grammar.old.limit }
+    ensures links { index.old.spare_links ≤ index.new.spare_links + (room_along grammar.old.rules (W.levels way grammar.old.rules) + 1) }
+    ensures numbers { index.new.spare_rules ≡ index.old.spare_rules }
+    ensures cells { length index.old.cells ≤ length index.new.cells }
+    ensures steps { steps.new ≤ steps.old + W.most way grammar.old.rules }
+{
+    let at = isolate_along(grammar, index, way, steps);
     lift_linked(grammar, index, at);
 }
 
@@ -81,7 +114,7 @@ pub fn relabel_node<L: Ledger>(
 }
 
 // Makes the spot's node a node of the start's body, and answers it. It takes no memory.
-pub(crate) fn isolate_node<L: Ledger>(
+fn isolate_node<L: Ledger>(
     grammar: &mut Grammar,
     index: &mut Index,
     spot: &Spot,
@@ -105,8 +138,36 @@ pub(crate) fn isolate_node<L: Ledger>(
     ensures cells { length index.old.cells ≤ length index.new.cells }
     ensures steps { steps.new ≤ steps.old }
 {
+    isolate_along(grammar, index, spot.way(), steps)
+}
+
+// The same of the node to which a way leads.
+fn isolate_along<W: Way, L: Ledger>(
+    grammar: &mut Grammar,
+    index: &mut Index,
+    way: W,
+    steps: &mut Steps<L>,
+) -> Key
+    requires ready { W.ready way grammar.old.rules }
+    requires leads { (number : ℕ) × LeadToNode grammar.old.rules (W.levels way grammar.old.rules) number }
+    requires index { IsIndexOf grammar.old index.old }
+    requires room { room_along grammar.old.rules (W.levels way grammar.old.rules) ≤ grammar.old.spare_nodes }
+    requires links { room_along grammar.old.rules (W.levels way grammar.old.rules) ≤ index.old.spare_links }
+    requires cells { grammar.old.limit ≤ length index.old.cells }
+    ensures node { (number : ℕ) → LeadToNode grammar.old.rules (W.levels way grammar.old.rules) number → IsNodeIsolated grammar.new.rules number result }
+    ensures others { DifferInStart grammar.old.rules grammar.new.rules }
+    ensures values { (r : ℕ) → value_at (rules_of grammar.new.rules) r ≡ value_at (rules_of grammar.old.rules) r }
+    ensures most { size (rules_of grammar.new.rules) + real_nodes (start_body (rules_of grammar.old.rules)) ≤ 2 * size (rules_of grammar.old.rules) }
+    ensures index { IsIndexOf grammar.new index.new }
+    ensures spare_nodes { grammar.old.spare_nodes ≤ grammar.new.spare_nodes + room_along grammar.old.rules (W.levels way grammar.old.rules) }
+    ensures spare_rules { grammar.new.spare_rules ≡ grammar.old.spare_rules }
+    ensures limit { grammar.new.limit ≡ grammar.old.limit }
+    ensures links { index.old.spare_links ≤ index.new.spare_links + room_along grammar.old.rules (W.levels way grammar.old.rules) }
+    ensures numbers { index.new.spare_rules ≡ index.old.spare_rules }
+    ensures cells { length index.old.cells ≤ length index.new.cells }
+    ensures steps { steps.new ≤ steps.old + W.most way grammar.old.rules }
+{
     // The call tells what is true of every grammar.
     let _limit = grammar.limit();
-    let way = spot.way();
     isolate_linked(grammar, index, way, steps)
 }

@@ -1,12 +1,12 @@
 // Which nodes and texts of a document a node has with all below it.
-ghost use Rattle.std.specs.Prelude.{◌≡◌, ◌≤◌, length, take};
+ghost use Rattle.std.specs.Prelude.{◌≡◌, ◌<◌, ◌≤◌, length, take};
 ghost use Rattle.plain_tree.specs.Numbers.{nodes, values_of};
 ghost use Rattle.plain_tree.specs.Tree.{Tree, node_count};
 ghost use Rattle.preorder_address.specs.Spots.{IsSpot};
 ghost use Rattle.tree_updates.specs.Extents.{IsExtentOf, IsUnsweptFor};
 
 use crate::store::Store;
-use preorder_address::{Spot, text_rank};
+use preorder_address::{Spot, extent, text_rank};
 use read_steps::Steps;
 use std::sync::ledger::Ledger;
 
@@ -31,6 +31,24 @@ pub(crate) fn extent_of<L: Ledger>(
 {
     let rank = spot.text_rank();
     let nodes = spot.extent(&store.grammar, &store.counts, steps) + 1;
+    let end = texts_before(store, number + nodes, steps);
+    Extent {
+        nodes,
+        rank,
+        texts: end - rank,
+    }
+}
+
+// The extent of the node with this number.
+pub(crate) fn located_extent<L: Ledger>(store: &Store, number: u64, steps: &mut Steps<L>) -> Extent
+    requires store { (t : Tree) × IsUnsweptFor store.now t × (number < node_count t) }
+    ensures extent { (t : Tree) → IsUnsweptFor store.now t → IsExtentOf t number result }
+{
+    // The call tells what is true of every grammar.
+    let _limit = store.grammar.limit();
+    let told = extent(&store.grammar, &store.counts, number, steps);
+    let nodes = told.unwrap() + 1;
+    let rank = texts_before(store, number, steps);
     let end = texts_before(store, number + nodes, steps);
     Extent {
         nodes,

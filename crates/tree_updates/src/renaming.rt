@@ -37,7 +37,7 @@ struct Nameable {
 /// attribute of its element has, an instruction a target. It reads the way to the node, how often each rule is called and, at an attribute,
 /// those of its element up to one that has the name. `EditError` says when it is refused; the document and its rules stay then. It is refused
 /// for want of memory at any time, and the name may be in the table then.
-pub fn rename<L: Ledger>(
+pub(crate) fn rename<L: Ledger>(
     alloc: Global,
     store: &mut Store,
     number: u64,

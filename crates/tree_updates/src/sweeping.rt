@@ -1,12 +1,16 @@
 // Rules that nobody calls any more.
 ghost use Rattle.std.specs.Prelude.{◌≡◌, ◌≤◌, ℕ, List, length};
 ghost use Rattle.plain_tree.specs.declared.kind.Kind.{Kind};
+ghost use Rattle.plain_tree.specs.Tree.{Tree};
 ghost use Rattle.slt_grammar.specs.Grammars.{size, value, IsSwept};
 ghost use Rattle.slt_grammar.specs.Keyed.{rules_of};
 ghost use Rattle.digram_index.specs.Linked.{IsIndexOf};
 ghost use Rattle.segment_counts.specs.Counting.{AreCounts};
 ghost use Rattle.preorder_address.specs.Numberings.{AreCountsOf};
+ghost use Rattle.tree_updates.specs.Extents.{IsUnsweptFor};
+ghost use Rattle.tree_updates.specs.Stores.{IsStoreFor};
 
+use crate::store::Store;
 use digram_index::{Index, drop_linked};
 use segment_counts::Counts;
 use slt_grammar::Grammar;
@@ -39,4 +43,14 @@ pub fn sweep_uncalled(grammar: &mut Grammar, index: &mut Index, counts: &mut Cou
             counts.remove_rule(rule);
         }
     }
+}
+
+// The same in a store.
+pub(crate) fn sweep(store: &mut Store)
+    requires store { (t : Tree) × IsUnsweptFor store.old t }
+    ensures store { (t : Tree) → IsUnsweptFor store.old t → IsStoreFor store.new t }
+    ensures names { store.new.names ≡ store.old.names }
+    ensures size { size (rules_of store.new.grammar.rules) ≤ size (rules_of store.old.grammar.rules) }
+{
+    sweep_uncalled(&mut store.grammar, &mut store.index, &mut store.counts);
 }

@@ -18,7 +18,7 @@ use xml_nodes::lawful;
 /// The node with this number of the store's document gets this value, which consists of characters of XML: an attribute any, a text, comment or
 /// instruction one that is lawful for its kind. It reads nothing but the way to the node, and changes one text. `EditError` says when it is
 /// refused; nothing changes then. It is refused for want of memory at any time.
-pub fn set_value<L: Ledger>(
+pub(crate) fn set_value<L: Ledger>(
     alloc: Global,
     store: &mut Store,
     number: u64,

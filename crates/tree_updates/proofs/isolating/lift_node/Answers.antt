@@ -1,43 +1,28 @@
-use Rattle.std.proofs.Common.{List, sym, ◌∙◌, arith}
-use Rattle.slt_grammar.specs.Keyed.{KeyedRule, rules_of}
-use Rattle.slt_grammar.proofs.KeyedLemmas.{length-rules_of}
-use Rattle.tree_updates.proofs.InStart.{differ-number, in-start, others-stay, same-value}
+use Rattle.std.proofs.Common.{◌≤◌, ◌+◌, List, sym, subst}
+use Rattle.slt_grammar.specs.declared.level.Level.{Level}
+use Rattle.path_isolation.specs.Isolations.{room_along}
+use Rattle.tree_updates.proofs.Numbered.{spot-leads}
 use Rattle.tree_updates.proofs.isolating.lift_node.Goals as goal
 
-pub lift_linked-requires-clause-node : goal.lift_linked-requires-clause-node
-lift_linked-requires-clause-node g c =
+pub lift_along-requires-clause-leads : goal.lift_along-requires-clause-leads
+lift_along-requires-clause-leads g c =
     let r = c.requires.spot in
-    in-start c.isolate_node-at.new.grammar.rules r.1 c.isolate_node-at.result (c.isolate_node-at.ensures.node r.0 r.1 r.2)
+    (r.1, spot-leads r.0 c.args.grammar.now.rules r.1 c.args.spot.now r.2 _ c.way.ensures)
 
-pub lift_linked-requires-clause-links : goal.lift_linked-requires-clause-links
-lift_linked-requires-clause-links g c = omega (arith, c.requires.links, c.isolate_node-at.ensures.links)
+pub lift_along-requires-clause-room : goal.lift_along-requires-clause-room
+lift_along-requires-clause-room g c = subst (λ (ls : List Level). room_along c.args.grammar.now.rules ls ≤ c.args.grammar.now.spare_nodes) (sym c.way.ensures) c.requires.room
 
-pub lift_linked-requires-clause-cells : goal.lift_linked-requires-clause-cells
-lift_linked-requires-clause-cells g c = omega (arith, c.requires.cells, c.isolate_node-at.ensures.cells, c.isolate_node-at.ensures.limit)
+pub lift_along-requires-clause-links : goal.lift_along-requires-clause-links
+lift_along-requires-clause-links g c = subst (λ (ls : List Level). room_along c.args.grammar.now.rules ls + 1 ≤ c.args.index.now.spare_links) (sym c.way.ensures) c.requires.links
 
 pub returns-clause-value : goal.returns-clause-value
-returns-clause-value g c = λ names n s.
-    let G : List KeyedRule = c.args.grammar.now.rules in
-    let H : List KeyedRule = c.isolate_node-at.new.grammar.rules in
-    let I = c.isolate_node-at.ensures.node names n s in
-    let L = c.lift_linked.ensures.value (in-start H n c.isolate_node-at.result I) in
-    let v = same-value (rules_of G) (rules_of H) (length-rules_of H ∙ c.isolate_node-at.ensures.others.many ∙ sym (length-rules_of G)) c.isolate_node-at.ensures.values in
-    record { symbol = L.was; left = L.left; right = L.right; differ = differ-number (rules_of G) (rules_of H) (rules_of c.lift_linked.new.grammar.rules) I.place n _ _ v L.differ I.before }
-
-pub returns-clause-values : goal.returns-clause-values
-returns-clause-values g c =
-    let G : List KeyedRule = c.args.grammar.now.rules in
-    let H : List KeyedRule = c.isolate_node-at.new.grammar.rules in
-    let r = c.requires.spot in
-    others-stay (rules_of G) (rules_of H) (rules_of c.lift_linked.new.grammar.rules) (length-rules_of H ∙ c.isolate_node-at.ensures.others.many ∙ sym (length-rules_of G)) c.isolate_node-at.ensures.values c.lift_linked.ensures.values
-
-pub returns-clause-size : goal.returns-clause-size
-returns-clause-size g c =
-    let r = c.requires.spot in
-    omega (arith, c.lift_linked.ensures.size (in-start c.isolate_node-at.new.grammar.rules r.1 c.isolate_node-at.result (c.isolate_node-at.ensures.node r.0 r.1 r.2)).node.here, c.isolate_node-at.ensures.most)
+returns-clause-value g c = λ names n S.
+    c.lift_along.ensures.value n (spot-leads names c.args.grammar.now.rules n c.args.spot.now S _ c.way.ensures)
 
 pub returns-clause-spare_nodes : goal.returns-clause-spare_nodes
-returns-clause-spare_nodes g c = omega (arith, c.isolate_node-at.ensures.spare_nodes, c.lift_linked.ensures.spare_nodes)
+returns-clause-spare_nodes g c =
+    subst (λ (ls : List Level). c.args.grammar.now.spare_nodes ≤ c.lift_along.new.grammar.spare_nodes + room_along c.args.grammar.now.rules ls) c.way.ensures c.lift_along.ensures.spare_nodes
 
 pub returns-clause-links : goal.returns-clause-links
-returns-clause-links g c = omega (arith, c.isolate_node-at.ensures.links, c.lift_linked.ensures.links)
+returns-clause-links g c =
+    subst (λ (ls : List Level). c.args.index.now.spare_links ≤ c.lift_along.new.index.spare_links + (room_along c.args.grammar.now.rules ls + 1)) c.way.ensures c.lift_along.ensures.links

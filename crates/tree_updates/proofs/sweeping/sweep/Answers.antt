@@ -1,7 +1,7 @@
 use Rattle.std.proofs.Common.{sym, subst}
 use Rattle.plain_tree.specs.Tree.{none, more}
 use Rattle.slt_grammar.specs.Coding.{Codes}
-use Rattle.tree_updates.proofs.deleting.sweep.Goals as goal
+use Rattle.tree_updates.proofs.sweeping.sweep.Goals as goal
 
 pub returns-clause-store : goal.returns-clause-store
 returns-clause-store c = λ t s.

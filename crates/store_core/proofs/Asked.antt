@@ -1,5 +1,5 @@
 -- What commands with a query come to.
-use Rattle.std.proofs.Common.{◌≡◌, ◌≤◌, ◌<◌, ◌+◌, ◌^◌, ◌⊎◌, inl, inr, ℕ, List, [], ◌++◌, length, Option, Some, Result, Ok, All, refl, sym, ap, ◌∙◌, subst, arith, append-nil}
+use Rattle.std.proofs.Common.{◌≡◌, ◌≤◌, ◌<◌, ◌+◌, ◌^◌, ◌⊎◌, inl, inr, ℕ, List, [], ◌++◌, length, Option, None, Some, Result, Ok, All, refl, sym, ap, ◌∙◌, subst, arith, append-nil}
 use Rattle.std.specs.List.{flat_map}
 use Rattle.std.specs.Prelude.{IfSome, IsSome}
 use Rattle.std.proofs.lemmas.Bool.{cases_lt}
@@ -36,7 +36,7 @@ use Rattle.store_core.specs.Reads.{ReadsFew, most_reads}
 use Rattle.store_core.specs.Refusals.{Cause, IsReady}
 use Rattle.store_core.specs.Selecting.{HasSelected, Selects, SpellsNoQuery, SpellsLarge, SelectsSoMany}
 use Rattle.store_core.specs.Texts.{answer_line, line_of, selected_line}
-use Rattle.store_core.specs.Worlds.{Parts, AreLawfulParts, State, World, Same}
+use Rattle.store_core.specs.Worlds.{Parts, AreLawfulParts, State, World, Same, parts_in}
 use Rattle.store_core.specs.declared.answer.Answer.{Answer}
 use Rattle.store_core.specs.declared.answer.Answer.TheVariants as ok
 use Rattle.store_core.specs.declared.answer.Refusal.{Refusal}
@@ -46,15 +46,19 @@ use Rattle.store_core.proofs.HitLines.{lines-told}
 use Rattle.tree_outside.proofs.Sinks.{GetsFront-first}
 use Rattle.segment_counts.proofs.Coded.{weight-coded}
 
+pub some-held : (state : State) (parts : Parts) → parts_in state ≡ Some parts → IsSome state
+some-held None parts held = absurd cc
+some-held (Some h) parts held = refl
+
 -- where a document is held, a command with a query is ready
-pub asks_ready : (act : Act) (query : List ℕ) (parts : Parts) (old : World) → query_asked act ≡ Some query → old.state ≡ Some parts → IsReady act old
-asks_ready (Query q) query parts old asked held = record { document = λ needs. rw held refl; file = λ name same. absurd (cc) }
-asks_ready (Count q) query parts old asked held = record { document = λ needs. rw held refl; file = λ name same. absurd (cc) }
+pub asks_ready : (act : Act) (query : List ℕ) (parts : Parts) (old : World) → query_asked act ≡ Some query → parts_in old.state ≡ Some parts → IsReady act old
+asks_ready (Query q) query parts old asked held = record { document = λ needs. some-held old.state parts held; file = λ name same. absurd (cc) }
+asks_ready (Count q) query parts old asked held = record { document = λ needs. some-held old.state parts held; file = λ name same. absurd (cc) }
 asks_ready act query parts old asked held = absurd (cc)
 
 -- why the text is no query is a cause to refuse the command
 pub query_refused :
-    (refusal : Refusal) (act : Act) (query : List ℕ) (parts : Parts) (old new : World) → IsNoQuery refusal query → query_asked act ≡ Some query → old.state ≡ Some parts → Cause refusal act old new
+    (refusal : Refusal) (act : Act) (query : List ℕ) (parts : Parts) (old new : World) → IsNoQuery refusal query → query_asked act ≡ Some query → parts_in old.state ≡ Some parts → Cause refusal act old new
 query_refused no.NoDocument act query parts old new why asked held = absurd why
 query_refused no.ReadFault act query parts old new why asked held = absurd why
 query_refused no.NoFile act query parts old new why asked held = absurd why
@@ -65,6 +69,9 @@ query_refused no.BadGrammar act query parts old new why asked held = absurd why
 query_refused no.BadQuery act query parts old new why asked held = (query, asked, asks_ready act query parts old asked held, why)
 query_refused no.LargeQuery act query parts old new why asked held = (query, asked, asks_ready act query parts old asked held, why)
 query_refused no.NoNode act query parts old new why asked held = absurd why
+query_refused no.BadName act query parts old new why asked held = absurd why
+query_refused no.BadValue act query parts old new why asked held = absurd why
+query_refused no.NotAllowed act query parts old new why asked held = absurd why
 query_refused no.TooMany act query parts old new why asked held = absurd why
 query_refused no.Memory act query parts old new why asked held = asks_ready act query parts old asked held
 
@@ -151,11 +158,11 @@ first_told query parts tree hits first later text w whole selects lined is =
 -- what was selected in the document that is held, with the lines of its nodes
 pub record IsFound (query : List ℕ) (parts : Parts) (w : World) (hits : List Hit) : Type 0 where
   pub tree : Tree
-  pub held : w.state ≡ Some parts
+  pub held : parts_in w.state ≡ Some parts
   pub selects : Selects query w tree (numbers hits)
   pub lined : All (IsLined parts tree) hits
 
-pub found-listed : (query : List ℕ) (parts : Parts) (w : World) (tree : Tree) (found : Fallen) → w.state ≡ Some parts → HasSelected query w tree found → IsSome found.hits → IfSome found.hits (All (IsLined parts tree)) → IsFound query parts w (listed_hits found.hits)
+pub found-listed : (query : List ℕ) (parts : Parts) (w : World) (tree : Tree) (found : Fallen) → parts_in w.state ≡ Some parts → HasSelected query w tree found → IsSome found.hits → IfSome found.hits (All (IsLined parts tree)) → IsFound query parts w (listed_hits found.hits)
 found-listed query parts w tree found held h listed lined = record {
   tree = tree;
   held = held;
@@ -177,7 +184,7 @@ pub query_stops : {E : Type 0} (query : List ℕ) (parts : Parts) (w : World) (h
     → (text : List ℕ) × Gets before now text × Refuses (Query query) no.Memory w text w
 query_stops query parts w hits before now done found g =
     let first = first_told query parts found.tree hits g.first g.later g.got w g.whole found.selects found.lined (sym (g.lines ∙ append-nil g.got)) in
-    (g.got, g.gets, record { begins = inr (refl, first); cause = asks_ready (Query query) query parts w refl found.held; same = same_world w })
+    (g.got, g.gets, record { begins = inr (refl, first); cause = asks_ready (Query query) query parts w refl found.held; leaves = inl (same_world w) })
 
 -- the sink failed meanwhile
 pub query_fails : (settings : Settings) (query : List ℕ) (parts : Parts) (w : World) (hits : List Hit) (before now : Option (List ℕ)) → IsFound query parts w hits → GetsFront before now (hit_lines parts.names hits) → (text : List ℕ) × (outcome : Result Answer Refusal) × GetsFront before now (text ++ line_of outcome) × Comes settings (Query query) w text outcome w
@@ -186,7 +193,7 @@ query_fails settings query parts w hits before now found front =
     (hit_lines parts.names hits, Ok (ok.Selected (length hits)), GetsFront-first before now (hit_lines parts.names hits) line front, queries_told query parts found.tree hits (length hits) w found.selects found.lined refl)
 
 -- few reads for the query and the rules that are held are few for those that a command names
-pub asks_few : (text query : List ℕ) (state : State) (parts other : Parts) (before now : ℕ) → ReadsFew text parts.rules before now → state ≡ Some parts → Some text ≡ Some query → state ≡ Some other → ReadsFew query other.rules before now
+pub asks_few : (text query : List ℕ) (state : State) (parts other : Parts) (before now : ℕ) → ReadsFew text parts.rules before now → parts_in state ≡ Some parts → Some text ≡ Some query → parts_in state ≡ Some other → ReadsFew query other.rules before now
 asks_few text query state parts other before now few held asked named =
     let same : text ≡ query = same_Some text query asked in
     let rules : parts ≡ other = same_Some parts other (sym held ∙ named) in

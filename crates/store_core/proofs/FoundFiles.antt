@@ -108,6 +108,9 @@ stops_loading no.BadGrammar act old opening name state count before now new read
 stops_loading no.BadQuery act old opening name state count before now new reads finds opens b n stops = absurd stops
 stops_loading no.LargeQuery act old opening name state count before now new reads finds opens b n stops = absurd stops
 stops_loading no.NoNode act old opening name state count before now new reads finds opens b n stops = absurd stops
+stops_loading no.BadName act old opening name state count before now new reads finds opens b n stops = absurd stops
+stops_loading no.BadValue act old opening name state count before now new reads finds opens b n stops = absurd stops
+stops_loading no.NotAllowed act old opening name state count before now new reads finds opens b n stops = absurd stops
 stops_loading no.TooMany act old opening name state count before now new reads finds opens b n stops = absurd stops
 stops_loading no.Memory act old opening name state count before now new reads finds opens b n stops = found_to_load act old name state count reads finds
 
@@ -127,4 +130,7 @@ stops_document no.BadGrammar old opening name state count before now new finds o
 stops_document no.BadQuery old opening name state count before now new finds opens b n stops = absurd stops
 stops_document no.LargeQuery old opening name state count before now new finds opens b n stops = absurd stops
 stops_document no.NoNode old opening name state count before now new finds opens b n stops = absurd stops
+stops_document no.BadName old opening name state count before now new finds opens b n stops = absurd stops
+stops_document no.BadValue old opening name state count before now new finds opens b n stops = absurd stops
+stops_document no.NotAllowed old opening name state count before now new finds opens b n stops = absurd stops
 stops_document no.TooMany old opening name state count before now new finds opens b n stops = absurd stops

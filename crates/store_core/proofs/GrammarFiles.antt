@@ -1,5 +1,6 @@
 -- Why a grammar file is refused, and what it makes of a store.
 use Rattle.std.specs.Prelude.{◌≡◌, ◌≤◌, ◌<◌, ◌^◌, ℕ, List, length, refl}
+use Rattle.std.proofs.Common.{inl}
 use Rattle.plain_tree.specs.declared.kind.Kind.{Kind}
 use Rattle.plain_tree.specs.Tree.{Tree, node_count}
 use Rattle.slt_grammar.specs.Standing.{StandsFor}
@@ -46,5 +47,8 @@ no_store no.BadGrammar name bytes old new has short why = (bytes, record { input
 no_store no.BadQuery name bytes old new has short why = absurd why
 no_store no.LargeQuery name bytes old new has short why = absurd why
 no_store no.NoNode name bytes old new has short why = absurd why
-no_store no.TooMany name bytes old new has short why = (bytes, record { input = record { name = name; reads = refl; file = has }; short = short }, why)
+no_store no.BadName name bytes old new has short why = absurd why
+no_store no.BadValue name bytes old new has short why = absurd why
+no_store no.NotAllowed name bytes old new has short why = absurd why
+no_store no.TooMany name bytes old new has short why = inl (bytes, record { input = record { name = name; reads = refl; file = has }; short = short }, why)
 no_store no.Memory name bytes old new has short why = ready_to_load (LoadGrammar name) old name bytes (load_grammar_reads name) has

@@ -13,6 +13,7 @@ pub mod Encoded
 pub mod Shown
 pub mod Printing
 pub mod Distinct
+pub mod Edited
 pub mod StatesWithin
 pub mod StateCounts
 pub mod Finding

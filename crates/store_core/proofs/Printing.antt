@@ -5,7 +5,7 @@ use Rattle.tree_outside.proofs.Beside.{Stays-refl}
 use Rattle.store_core.specs.Acts.{Act}
 use Rattle.store_core.specs.Machine.{Comes, Shows, ShowsNode, Step}
 use Rattle.store_core.specs.Texts.{answer_line, line_of}
-use Rattle.store_core.specs.Worlds.{AreLawfulParts, IsLawfulState, Parts, PartsStandFor, World}
+use Rattle.store_core.specs.Worlds.{AreLawfulParts, IsLawfulState, Parts, PartsStandFor, World, parts_in}
 use Rattle.store_core.specs.declared.answer.Answer.{Answer}
 use Rattle.store_core.specs.declared.answer.Answer.TheVariants as ok
 use Rattle.store_core.specs.declared.answer.Refusal.{Refusal}
@@ -25,7 +25,7 @@ comes_step settings act old new text outcome before after later comes = record {
 }
 
 -- bytes that show the node, and the line behind them, are what is printed of it
-pub node_shown : (parts : Parts) (number : ℕ) (bytes : List ℕ) (w : World) → AreLawfulParts parts → w.state ≡ Some parts
+pub node_shown : (parts : Parts) (number : ℕ) (bytes : List ℕ) (w : World) → AreLawfulParts parts → parts_in w.state ≡ Some parts
     → ((t : Tree) → PartsStandFor parts t → ShowsNode t number bytes) → Shows number w (bytes ++ answer_line ok.Shown) w
 node_shown parts number bytes w are held shows = record {
   parts = parts;

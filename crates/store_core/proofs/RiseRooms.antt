@@ -16,7 +16,7 @@ use Rattle.value_cursor.specs.Tokens.{tokens}
 use Rattle.value_cursor.specs.declared.cursor.Cursor.{Cursor}
 use Rattle.value_cursor.specs.declared.cursor.Token.{Token}
 use Rattle.store_core.specs.Walking.{AreEnough, HasRoom}
-use Rattle.store_core.specs.declared.store.Store.{Store}
+use Rattle.tree_updates.specs.declared.store.Store.{Store}
 
 -- beside n open nodes
 room-risen : (places n : ℕ) (ls : List Label) → ((k : ℕ) → n + opens (take k ls) ≤ closes (take k ls) + places) → HasRoom places n (tokens n ls)

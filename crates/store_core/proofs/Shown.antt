@@ -24,7 +24,7 @@ use Rattle.store_core.specs.Saving.{start_place, token_calls, tokens_text}
 use Rattle.store_core.specs.StoreOf.{parts_of}
 use Rattle.store_core.specs.Walking.{walk_text}
 use Rattle.store_core.specs.Worlds.{PartsStandFor}
-use Rattle.store_core.specs.declared.store.Store.{Store}
+use Rattle.tree_updates.specs.declared.store.Store.{Store}
 use Rattle.store_core.specs.declared.walking.NodeWalk.{NodeWalk}
 use Rattle.store_core.proofs.NodeCalls.{told_calls, values_of-append}
 use Rattle.store_core.proofs.Shapes.{document_kids_shaped}

@@ -18,7 +18,7 @@ use Rattle.xml_nodes.specs.Saved.{saved_bytes}
 use Rattle.store_core.specs.StoreOf.{parts_of}
 use Rattle.store_core.specs.Walking.{opens, walk_text}
 use Rattle.store_core.specs.Worlds.{PartsStandFor}
-use Rattle.store_core.specs.declared.store.Store.{Store}
+use Rattle.tree_updates.specs.declared.store.Store.{Store}
 use Rattle.store_core.specs.declared.walking.NodeWalk.{NodeWalk}
 use Rattle.store_core.proofs.NodeCalls.{document_saves}
 use Rattle.store_core.proofs.Rooms.{opens-few}

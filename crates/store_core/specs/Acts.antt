@@ -16,6 +16,12 @@ pub data Act : Type 0 where
   Query : (query : List ℕ) → Act
   -- they are counted
   Count : (query : List ℕ) → Act
+  -- the node with this number gets this name
+  Rename : (number : ℕ) (name : List ℕ) → Act
+  -- the node with this number is deleted, with all below it
+  Delete : (number : ℕ) → Act
+  -- the node with this number gets the value that these bytes spell
+  Value : (number : ℕ) (bytes : List ℕ) → Act
   -- the grammar is settled
   Repair : Act
 
@@ -50,6 +56,9 @@ writes_file act = false
 -- the number of the node that the command asks for
 abbrev pub node_asked : Act → Option ℕ
 node_asked (Show number) = Some number
+node_asked (Rename number name) = Some number
+node_asked (Delete number) = Some number
+node_asked (Value number bytes) = Some number
 node_asked act = None
 
 -- the query whose nodes the command asks for
@@ -57,3 +66,13 @@ abbrev pub query_asked : Act → Option (List ℕ)
 query_asked (Query query) = Some query
 query_asked (Count query) = Some query
 query_asked act = None
+
+-- the name that the command gives a node
+abbrev pub name_given : Act → Option (List ℕ)
+name_given (Rename number name) = Some name
+name_given act = None
+
+-- the bytes of the value that it gives a node
+abbrev pub value_given : Act → Option (List ℕ)
+value_given (Value number bytes) = Some bytes
+value_given act = None

@@ -1,5 +1,5 @@
 -- The act that a command of the program asks for.
-use Rattle.store_core.specs.Acts.{Act, Load, LoadGrammar, Save, SaveGrammar, Show, Query, Count, Repair}
+use Rattle.store_core.specs.Acts.{Act, Load, LoadGrammar, Save, SaveGrammar, Show, Query, Count, Rename, Delete, Value, Repair}
 use Rattle.store_core.specs.declared.command.Command.{Command}
 use Rattle.store_core.specs.declared.command.Command.TheVariants as c
 
@@ -11,4 +11,7 @@ act_of (c.SaveGrammar name) = SaveGrammar name.now
 act_of (c.Show number) = Show number
 act_of (c.Query text) = Query text.now
 act_of (c.Count text) = Count text.now
+act_of (c.Rename number name) = Rename number name.now
+act_of (c.Delete number) = Delete number
+act_of (c.Value number bytes) = Value number bytes.now
 act_of c.Repair = Repair

@@ -1,12 +1,18 @@
 -- What errors of the layers below say, and that a refusal says the same.
-use Rattle.std.specs.Prelude.{ℕ, List}
+use Rattle.std.specs.Prelude.{◌≡◌, ◌≤◌, ◌<◌, ℕ, List, Some}
+use Rattle.plain_tree.specs.Lawful.{IsName}
+use Rattle.xml_nodes.specs.Spelling.{SpellsValue}
 use Rattle.xml_profile.specs.declared.error.XmlError.{XmlError}
 use Rattle.xml_profile.specs.declared.error.XmlError.TheVariants as xml
 use Rattle.xml_profile.specs.Reading.{IsBad}
+use Rattle.tree_updates.specs.declared.store.EditError.{EditError}
+use Rattle.tree_updates.specs.declared.store.EditError.TheVariants as edit
 use Rattle.grammar_file.specs.declared.error.FileError.{FileError}
 use Rattle.grammar_file.specs.declared.error.FileError.TheVariants as file
 use Rattle.xpath_parser.specs.declared.error.QueryError.{QueryError}
 use Rattle.xpath_parser.specs.declared.error.QueryError.TheVariants as query
+use Rattle.store_core.specs.Acts.{Act, node_asked}
+use Rattle.store_core.specs.Editing.{GivesNoName, GivesNoValue}
 use Rattle.store_core.specs.GrammarFiles.{IsNoFile, IsFileOfMany}
 use Rattle.store_core.specs.GrammarStores.{IsNoStore}
 use Rattle.store_core.specs.Selecting.{SpellsNoQuery, SpellsLarge}
@@ -50,3 +56,33 @@ RefusesFile error refusal = (bytes : List ℕ) → SaysOfFile error bytes → Is
 
 abbrev pub RefusesQuery : QueryError → Refusal → Type 0
 RefusesQuery error refusal = (bytes : List ℕ) → SaysOfQuery error bytes → IsNoQuery refusal bytes
+
+-- what a refused edit is told
+abbrev pub refusal_of : EditError → Refusal
+refusal_of (edit.NoNode count) = no.NoNode
+refusal_of (edit.NotAllowed kind) = no.NotAllowed
+refusal_of edit.TooMany = no.TooMany
+refusal_of edit.Memory = no.Memory
+
+-- why a name is not taken, and why no value is read of bytes
+abbrev pub IsNoName : Refusal → List ℕ → Type 0
+IsNoName no.BadName name = IsName name → ⊥
+IsNoName no.Memory name = Unit {0}
+IsNoName _ name = ⊥
+
+abbrev pub IsNoValue : Refusal → List ℕ → Type 0
+IsNoValue no.BadValue bytes = (value : List ℕ) → SpellsValue bytes value → ⊥
+IsNoValue no.Memory bytes = Unit {0}
+IsNoValue _ bytes = ⊥
+
+-- the command asks for a node with a number below this count
+abbrev pub AsksBelow : Act → ℕ → Type 0
+AsksBelow act count = (number : ℕ) × (node_asked act ≡ Some number) × (number < count)
+
+-- why a command comes to no edit of a document with so many nodes
+abbrev pub IsNoEdit : Refusal → Act → ℕ → Type 0
+IsNoEdit no.NoNode act count = (number : ℕ) × (node_asked act ≡ Some number) × (count ≤ number)
+IsNoEdit no.BadName act count = AsksBelow act count × GivesNoName act
+IsNoEdit no.BadValue act count = AsksBelow act count × GivesNoValue act
+IsNoEdit no.Memory act count = Unit {0}
+IsNoEdit _ act count = ⊥

@@ -5,7 +5,7 @@ use Rattle.store_core.specs.GrammarFiles.{IsFileOfDocument, IsNoFile, IsFileOfMa
 use Rattle.store_core.specs.StoreOf.{IsCounted, parts_of}
 use Rattle.store_core.specs.declared.answer.Refusal.{Refusal}
 use Rattle.store_core.specs.declared.answer.Refusal.TheVariants as no
-use Rattle.store_core.specs.declared.store.Store.{Store}
+use Rattle.tree_updates.specs.declared.store.Store.{Store}
 
 -- the bytes are the store's file, and its document has fewer than 2^63 nodes
 pub record IsStoreOf (bytes : List ℕ) (s : Store) : Type 0 where

@@ -1,5 +1,6 @@
 pub mod Acts
 pub mod CommandOf
+pub mod Editing
 pub mod Errors
 pub mod Feeding
 pub mod Folding

@@ -13,10 +13,11 @@ use Rattle.slt_grammar.specs.Grammars.{size}
 use Rattle.slt_grammar.specs.Ranks.{greatest_rank}
 use Rattle.fcns_encoding.specs.Interning.{Interns, pairs_of_tree}
 use Rattle.grammar_file.specs.FileBytes.{file_bytes}
-use Rattle.store_core.specs.Acts.{Act, Load, LoadGrammar, Save, SaveGrammar, Show, Query, Count, Repair}
+use Rattle.store_core.specs.Acts.{Act, Load, LoadGrammar, Save, SaveGrammar, Show, Query, Count, Rename, Delete, Value, Repair}
+use Rattle.store_core.specs.Editing.{Edits, KeepsNames}
 use Rattle.store_core.specs.GrammarFiles.{IsFileOfDocument}
 use Rattle.store_core.specs.Selecting.{Selects}
-use Rattle.store_core.specs.Worlds.{Parts, with_rules, PartsStandFor, IsLawfulState, World, Same, HasFile}
+use Rattle.store_core.specs.Worlds.{Parts, parts_in, unedited, with_rules, PartsStandFor, IsLawfulState, World, Same, HasFile}
 use Rattle.store_core.specs.Texts.{answer_line, line_of, selected_line}
 use Rattle.store_core.specs.Refusals.{Cause}
 use Rattle.store_core.specs.declared.answer.Answer.{Answer}
@@ -46,7 +47,7 @@ pub record Loads (rank : ℕ) (name : List ℕ) (old : World) (out : List ℕ) (
   pub parts : Parts
   pub held : HoldsDocument name old tree
   pub encoded : Encodes rank tree parts
-  pub state : new.state ≡ Some parts
+  pub state : new.state ≡ Some (unedited parts)
   pub files : Stays old.files new.files
   pub printed : out ≡ answer_line (ok.Nodes (node_count tree))
 
@@ -58,7 +59,7 @@ pub record LoadsGrammar (name : List ℕ) (old : World) (out : List ℕ) (new : 
   pub held : HasFile old name bytes
   pub short : length bytes < 2 ^ 30
   pub file : IsFileOfDocument bytes parts tree
-  pub state : new.state ≡ Some parts
+  pub state : new.state ≡ Some (unedited parts)
   pub files : Stays old.files new.files
   pub printed : out ≡ answer_line (ok.Nodes (node_count tree))
 
@@ -71,7 +72,7 @@ pub record WritesFile (name bytes : List ℕ) (old new : World) : Type 0 where
 pub record Saves (name : List ℕ) (old : World) (out : List ℕ) (new : World) : Type 0 where
   pub parts : Parts
   pub tree : Tree
-  pub held : old.state ≡ Some parts
+  pub held : parts_in old.state ≡ Some parts
   pub stand : PartsStandFor parts tree
   pub written : WritesFile name (saved_bytes tree) old new
   pub printed : out ≡ answer_line (ok.Bytes (length (saved_bytes tree)))
@@ -79,7 +80,7 @@ pub record Saves (name : List ℕ) (old : World) (out : List ℕ) (new : World) 
 -- the file has the names, the grammar and the texts
 pub record SavesGrammar (name : List ℕ) (old : World) (out : List ℕ) (new : World) : Type 0 where
   pub parts : Parts
-  pub held : old.state ≡ Some parts
+  pub held : parts_in old.state ≡ Some parts
   pub written : WritesFile name (file_bytes parts.names parts.rules parts.texts) old new
   pub printed : out ≡ answer_line (ok.Grammar (length parts.rules) (size parts.rules) (length (file_bytes parts.names parts.rules parts.texts)))
 
@@ -92,7 +93,7 @@ ShowsNode tree (suc n) bytes = (s : Tree) × (slice_get (nodes tree) (suc n) ≡
 pub record Shows (number : ℕ) (old : World) (out : List ℕ) (new : World) : Type 0 where
   pub parts : Parts
   pub tree : Tree
-  pub held : old.state ≡ Some parts
+  pub held : parts_in old.state ≡ Some parts
   pub stand : PartsStandFor parts tree
   pub bytes : List ℕ
   pub shown : ShowsNode tree number bytes
@@ -116,14 +117,14 @@ pub record Counts (query : List ℕ) (old : World) (out : List ℕ) (new : World
   pub printed : out ≡ answer_line (ok.Selected (length answer))
 
 -- The rules become ones that are settled for a rank, stand for the same document and have no more nodes; none has a rank that is greater
--- than that one and than all there were. Nothing else changes.
+-- than that one and than all there were. No edit was made since then. Nothing else changes.
 pub record Repairs (rank : ℕ) (old : World) (out : List ℕ) (new : World) : Type 0 where
   pub parts : Parts
   pub tree : Tree
   pub rules : List Rule
-  pub held : old.state ≡ Some parts
+  pub held : parts_in old.state ≡ Some parts
   pub stand : PartsStandFor parts tree
-  pub state : new.state ≡ Some (with_rules parts rules)
+  pub state : new.state ≡ Some (unedited (with_rules parts rules))
   pub still : PartsStandFor (with_rules parts rules) tree
   pub settled : IsSettled rules rank
   pub ranks : greatest_rank rules ≤ max rank (greatest_rank parts.rules)
@@ -140,6 +141,9 @@ Does settings (SaveGrammar name) old out new = SavesGrammar name old out new
 Does settings (Show number) old out new = Shows number old out new
 Does settings (Query query) old out new = Queries query old out new
 Does settings (Count query) old out new = Counts query old out new
+Does settings (Rename number name) old out new = Edits settings (Rename number name) old out new
+Does settings (Delete number) old out new = Edits settings (Delete number) old out new
+Does settings (Value number bytes) old out new = Edits settings (Value number bytes) old out new
 Does settings Repair old out new = Repairs settings.rank old out new
 
 -- the text is the lines of some first nodes that the query selects
@@ -155,11 +159,15 @@ abbrev pub Begins : Act → Refusal → World → List ℕ → Type 0
 Begins (Query query) refusal old text = (text ≡ []) ⊎ ((refusal ≡ no.Memory) × PrintsFirst query old text)
 Begins act refusal old text = text ≡ []
 
--- the command is refused for this cause, and changes nothing; it printed this text before its line
+-- what a refused command leaves: all is as before, but that an edit which found no memory may leave names
+abbrev pub Leaves : Act → Refusal → World → World → Type 0
+Leaves act refusal old new = Same old new ⊎ ((refusal ≡ no.Memory) × KeepsNames act old new)
+
+-- the command is refused for this cause; it printed this text before its line
 pub record Refuses (act : Act) (refusal : Refusal) (old : World) (text : List ℕ) (new : World) : Type 0 where
   pub begins : Begins act refusal old text
   pub cause : Cause refusal act old new
-  pub same : Same old new
+  pub leaves : Leaves act refusal old new
 
 -- what a command comes to that printed this text before its line: it is done, or it is refused
 abbrev pub Comes : Settings → Act → World → List ℕ → Result Answer Refusal → World → Type 0

@@ -8,7 +8,7 @@ use Rattle.xpath_parser.specs.Spelled.{Spells}
 use Rattle.xpath_parser.specs.Trees.{Paths}
 use Rattle.store_core.specs.Acts.{Act, query_asked}
 use Rattle.store_core.specs.Selecting.{SpellsNoQuery}
-use Rattle.store_core.specs.Worlds.{Parts, State}
+use Rattle.store_core.specs.Worlds.{Parts, State, parts_in}
 
 -- Two for each node of a rule's body, for each list of states of its arguments: once upward, and downward for each state there. Of
 -- states there are at most 4 ^ parts upward, for so many parts in filters, and 8 ^ (steps + 1) downward, for so many steps.
@@ -22,4 +22,4 @@ pub record ReadsFew (query : List ℕ) (G : List Rule) (before now : ℕ) : Type
 
 -- a command that asks for the nodes of a query takes so few reads
 abbrev pub AsksFew : Act → State → ℕ → ℕ → Type 0
-AsksFew act state before now = (query : List ℕ) (parts : Parts) → query_asked act ≡ Some query → state ≡ Some parts → ReadsFew query parts.rules before now
+AsksFew act state before now = (query : List ℕ) (parts : Parts) → query_asked act ≡ Some query → parts_in state ≡ Some parts → ReadsFew query parts.rules before now

@@ -1,12 +1,16 @@
 -- Refusals and their causes, in the order in which they are tried: each yields to those above it. A cause speaks of its command: what
 -- is wrong with a document is a cause only for a command that reads a document.
-use Rattle.std.specs.Prelude.{◌≡◌, ◌≤◌, ◌<◌, ◌^◌, ℕ, List, length, IsTrue, Option, Some, IsSome, IsNone}
+use Rattle.std.specs.Prelude.{◌≡◌, ◌≤◌, ◌<◌, ◌⊎◌, ◌^◌, ℕ, List, length, IsTrue, Option, Some, IsSome, IsNone}
 use Rattle.tree_outside.specs.Outside.{Rose}
+use Rattle.plain_tree.specs.Allowed.{IsAllowed}
+use Rattle.plain_tree.specs.Edits.{edited}
+use Rattle.plain_tree.specs.Tree.{node_count}
 use Rattle.xml_profile.specs.Reading.{IsBad}
 use Rattle.store_core.specs.GrammarFiles.{IsNoFile, IsFileOfMany}
 use Rattle.store_core.specs.Acts.{Act, needs_document, document_read, grammar_read, file_read, node_asked, query_asked, writes_file}
+use Rattle.store_core.specs.Editing.{GivesNoName, GivesNoValue, WantsEdit}
 use Rattle.store_core.specs.Selecting.{SpellsNoQuery, SpellsLarge}
-use Rattle.store_core.specs.Worlds.{World, HasFile, HasNoFile, LacksNode}
+use Rattle.store_core.specs.Worlds.{World, HasFile, HasNoFile, HasNode, LacksNode}
 use Rattle.store_core.specs.declared.answer.Refusal.{Refusal}
 use Rattle.store_core.specs.declared.answer.Refusal.TheVariants as no
 
@@ -26,6 +30,10 @@ pub record IsShortInput (read : Option (List ℕ)) (old : World) (bytes : List �
   pub input : IsInput read old bytes
   pub short : length bytes < 2 ^ 30
 
+-- the document that is held has the node that the command asks for
+abbrev pub FindsNode : Act → World → Type 0
+FindsNode act old = (number : ℕ) × (node_asked act ≡ Some number) × HasNode old number
+
 -- the command is refused so only where this holds
 abbrev pub Cause : Refusal → Act → World → World → Type 0
 Cause no.NoDocument act old new = IsTrue (needs_document act) × IsNone old.state
@@ -38,5 +46,10 @@ Cause no.BadGrammar act old new = (bytes : List ℕ) × IsShortInput (grammar_re
 Cause no.BadQuery act old new = (query : List ℕ) × (query_asked act ≡ Some query) × IsReady act old × SpellsNoQuery query
 Cause no.LargeQuery act old new = (query : List ℕ) × (query_asked act ≡ Some query) × IsReady act old × SpellsLarge query
 Cause no.NoNode act old new = (number : ℕ) × (node_asked act ≡ Some number) × LacksNode old number
-Cause no.TooMany act old new = (bytes : List ℕ) × IsShortInput (grammar_read act) old bytes × IsFileOfMany bytes
+Cause no.BadName act old new = FindsNode act old × GivesNoName act
+Cause no.BadValue act old new = FindsNode act old × GivesNoValue act
+Cause no.NotAllowed act old new = (wants : WantsEdit act old) × (IsAllowed wants.tree wants.edit → ⊥)
+Cause no.TooMany act old new =
+    ((bytes : List ℕ) × IsShortInput (grammar_read act) old bytes × IsFileOfMany bytes)
+    ⊎ ((wants : WantsEdit act old) × IsAllowed wants.tree wants.edit × (2 ^ 63 ≤ node_count (edited wants.tree wants.edit)))
 Cause no.Memory act old new = IsReady act old

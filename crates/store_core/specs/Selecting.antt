@@ -11,7 +11,7 @@ use Rattle.xpath_parser.specs.Meaning.{selected}
 use Rattle.xpath_parser.specs.Meant.{meant_paths}
 use Rattle.xpath_parser.specs.Spelled.{Spells}
 use Rattle.xpath_parser.specs.Trees.{Paths}
-use Rattle.store_core.specs.Worlds.{Parts, PartsStandFor, World}
+use Rattle.store_core.specs.Worlds.{Parts, PartsStandFor, World, parts_in}
 
 -- what an automaton finds of a term: how many nodes it hits, and just where they are to be listed which, with their symbols
 pub record Finds {S D : Type 0} (A : Algebra S) (W : Downward S D) (t : Term) (listed : Bool) (found : Fallen) : Type 0 where
@@ -31,7 +31,7 @@ SpellsLarge query = (paths : Paths) × Spells query paths × IsLarge paths
 -- the query, which is within the limits, selects the nodes with these numbers of the document that is held
 pub record Selects (query : List ℕ) (w : World) (tree : Tree) (numbers : List ℕ) : Type 0 where
   pub parts : Parts
-  pub held : w.state ≡ Some parts
+  pub held : parts_in w.state ≡ Some parts
   pub stand : PartsStandFor parts tree
   pub paths : Paths
   pub spelled : Spells query paths

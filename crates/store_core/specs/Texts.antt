@@ -13,6 +13,7 @@ use Rattle.store_core.specs.declared.answer.Refusal.TheVariants as no
 -- what a command prints that was done
 abbrev pub answer_line : Answer → List ℕ
 answer_line (ok.Nodes n) = codes "ok nodes " ++ decimal n ++ codes "\n"
+answer_line (ok.Unsettled n) = codes "ok nodes " ++ decimal n ++ codes " unsettled\n"
 answer_line (ok.Bytes n) = codes "ok bytes " ++ decimal n ++ codes "\n"
 answer_line (ok.Grammar rules size bytes) =
     codes "ok rules " ++ decimal rules ++ codes " size " ++ decimal size ++ codes " bytes " ++ decimal bytes ++ codes "\n"
@@ -31,6 +32,9 @@ refusal_line no.BadGrammar = codes "! bad-grammar\n"
 refusal_line no.BadQuery = codes "! bad-query\n"
 refusal_line no.LargeQuery = codes "! large-query\n"
 refusal_line no.NoNode = codes "! no-node\n"
+refusal_line no.BadName = codes "! bad-name\n"
+refusal_line no.BadValue = codes "! bad-value\n"
+refusal_line no.NotAllowed = codes "! not-allowed\n"
 refusal_line no.TooMany = codes "! too-many\n"
 refusal_line no.Memory = codes "! memory\n"
 

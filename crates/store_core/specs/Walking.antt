@@ -5,7 +5,7 @@ use Rattle.value_cursor.specs.declared.cursor.Cursor.{Cursor}
 use Rattle.value_cursor.specs.declared.cursor.Token.{Token}
 use Rattle.value_cursor.specs.declared.cursor.Token.TheVariants.{Open, Close}
 use Rattle.store_core.specs.Saving.{Place, tokens_text}
-use Rattle.store_core.specs.declared.store.Store.{Store}
+use Rattle.tree_updates.specs.declared.store.Store.{Store}
 use Rattle.store_core.specs.declared.walking.NodeWalk.{NodeWalk}
 use Rattle.store_core.specs.declared.walking.TokenPlace.{TokenPlace}
 

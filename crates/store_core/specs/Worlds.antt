@@ -16,9 +16,12 @@ pub record Parts : Type 0 where
   pub rules : List Rule
   pub texts : List (List ℕ)
 
--- other rules in their place
+-- other rules in their place, and other names
 abbrev pub with_rules : Parts → List Rule → Parts
 with_rules parts rules = record parts { rules = rules }
+
+abbrev pub with_names : Parts → List (Kind × List ℕ) → Parts
+with_names parts names = record parts { names = names }
 
 -- the parts stand for the document
 abbrev pub PartsStandFor : Parts → Tree → Type 0
@@ -33,13 +36,30 @@ pub record AreLawfulParts (parts : Parts) : Type 0 where
   pub grammar : IsGrammar parts.rules
   pub swept : IsSwept parts.rules
 
--- nothing, or what is held of the document that is loaded
-abbrev pub State : Type 0
-State = Option Parts
+-- the parts of the document that is loaded, and how many edits of it were accepted since its grammar was settled
+pub record Held : Type 0 where
+  pub parts : Parts
+  pub edits : ℕ
 
--- a state of the plain tree machine: nothing, or what is held of a document, and that is lawful
+-- the parts without an edit since then
+abbrev pub unedited : Parts → Held
+unedited parts = record { parts = parts; edits = 0 }
+
+-- the parts are lawful, and the count of edits fits 64 bits
+pub record IsLawfullyHeld (held : Held) : Type 0 where
+  pub parts : AreLawfulParts held.parts
+  pub few : held.edits < 2 ^ 64
+
+-- a state of the plain tree machine: nothing, or what is held of the document that is loaded
+abbrev pub State : Type 0
+State = Option Held
+
 abbrev pub IsLawfulState : State → Type 0
-IsLawfulState state = IfSome state AreLawfulParts
+IsLawfulState state = IfSome state IsLawfullyHeld
+
+-- the parts that are held
+abbrev pub parts_in : State → Option Parts
+parts_in state = option_map (λ held. held.parts) state
 
 -- the session's state, the shelf's files where it tells them, and the count of its faults
 pub record World : Type 0 where
@@ -70,9 +90,17 @@ HasFile w name bytes = IfSome w.files (λ files. get files name ≡ Some bytes)
 pub record LacksNode (w : World) (number : ℕ) : Type 0 where
   pub parts : Parts
   pub tree : Tree
-  pub held : w.state ≡ Some parts
+  pub held : parts_in w.state ≡ Some parts
   pub stand : PartsStandFor parts tree
   pub past : node_count tree ≤ number
+
+-- it has one
+pub record HasNode (w : World) (number : ℕ) : Type 0 where
+  pub parts : Parts
+  pub tree : Tree
+  pub held : parts_in w.state ≡ Some parts
+  pub stand : PartsStandFor parts tree
+  pub there : number < node_count tree
 
 -- where the files are told, there is none with this name
 abbrev pub HasNoFile : World → List ℕ → Type 0

@@ -10,6 +10,7 @@ use grammar_file::FileError;
 use itoa::{Buffer, Integer};
 use std::alloc::AllocError;
 use tree_outside::{Failed, Sink};
+use tree_updates::EditError;
 use xml_profile::XmlError;
 use xpath_parser::QueryError;
 
@@ -18,6 +19,8 @@ use xpath_parser::QueryError;
 pub enum Answer {
     /// The document has this many nodes.
     Nodes(u64),
+    /// So it has, and there was no memory to settle its grammar.
+    Unsettled(u64),
     /// This many bytes were written.
     Bytes(u128),
     /// A grammar with so many rules and nodes was written, in so many bytes.
@@ -51,6 +54,11 @@ pub enum Refusal {
     BadQuery,
     LargeQuery,
     NoNode,
+    /// The name is no Name of XML.
+    BadName,
+    /// The bytes spell no value.
+    BadValue,
+    NotAllowed,
     /// The document would have more than 2^63 - 1 nodes.
     TooMany,
     Memory,
@@ -94,6 +102,22 @@ impl From<FileError> for Refusal {
     }
 }
 
+impl From<EditError> for Refusal {
+    ghost use Rattle.std.specs.Prelude.{◌≡◌};
+    ghost use Rattle.store_core.specs.Errors.{refusal_of};
+
+    ghost from_gives = { λ error refusal. refusal ≡ refusal_of error };
+
+    fn from(error: EditError) -> Refusal {
+        match error {
+            EditError::NoNode { .. } => Refusal::NoNode,
+            EditError::NotAllowed { .. } => Refusal::NotAllowed,
+            EditError::TooMany => Refusal::TooMany,
+            EditError::Memory => Refusal::Memory,
+        }
+    }
+}
+
 impl From<QueryError> for Refusal {
     ghost use Rattle.store_core.specs.Errors.{RefusesQuery};
 
@@ -119,6 +143,7 @@ pub(crate) fn write_line<K: Sink>(
 {
     match outcome {
         Ok(Answer::Nodes(count)) => write_count(b"ok nodes ", count, sink),
+        Ok(Answer::Unsettled(count)) => write_unsettled(count, sink),
         Ok(Answer::Bytes(count)) => write_count(b"ok bytes ", count, sink),
         Ok(Answer::Grammar { rules, size, bytes }) => write_grammar(rules, size, bytes, sink),
         Ok(Answer::Repaired { rules, size }) => write_repaired(rules, size, sink),
@@ -144,6 +169,9 @@ fn write_refusal<K: Sink>(refusal: Refusal, sink: &mut K) -> Result<(), Failed>
         Refusal::BadQuery => sink.write(b"! bad-query\n"),
         Refusal::LargeQuery => sink.write(b"! large-query\n"),
         Refusal::NoNode => sink.write(b"! no-node\n"),
+        Refusal::BadName => sink.write(b"! bad-name\n"),
+        Refusal::BadValue => sink.write(b"! bad-value\n"),
+        Refusal::NotAllowed => sink.write(b"! not-allowed\n"),
         Refusal::TooMany => sink.write(b"! too-many\n"),
         Refusal::Memory => sink.write(b"! memory\n"),
     }
@@ -159,6 +187,18 @@ fn write_count<K: Sink, I: Integer>(words: &[u8], count: I, sink: &mut K) -> Res
     add(&mut line, words);
     add_number(&mut line, count);
     add(&mut line, b"\n");
+    sink.write(line.as_slice())
+}
+
+fn write_unsettled<K: Sink>(count: u64, sink: &mut K) -> Result<(), Failed>
+    ensures content { Writes (K.got sink.old) (K.got sink.new) result (answer_line (Answer.Unsettled count)) }
+    ensures kept { Keeps (K.kept sink.old) (K.kept sink.new) }
+    ensures cause { HasCause (K.faults sink.old) (K.faults sink.new) result }
+{
+    let mut line: AnswerLine = ArrayVec::new();
+    add(&mut line, b"ok nodes ");
+    add_number(&mut line, count);
+    add(&mut line, b" unsettled\n");
     sink.write(line.as_slice())
 }
 

@@ -17,6 +17,12 @@ pub enum Command<'a> {
     Query { text: &'a [u8] },
     /// The nodes that the query selects are counted.
     Count { text: &'a [u8] },
+    /// The node with this number gets this name.
+    Rename { number: u64, name: &'a [u8] },
+    /// The node with this number is deleted, with all below it.
+    Delete { number: u64 },
+    /// The node with this number gets the value that these bytes spell.
+    Value { number: u64, value: &'a [u8] },
     /// The grammar is settled.
     Repair,
 }

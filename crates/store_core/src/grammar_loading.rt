@@ -9,15 +9,16 @@ ghost use Rattle.store_core.specs.Refusals.{Cause};
 ghost use Rattle.store_core.specs.Stopping.{StopsReading};
 ghost use Rattle.store_core.specs.StoreOf.{IsCounted, parts_of};
 ghost use Rattle.store_core.specs.Texts.{answer_line};
-ghost use Rattle.store_core.specs.Worlds.{State, AreLawfulParts, HasFile, IsIdle, told_files, world};
+ghost use Rattle.store_core.specs.Worlds.{State, AreLawfulParts, HasFile, IsIdle, told_files, unedited, world};
 
 use crate::answer::{Answer, Refusal};
+use crate::loaded::Tables;
 use crate::loading::{ReadDocument, open_file, tables_of};
 use crate::reading::{FILE_LIMIT, PIECE};
-use crate::store::{Store, Tables};
 use grammar_file::{Parts, read};
 use std::alloc::Global;
 use tree_outside::{Failed, Shelf};
+use tree_updates::Store;
 
 /// Reads the document in the grammar file with this name, under the file's own grammar.
 pub(crate) fn load_grammar<F: Shelf>(
@@ -29,7 +30,7 @@ pub(crate) fn load_grammar<F: Shelf>(
     ensures files { Stays (told_files (F.told shelf.old)) (told_files (F.told shelf.new)) }
     ensures idle { IsIdle (F.told shelf.old) → IsIdle (F.told shelf.new) }
     ensures loads { IfOk result (λ l. (state : State)
-        → LoadsGrammar name.now (world state (F.told shelf.old) (F.faults shelf.old)) (answer_line (Answer.Nodes l.count)) (world (Some (parts_of l.store)) (F.told shelf.new) (F.faults shelf.new))) }
+        → LoadsGrammar name.now (world state (F.told shelf.old) (F.faults shelf.old)) (answer_line (Answer.Nodes l.count)) (world (Some (unedited (parts_of l.store))) (F.told shelf.new) (F.faults shelf.new))) }
     ensures held { IfOk result (λ l. AreLawfulParts (parts_of l.store)) }
     ensures counted { IfOk result (λ l. IsCounted l.store) }
     ensures refused { IfErr result (λ refusal. (state : State)

@@ -8,8 +8,10 @@
 
 mod answer;
 mod command;
+mod editing;
 mod grammar_loading;
 mod listing;
+mod loaded;
 mod loading;
 mod reading;
 mod repairing;
@@ -17,11 +19,11 @@ mod saving;
 mod selecting;
 mod session;
 mod showing;
-mod store;
 mod walking;
 mod writing;
 
 pub use answer::{Answer, Refusal};
 pub use command::{Command, Settings};
+pub use loaded::Loaded;
 pub use session::{Session, SinkFailed};
-pub use store::Store;
+pub use tree_updates::Store;

@@ -14,7 +14,7 @@ ghost use Rattle.tree_outside.specs.Shelf.{Becomes, file_opened};
 ghost use Rattle.store_core.specs.Acts as act;
 ghost use Rattle.store_core.specs.Acts.{Act};
 ghost use Rattle.store_core.specs.Opening.{Finds, LoadsFile};
-ghost use Rattle.store_core.specs.Worlds.{State, AreLawfulParts, IsIdle, told_files, world};
+ghost use Rattle.store_core.specs.Worlds.{State, AreLawfulParts, IsIdle, told_files, unedited, world};
 ghost use Rattle.store_core.specs.Folding.{IsFoldOf, FoldsFile};
 ghost use Rattle.store_core.specs.StoreOf.{IsCounted, parts_of};
 ghost use Rattle.store_core.specs.Refusals.{Cause};
@@ -22,8 +22,8 @@ ghost use Rattle.store_core.specs.Machine.{Encodes, Loads};
 ghost use Rattle.store_core.specs.Texts.{answer_line};
 
 use crate::answer::{Answer, Refusal};
+use crate::loaded::Tables;
 use crate::reading::read_document;
-use crate::store::{Store, Tables};
 use digram_index::build;
 use fcns_encoding::Folded;
 use local_repair::settle;
@@ -32,6 +32,7 @@ use segment_counts::{CountError, Counts};
 use slt_grammar::Grammar;
 use std::alloc::{AllocError, Global};
 use tree_outside::{Failed, Shelf};
+use tree_updates::Store;
 
 /// A document that was read, and the count of its nodes.
 #[derive(Drop)]
@@ -52,7 +53,7 @@ pub(crate) fn load_document<F: Shelf>(
     ensures files { Stays (told_files (F.told shelf.old)) (told_files (F.told shelf.new)) }
     ensures idle { IsIdle (F.told shelf.old) → IsIdle (F.told shelf.new) }
     ensures loads { IfOk result (λ l. (state : State)
-        → Loads rank name.now (world state (F.told shelf.old) (F.faults shelf.old)) (answer_line (Answer.Nodes l.count)) (world (Some (parts_of l.store)) (F.told shelf.new) (F.faults shelf.new))) }
+        → Loads rank name.now (world state (F.told shelf.old) (F.faults shelf.old)) (answer_line (Answer.Nodes l.count)) (world (Some (unedited (parts_of l.store))) (F.told shelf.new) (F.faults shelf.new))) }
     ensures held { IfOk result (λ l. AreLawfulParts (parts_of l.store)) }
     ensures counted { IfOk result (λ l. IsCounted l.store) }
     ensures refused { IfErr result (λ refusal. (state : State)

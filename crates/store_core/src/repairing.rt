@@ -1,47 +1,83 @@
 // Settling the grammar that is held.
-ghost use Rattle.std.specs.Prelude.{◌≡◌, ◌≤◌, ℕ, max, Option, Some, IfOk, OnErr};
+ghost use Rattle.std.specs.Prelude.{◌≡◌, ◌≤◌, ◌<◌, ◌+◌, ◌-◌, ◌^◌, ℕ, length, max, min, Option, Some, IfOk, OnOk, OnErr};
 ghost use Rattle.tree_outside.specs.Files.{Told};
+ghost use Rattle.plain_tree.specs.Tree.{Tree};
 ghost use Rattle.slt_grammar.specs.Digrams.{IsSettled};
+ghost use Rattle.slt_grammar.specs.Grammars.{IsGrammar, size};
 ghost use Rattle.slt_grammar.specs.Keyed.{rules_of};
 ghost use Rattle.slt_grammar.specs.Ranks.{greatest_rank};
 ghost use Rattle.digram_index.specs.Linked.{IsIndexOf};
 ghost use Rattle.local_repair.specs.Settling.{IsNoLarger};
+ghost use Rattle.tree_updates.specs.Stores.{IsStoreFor};
 ghost use Rattle.store_core.specs.Machine.{Repairs};
-ghost use Rattle.store_core.specs.StoreOf.{IsCounted, parts_of};
+ghost use Rattle.store_core.specs.StoreOf.{IsCounted, held_of, parts_of};
 ghost use Rattle.store_core.specs.Texts.{answer_line};
 ghost use Rattle.store_core.specs.Worlds.{AreLawfulParts, world};
 
 use crate::answer::Answer;
-use crate::store::Store;
+use crate::loaded::Loaded;
 use digram_index::{Index, build};
 use local_repair::settle_touched;
 use slt_grammar::Grammar;
 use std::alloc::{AllocError, Global};
+use tree_updates::Store;
 
-/// Settles the grammar of a store for this rank, at most 8. It is refused only for want of memory, and what is held then stays.
-pub(crate) fn repair_store(
+/// Settles the grammar of a document for this rank, at most 8. It is refused only for want of memory, and what is held then stays.
+pub(crate) fn repair_document(
     alloc: Global,
-    store: &mut Store,
+    loaded: &mut Loaded,
     rank: usize,
 ) -> Result<Answer, AllocError>
     requires rank { rank ≤ 8 }
-    requires held { AreLawfulParts (parts_of store.old) }
-    requires counted { IsCounted store.old }
-    ensures held { AreLawfulParts (parts_of store.new) }
-    ensures counted { IsCounted store.new }
+    requires held { AreLawfulParts (parts_of loaded.old.store) }
+    requires counted { IsCounted loaded.old.store }
+    requires few { loaded.old.edits < 2 ^ 64 }
+    ensures held { AreLawfulParts (parts_of loaded.new.store) }
+    ensures counted { IsCounted loaded.new.store }
+    ensures few { loaded.new.edits < 2 ^ 64 }
     ensures repairs { IfOk result (λ answer. (told : Option Told) (count : ℕ)
-        → Repairs rank (world (Some (parts_of store.old)) told count) (answer_line answer) (world (Some (parts_of store.new)) told count)) }
-    ensures refused { OnErr result (parts_of store.new ≡ parts_of store.old) }
+        → Repairs rank (world (Some (held_of loaded.old)) told count) (answer_line answer) (world (Some (held_of loaded.new)) told count)) }
+    ensures refused { OnErr result (held_of loaded.new ≡ held_of loaded.old) }
 {
     // A copy is settled, so that want of memory halfway changes nothing.
-    let Settled { grammar, index } = settled_copy(alloc, &store.grammar, rank)?;
+    let Settled { grammar, index } = settled_copy(alloc, &loaded.store.grammar, rank)?;
+    let store = &mut loaded.store;
     let rules = grammar.rules();
     store.counts.reserve(rules)?;
     store.counts.update(&grammar, &store.names);
     let size = grammar.size();
     store.grammar = grammar;
     store.index = index;
+    loaded.edits = 0;
     Ok(Answer::Repaired { rules, size })
+}
+
+/// Settles the grammar of a store where it stands, for this rank, at most 8. Where there is no memory for that, the store is one for the same
+/// document all the same, under a grammar that isn't larger.
+pub(crate) fn settle_store(alloc: Global, store: &mut Store, rank: usize) -> Result<(), AllocError>
+    requires rank { rank ≤ 8 }
+    requires store { (t : Tree) × IsStoreFor store.old t }
+    ensures settled { OnOk result (IsSettled (rules_of store.new.grammar.rules) rank) }
+    ensures store { (t : Tree) → IsStoreFor store.old t → IsStoreFor store.new t }
+    ensures grammar { IsGrammar (rules_of store.new.grammar.rules) }
+    ensures names { store.new.names ≡ store.old.names }
+    ensures size { size (rules_of store.new.grammar.rules) ≤ size (rules_of store.old.grammar.rules) }
+{
+    // The calls tell what is true of every grammar.
+    let _before = store.grammar.rules();
+    let most = most_rules(&store.grammar);
+    store.counts.reserve(most)?;
+    let settled = settle_touched(alloc, &mut store.grammar, &mut store.index, rank);
+    let _behind = store.grammar.rules();
+    store.counts.update(&store.grammar, &store.names);
+    settled
+}
+
+// How many rules a settled grammar may have at most, as far as a number goes: settling leaves no more rules and nodes together.
+fn most_rules(grammar: &Grammar) -> usize
+    ensures { result ≡ min (size (rules_of grammar.now.rules) + length grammar.now.rules) (2 ^ 64 - 1) }
+{
+    (grammar.size() as usize).saturating_add(grammar.rules())
 }
 
 // A settled grammar with its index.

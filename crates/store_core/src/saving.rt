@@ -7,7 +7,7 @@ ghost use Rattle.grammar_file.specs.FileBytes.{file_bytes};
 ghost use Rattle.store_core.specs.Acts as act;
 ghost use Rattle.plain_tree.specs.Tree.{Tree};
 ghost use Rattle.xml_nodes.specs.Saved.{saved_bytes};
-ghost use Rattle.store_core.specs.Worlds.{AreLawfulParts, IsIdle, PartsStandFor, told_files, world};
+ghost use Rattle.store_core.specs.Worlds.{State, AreLawfulParts, IsIdle, PartsStandFor, parts_in, told_files, world};
 ghost use Rattle.store_core.specs.StoreOf.{IsCounted, parts_of};
 ghost use Rattle.store_core.specs.Walking.{IsCountable, IsReady, walk_text};
 ghost use Rattle.store_core.specs.Refusals.{Cause};
@@ -15,7 +15,6 @@ ghost use Rattle.store_core.specs.Machine.{Saves, SavesGrammar};
 ghost use Rattle.store_core.specs.Texts.{answer_line};
 
 use crate::answer::{Answer, Refusal};
-use crate::store::Store;
 use crate::walking::NodeWalk;
 use crate::writing::{write_node, written};
 use grammar_file::WriteError;
@@ -23,6 +22,7 @@ use read_steps::Steps;
 use std::alloc::{AllocError, Global};
 use std::sync::ledger::Ledger;
 use tree_outside::{Failed, Pending, Shelf};
+use tree_updates::Store;
 
 /// Writes the document to the file with this name, and answers how many bytes that were.
 pub(crate) fn save_document<F: Shelf, L: Ledger>(
@@ -35,10 +35,10 @@ pub(crate) fn save_document<F: Shelf, L: Ledger>(
     requires held { AreLawfulParts (parts_of store.now) }
     requires counted { IsCounted store.now }
     ensures later { F.faults shelf.old ≤ F.faults shelf.new }
-    ensures saves { IfOk result (λ count. let state = Some (parts_of store.now) in
-        Saves name.now (world state (F.told shelf.old) (F.faults shelf.old)) (answer_line (Answer.Bytes count)) (world state (F.told shelf.new) (F.faults shelf.new))) }
-    ensures refused { IfErr result (λ refusal. let state = Some (parts_of store.now) in
-        Cause refusal (act.Save name.now) (world state (F.told shelf.old) (F.faults shelf.old)) (world state (F.told shelf.new) (F.faults shelf.new))) }
+    ensures saves { IfOk result (λ count. (state : State) → parts_in state ≡ Some (parts_of store.now)
+        → Saves name.now (world state (F.told shelf.old) (F.faults shelf.old)) (answer_line (Answer.Bytes count)) (world state (F.told shelf.new) (F.faults shelf.new))) }
+    ensures refused { IfErr result (λ refusal. (state : State) → parts_in state ≡ Some (parts_of store.now)
+        → Cause refusal (act.Save name.now) (world state (F.told shelf.old) (F.faults shelf.old)) (world state (F.told shelf.new) (F.faults shelf.new))) }
     ensures files { OnErr result (Stays (told_files (F.told shelf.old)) (told_files (F.told shelf.new))) }
     ensures idle { IsIdle (F.told shelf.old) → IsIdle (F.told shelf.new) }
     ensures memory { result ≡ Err Refusal.Memory → F.told shelf.new ≡ F.told shelf.old }
@@ -102,10 +102,10 @@ pub(crate) fn save_grammar<F: Shelf>(
     shelf: &mut F,
 ) -> Result<Answer, Refusal>
     ensures later { F.faults shelf.old ≤ F.faults shelf.new }
-    ensures saves { IfOk result (λ answer. let state = Some (parts_of store.now) in
-        SavesGrammar name.now (world state (F.told shelf.old) (F.faults shelf.old)) (answer_line answer) (world state (F.told shelf.new) (F.faults shelf.new))) }
-    ensures refused { IfErr result (λ refusal. let state = Some (parts_of store.now) in
-        Cause refusal (act.SaveGrammar name.now) (world state (F.told shelf.old) (F.faults shelf.old)) (world state (F.told shelf.new) (F.faults shelf.new))) }
+    ensures saves { IfOk result (λ answer. (state : State) → parts_in state ≡ Some (parts_of store.now)
+        → SavesGrammar name.now (world state (F.told shelf.old) (F.faults shelf.old)) (answer_line answer) (world state (F.told shelf.new) (F.faults shelf.new))) }
+    ensures refused { IfErr result (λ refusal. (state : State) → parts_in state ≡ Some (parts_of store.now)
+        → Cause refusal (act.SaveGrammar name.now) (world state (F.told shelf.old) (F.faults shelf.old)) (world state (F.told shelf.new) (F.faults shelf.new))) }
     ensures files { OnErr result (Stays (told_files (F.told shelf.old)) (told_files (F.told shelf.new))) }
     ensures idle { IsIdle (F.told shelf.old) → IsIdle (F.told shelf.new) }
 {

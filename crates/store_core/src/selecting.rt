@@ -15,10 +15,9 @@ ghost use Rattle.store_core.specs.Refusals.{Cause};
 ghost use Rattle.store_core.specs.Selecting.{Finds, HasSelected};
 ghost use Rattle.store_core.specs.Texts.{selected_line};
 ghost use Rattle.store_core.specs.StoreOf.{IsCounted, parts_of};
-ghost use Rattle.store_core.specs.Worlds.{AreLawfulParts, PartsStandFor, World};
+ghost use Rattle.store_core.specs.Worlds.{AreLawfulParts, PartsStandFor, World, parts_in};
 
 use crate::answer::Refusal;
-use crate::store::Store;
 use read_steps::Steps;
 use rule_runs::{FallTable, Spent, fall, rise, rise_in_one_state};
 use segment_counts::Counts;
@@ -26,6 +25,7 @@ use selecting_automaton::{Selector, compile};
 use slt_grammar::{Falling, Grammar, Rising};
 use std::alloc::{AllocError, Global};
 use std::sync::ledger::Ledger;
+use tree_updates::Store;
 use xpath_parser::{parse, spells_one};
 
 /// How many nodes the query selects and, where they are to be listed, which, found over the rules. It is refused with `BadQuery` where
@@ -42,10 +42,10 @@ pub(crate) fn select<L: Ledger>(
 ) -> Result<FallTable, Refusal>
     requires held { AreLawfulParts (parts_of store.now) }
     requires counted { IsCounted store.now }
-    ensures selects { IfOk result (λ found. (tree : Tree) (w : World) → w.state ≡ Some (parts_of store.now) → PartsStandFor (parts_of store.now) tree → HasSelected text.now w tree found) }
+    ensures selects { IfOk result (λ found. (tree : Tree) (w : World) → parts_in w.state ≡ Some (parts_of store.now) → PartsStandFor (parts_of store.now) tree → HasSelected text.now w tree found) }
     ensures listed { IfOk result (λ found. IsSome found.hits ↔ IsTrue listed) }
     ensures lines { IfOk result (λ found. (tree : Tree) → PartsStandFor (parts_of store.now) tree → IfSome found.hits (All (λ hit. hit_line store.now.names hit ≡ selected_line tree hit.number))) }
-    ensures refused { IfErr result (λ refusal. (act : Act) (old new : World) → query_asked act ≡ Some text.now → old.state ≡ Some (parts_of store.now) → Cause refusal act old new) }
+    ensures refused { IfErr result (λ refusal. (act : Act) (old new : World) → query_asked act ≡ Some text.now → parts_in old.state ≡ Some (parts_of store.now) → Cause refusal act old new) }
     ensures reads { ReadsFew text.now (rules_of store.now.grammar.rules) steps.old steps.new }
 {
     // The call tells that the text spells one query alone.

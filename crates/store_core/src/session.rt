@@ -7,14 +7,15 @@ ghost use Rattle.store_core.specs.declared.command.Settings.{Settings};
 
 use crate::answer::{Answer, Refusal, write_line};
 use crate::command::{Command, Settings};
+use crate::editing::edit_document;
 use crate::grammar_loading::load_grammar;
 use crate::listing::print_hits;
+use crate::loaded::Loaded;
 use crate::loading::load_document;
-use crate::repairing::repair_store;
+use crate::repairing::repair_document;
 use crate::saving::{save_document, save_grammar};
 use crate::selecting::select;
 use crate::showing::walk_to;
-use crate::store::Store;
 use crate::writing::write_node;
 use read_steps::Steps;
 use std::alloc::{AllocError, Global};
@@ -22,6 +23,7 @@ use std::marker::Model;
 use std::sync::ledger::Ledger;
 use thiserror::Error;
 use tree_outside::{Failed, Shelf, Sink};
+use tree_updates::Store;
 
 /// The sink failed while it got the text of a command.
 #[derive(Clone, Copy, Debug, PartialEq, Eq, Drop, Error)]
@@ -37,7 +39,7 @@ impl From<Failed> for SinkFailed {
 /// At most one document; contracts see what is held of it.
 #[derive(Drop)]
 pub struct Session {
-    store: Option<Store>,
+    pub loaded: Option<Loaded>,
 }
 
 impl Model for Session {
@@ -48,11 +50,11 @@ impl Model for Session {
     ghost use Rattle.std.specs.Option.{option_map};
     ghost use Rattle.store_core.specs.Worlds.{IsLawfulState};
     ghost use Rattle.std.specs.Prelude.{IfSome};
-    ghost use Rattle.store_core.specs.StoreOf.{IsCounted, parts_of};
+    ghost use Rattle.store_core.specs.StoreOf.{IsCounted, held_of};
 
-    ghost view = { λ a. option_map parts_of a.store };
+    ghost view = { λ a. option_map held_of a.loaded };
 
-    ghost invariant = { λ a. IsLawfulState (option_map parts_of a.store) × IfSome a.store IsCounted };
+    ghost invariant = { λ a. IsLawfulState (option_map held_of a.loaded) × IfSome a.loaded (λ l. IsCounted l.store) };
 }
 
 impl Session {
@@ -60,24 +62,25 @@ impl Session {
     ghost use Rattle.store_core.specs.CommandOf.{act_of};
     ghost use Rattle.store_core.specs.Machine.{Comes, Prints, Step};
     ghost use Rattle.store_core.specs.Reads.{AsksFew};
-    ghost use Rattle.store_core.specs.Worlds.{IsIdle, IsLawfulState, world};
+    ghost use Rattle.store_core.specs.Worlds.{IsIdle, IsLawfulState, parts_in, world};
     ghost use Rattle.store_core.specs.StoreOf.{IsCounted, parts_of};
     ghost use Rattle.std.specs.Option.{option_map};
+    ghost use Rattle.store_core.specs.Editing.{IsEdit};
 
     /// A session without a document. It takes no memory.
     pub fn new() -> Session
         ensures { result ≡ None }
     {
-        Session { store: None }
+        Session { loaded: None }
     }
 
     /// The document, and None exactly where nothing is loaded.
     pub fn document(&self) -> Option<&Store>
-        ensures sees { option_map (λ s. parts_of s.now) result ≡ self.now }
+        ensures sees { option_map (λ s. parts_of s.now) result ≡ parts_in self.now }
         ensures held { IsLawfulState self.now }
         ensures counted { IfSome result (λ s. IsCounted s.now) }
     {
-        self.store.as_ref()
+        self.loaded.as_ref().map(|loaded| &loaded.store)
     }
 
     /// Does one command and prints its text, the last of which is a line that says what it came to. After a loading no rule has a greater
@@ -140,6 +143,9 @@ impl Session {
             Command::Show { number } => self.show(alloc, number, sink, steps),
             Command::Query { text } => self.query(alloc, text, sink, steps),
             Command::Count { text } => Ok(self.count(alloc, text, steps)),
+            Command::Rename { .. } | Command::Delete { .. } | Command::Value { .. } => {
+                Ok(self.edit(alloc, command, settings, steps))
+            }
             Command::Repair => Ok(self.repair(alloc, settings)),
         }
     }
@@ -158,9 +164,12 @@ impl Session {
         ensures comes { Comes settings (act.Load name.now) (world self.old (F.told shelf.old) (F.faults shelf.old)) [] result (world self.new (F.told shelf.new) (F.faults shelf.new)) }
     {
         // A look at the field tells that what was held is lawful, also where the loading is refused.
-        let _ = &self.store;
+        let _ = &self.loaded;
         let loaded = load_document(alloc, name, settings.rank, shelf)?;
-        self.store = Some(loaded.store);
+        self.loaded = Some(Loaded {
+            store: loaded.store,
+            edits: 0,
+        });
         Ok(Answer::Nodes(loaded.count))
     }
 
@@ -175,9 +184,12 @@ impl Session {
         ensures idle { IsIdle (F.told shelf.old) → IsIdle (F.told shelf.new) }
         ensures comes { (settings : Settings) → Comes settings (act.LoadGrammar name.now) (world self.old (F.told shelf.old) (F.faults shelf.old)) [] result (world self.new (F.told shelf.new) (F.faults shelf.new)) }
     {
-        let _ = &self.store;
+        let _ = &self.loaded;
         let loaded = load_grammar(alloc, name, shelf)?;
-        self.store = Some(loaded.store);
+        self.loaded = Some(Loaded {
+            store: loaded.store,
+            edits: 0,
+        });
         Ok(Answer::Nodes(loaded.count))
     }
 
@@ -193,10 +205,10 @@ impl Session {
         ensures idle { IsIdle (F.told shelf.old) → IsIdle (F.told shelf.new) }
         ensures comes { (settings : Settings) → Comes settings (act.Save name.now) (world self.now (F.told shelf.old) (F.faults shelf.old)) [] result (world self.now (F.told shelf.new) (F.faults shelf.new)) }
     {
-        match &self.store {
+        match &self.loaded {
             None => Err(Refusal::NoDocument),
-            Some(store) => {
-                let count = save_document(alloc, name, store, shelf, steps)?;
+            Some(loaded) => {
+                let count = save_document(alloc, name, &loaded.store, shelf, steps)?;
                 Ok(Answer::Bytes(count))
             }
         }
@@ -208,9 +220,28 @@ impl Session {
         ensures idle { IsIdle (F.told shelf.old) → IsIdle (F.told shelf.new) }
         ensures comes { (settings : Settings) → Comes settings (act.SaveGrammar name.now) (world self.now (F.told shelf.old) (F.faults shelf.old)) [] result (world self.now (F.told shelf.new) (F.faults shelf.new)) }
     {
-        match &self.store {
+        match &self.loaded {
             None => Err(Refusal::NoDocument),
-            Some(store) => save_grammar(name, store, shelf),
+            Some(loaded) => save_grammar(name, &loaded.store, shelf),
+        }
+    }
+
+    // Makes the edit that the command asks for.
+    fn edit<L: Ledger>(
+        &mut self,
+        alloc: Global,
+        command: Command<'_>,
+        settings: Settings,
+        steps: &mut Steps<L>,
+    ) -> Result<Answer, Refusal>
+        requires rank { settings.rank ≤ 8 }
+        requires edit { IsEdit (act_of command) }
+        ensures lawful { IsLawfulState self.old × IsLawfulState self.new }
+        ensures comes { (told : Option Told) (count : ℕ) → Comes settings (act_of command.entry) (world self.old told count) [] result (world self.new told count) }
+    {
+        match &mut self.loaded {
+            None => Err(Refusal::NoDocument),
+            Some(loaded) => edit_document(alloc, loaded, command, settings, steps),
         }
     }
 
@@ -219,9 +250,9 @@ impl Session {
         ensures lawful { IsLawfulState self.old × IsLawfulState self.new }
         ensures comes { (told : Option Told) (count : ℕ) → Comes settings act.Repair (world self.old told count) [] result (world self.new told count) }
     {
-        match &mut self.store {
+        match &mut self.loaded {
             None => Err(Refusal::NoDocument),
-            Some(store) => Ok(repair_store(alloc, store, settings.rank)?),
+            Some(loaded) => Ok(repair_document(alloc, loaded, settings.rank)?),
         }
     }
 
@@ -238,14 +269,14 @@ impl Session {
         ensures kept { Keeps (K.kept sink.old) (K.kept sink.new) }
         ensures cause { HasCause (K.faults sink.old) (K.faults sink.new) result }
     {
-        let Some(store) = &self.store else {
+        let Some(loaded) = &self.loaded else {
             return Ok(Err(Refusal::NoDocument));
         };
-        let walk = match walk_to(alloc, store, number, steps) {
+        let walk = match walk_to(alloc, &loaded.store, number, steps) {
             Ok(walk) => walk,
             Err(refusal) => return Ok(Err(refusal)),
         };
-        write_node(store, walk, sink, steps)?;
+        write_node(&loaded.store, walk, sink, steps)?;
         Ok(Ok(Answer::Shown))
     }
 
@@ -263,14 +294,14 @@ impl Session {
         ensures cause { HasCause (K.faults sink.old) (K.faults sink.new) result }
         ensures reads { AsksFew (act.Query text.now) self.now steps.old steps.new }
     {
-        let Some(store) = &self.store else {
+        let Some(loaded) = &self.loaded else {
             return Ok(Err(Refusal::NoDocument));
         };
-        let found = match select(alloc, text, store, true, steps) {
+        let found = match select(alloc, text, &loaded.store, true, steps) {
             Ok(found) => found,
             Err(refusal) => return Ok(Err(refusal)),
         };
-        match print_hits(alloc, &found, &store.names, sink)? {
+        match print_hits(alloc, &found, &loaded.store.names, sink)? {
             Ok(()) => Ok(Ok(Answer::Selected(found.count()))),
             Err(AllocError) => Ok(Err(Refusal::Memory)),
         }
@@ -287,10 +318,10 @@ impl Session {
         ensures comes { (settings : Settings) (told : Option Told) (count : ℕ) → Comes settings (act.Count text.now) (world self.now told count) [] result (world self.now told count) }
         ensures reads { AsksFew (act.Count text.now) self.now steps.old steps.new }
     {
-        let Some(store) = &self.store else {
+        let Some(loaded) = &self.loaded else {
             return Err(Refusal::NoDocument);
         };
-        let counted = select(alloc, text, store, false, steps)?;
+        let counted = select(alloc, text, &loaded.store, false, steps)?;
         Ok(Answer::Selected(counted.count()))
     }
 }

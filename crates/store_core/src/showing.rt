@@ -6,15 +6,15 @@ ghost use Rattle.store_core.specs.Machine.{ShowsNode};
 ghost use Rattle.store_core.specs.Refusals.{Cause};
 ghost use Rattle.store_core.specs.StoreOf.{IsCounted, parts_of};
 ghost use Rattle.store_core.specs.Walking.{IsReady, walk_text};
-ghost use Rattle.store_core.specs.Worlds.{AreLawfulParts, PartsStandFor, World};
+ghost use Rattle.store_core.specs.Worlds.{AreLawfulParts, PartsStandFor, World, parts_in};
 
 use crate::answer::Refusal;
-use crate::store::Store;
 use crate::walking::NodeWalk;
 use preorder_address::text_rank;
 use read_steps::Steps;
 use std::alloc::Global;
 use std::sync::ledger::Ledger;
+use tree_updates::Store;
 
 /// The walk over the node with this number, with all the memory that its printing takes. It is refused with `NoNode` where the
 /// number isn't below the count of nodes, and with `Memory` for want of that.
@@ -28,7 +28,7 @@ pub(crate) fn walk_to<L: Ledger>(
     requires counted { IsCounted store.now }
     ensures ready { IfOk result (IsReady store.now) }
     ensures shows { IfOk result (λ walk. (t : Tree) → PartsStandFor (parts_of store.now) t → ShowsNode t number (walk_text store.now walk)) }
-    ensures refused { IfErr result (λ refusal. (old new : World) → old.state ≡ Some (parts_of store.now) → Cause refusal (act.Show number) old new) }
+    ensures refused { IfErr result (λ refusal. (old new : World) → parts_in old.state ≡ Some (parts_of store.now) → Cause refusal (act.Show number) old new) }
 {
     let Some(first_text) = text_rank(&store.grammar, &store.counts, &store.names, number, steps)
     else {

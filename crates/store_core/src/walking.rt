@@ -8,11 +8,11 @@ ghost use Rattle.value_cursor.specs.Cursors.{BeginsAtNode, IsInside, tokens_of};
 ghost use Rattle.store_core.specs.StoreOf.{IsCounted};
 ghost use Rattle.store_core.specs.Walking.{AreEnough, HasRoom, IsReady, open_after};
 
-use crate::store::Store;
 use read_steps::Steps;
 use slt_grammar::Grammar;
 use std::alloc::{AllocError, Global};
 use std::sync::ledger::Ledger;
+use tree_updates::Store;
 use value_cursor::{Cursor, Token, most_open};
 
 // Where a walk along tokens stands: the symbols of the nodes that are open, the innermost last, and how many texts were used.

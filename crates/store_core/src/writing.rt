@@ -9,12 +9,12 @@ ghost use Rattle.store_core.specs.Saving.{begin_call, end_call, texts_past, call
 ghost use Rattle.store_core.specs.Walking.{HasPlace, IsCountable, IsReady, open_after, place_of, walk_text};
 
 use crate::answer::Refusal;
-use crate::store::Store;
 use crate::walking::{NodeWalk, TokenPlace};
 use plain_tree::{Kind, Names};
 use read_steps::Steps;
 use std::sync::ledger::Ledger;
 use tree_outside::{Failed, Sink};
+use tree_updates::Store;
 use value_cursor::Token;
 use xml_nodes::Writer;
 

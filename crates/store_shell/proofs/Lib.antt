@@ -1,6 +1,9 @@
+pub mod Beginnings
 pub mod Cuts
 pub mod Ending
 pub mod Kept
+pub mod Marks
+pub mod Numbered
 pub mod OneCut
 pub mod OneForm
 pub mod Pieces

@@ -5,24 +5,7 @@ use Rattle.std.specs.List.{flat_map}
 use Rattle.std.proofs.lemmas.List.{append_assoc}
 use Rattle.std.proofs.lemmas.List.Elements.{All-tail, All-head}
 use Rattle.store_shell.specs.Lines.{IsOneLine, IsCut, ended}
-
--- the first line feed ends the first line
-first_line : (l m x y : List ℕ) → IsOneLine l → IsOneLine m → l ++ 10 ∷ x ≡ m ++ 10 ∷ y → (l ≡ m) × (x ≡ y)
-first_line [] [] x y h k e = (refl, cc)
-first_line [] (b ∷ m) x y h k e = let same : b ≡ 10 = cc in absurd (All-head (λ byte. byte ≡ 10 → ⊥) b m k same)
-first_line (a ∷ l) [] x y h k e = let same : a ≡ 10 = cc in absurd (All-head (λ byte. byte ≡ 10 → ⊥) a l h same)
-first_line (a ∷ l) (b ∷ m) x y h k e =
-    let rest : l ++ 10 ∷ x ≡ m ++ 10 ∷ y = cc in
-    let r = first_line l m x y (All-tail (λ byte. byte ≡ 10 → ⊥) a l h) (All-tail (λ byte. byte ≡ 10 → ⊥) b m k) rest in
-    let head : a ≡ b = cc in
-    (ap (λ z. z ∷ l) head ∙ ap (λ z. b ∷ z) r.0, r.1)
-
--- no line feed is in a tail
-no_line : (t m x : List ℕ) → IsOneLine t → t ≡ m ++ 10 ∷ x → ⊥
-no_line [] [] x h e = absurd (cc)
-no_line [] (b ∷ m) x h e = absurd (cc)
-no_line (a ∷ t) [] x h e = let same : a ≡ 10 = cc in All-head (λ byte. byte ≡ 10 → ⊥) a t h same
-no_line (a ∷ t) (b ∷ m) x h e = let rest : t ≡ m ++ 10 ∷ x = cc in no_line t m x (All-tail (λ byte. byte ≡ 10 → ⊥) a t h) rest
+use Rattle.store_shell.proofs.Marks.{first_mark, no_mark}
 
 -- what follows a line
 after : (l : List ℕ) (ls : List (List ℕ)) (t : List ℕ) → flat_map ended (l ∷ ls) ++ t ≡ l ++ 10 ∷ (flat_map ended ls ++ t)
@@ -30,10 +13,10 @@ after l ls t = append_assoc (ended l) (flat_map ended ls) t ∙ append_assoc l (
 
 lines-one : (ls ms : List (List ℕ)) (t u : List ℕ) → All IsOneLine ls → All IsOneLine ms → IsOneLine t → IsOneLine u → flat_map ended ls ++ t ≡ flat_map ended ms ++ u → (ls ≡ ms) × (t ≡ u)
 lines-one [] [] t u h k p q e = (refl, e)
-lines-one [] (m ∷ ms) t u h k p q e = absurd (no_line t m (flat_map ended ms ++ u) p (e ∙ after m ms u))
-lines-one (l ∷ ls) [] t u h k p q e = absurd (no_line u l (flat_map ended ls ++ t) q (sym e ∙ after l ls t))
+lines-one [] (m ∷ ms) t u h k p q e = absurd (no_mark t m (flat_map ended ms ++ u) p (e ∙ after m ms u))
+lines-one (l ∷ ls) [] t u h k p q e = absurd (no_mark u l (flat_map ended ls ++ t) q (sym e ∙ after l ls t))
 lines-one (l ∷ ls) (m ∷ ms) t u h k p q e =
-    let first = first_line l m (flat_map ended ls ++ t) (flat_map ended ms ++ u) (All-head IsOneLine l ls h) (All-head IsOneLine m ms k) (sym (after l ls t) ∙ (e ∙ after m ms u)) in
+    let first = first_mark l m (flat_map ended ls ++ t) (flat_map ended ms ++ u) (All-head IsOneLine l ls h) (All-head IsOneLine m ms k) (sym (after l ls t) ∙ (e ∙ after m ms u)) in
     let r = lines-one ls ms t u (All-tail IsOneLine l ls h) (All-tail IsOneLine m ms k) p q first.1 in
     (ap (λ z. z ∷ ls) first.0 ∙ ap (λ z. m ∷ z) r.0, r.1)
 

@@ -1,8 +1,8 @@
 -- What a line asks for.
-use Rattle.std.specs.Prelude.{◌≡◌, ◌≢◌, ◌<◌, ◌≤◌, ◌-◌, ◌^◌, ℕ, List, [], ◌∷◌, ◌++◌, All, length, take, if◌then◌else◌, codes, decimal, nat_eq}
+use Rattle.std.specs.Prelude.{◌≡◌, ◌≢◌, ◌<◌, ◌≤◌, ◌⊎◌, ◌-◌, ◌^◌, ℕ, List, [], ◌∷◌, ◌++◌, All, length, take, if◌then◌else◌, codes, decimal, nat_eq}
 use Rattle.std.specs.List.{ends_with}
 use Rattle.std.specs.Str.{IsUtf8}
-use Rattle.store_core.specs.Acts.{Act, Load, LoadGrammar, Save, SaveGrammar, Show, Query, Count, Repair}
+use Rattle.store_core.specs.Acts.{Act, Load, LoadGrammar, Save, SaveGrammar, Show, Query, Count, Rename, Delete, Value, Repair}
 use Rattle.store_shell.specs.Lines.{longest}
 
 pub data Form : Type 0 where
@@ -32,6 +32,10 @@ Asks words (SaveGrammar name) = IsFileName name × (words ≡ codes "save-gramma
 Asks words (Show number) = (number < 2 ^ 64) × (words ≡ codes "show " ++ decimal number)
 Asks words (Query query) = (query ≢ []) × (words ≡ codes "query " ++ query)
 Asks words (Count query) = (query ≢ []) × (words ≡ codes "count " ++ query)
+Asks words (Rename number name) = (number < 2 ^ 64) × (name ≢ []) × (words ≡ codes "rename " ++ (decimal number ++ 32 ∷ name))
+Asks words (Delete number) = (number < 2 ^ 64) × (words ≡ codes "delete " ++ decimal number)
+Asks words (Value number bytes) =
+    (number < 2 ^ 64) × ((words ≡ codes "value " ++ (decimal number ++ 32 ∷ bytes)) ⊎ ((bytes ≡ []) × (words ≡ codes "value " ++ decimal number)))
 Asks words Repair = words ≡ codes "repair"
 
 -- a line has this form

@@ -2,6 +2,7 @@ pub mod Feeding
 pub mod Forms
 pub mod Laws
 pub mod Lines
+pub mod Numbered
 pub mod Parsed
 pub mod Runs
 pub mod Serving

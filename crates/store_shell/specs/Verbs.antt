@@ -11,6 +11,9 @@ verb_word verb.SaveGrammar = codes "save-grammar"
 verb_word verb.Show = codes "show"
 verb_word verb.Query = codes "query"
 verb_word verb.Count = codes "count"
+verb_word verb.Rename = codes "rename"
+verb_word verb.Delete = codes "delete"
+verb_word verb.Value = codes "value"
 
 abbrev pub is_blank : ℕ → Bool
 is_blank byte = byte == 32

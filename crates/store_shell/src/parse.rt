@@ -6,6 +6,7 @@ ghost use Rattle.store_core.specs.Acts.{Act};
 ghost use Rattle.store_core.specs.CommandOf.{act_of};
 ghost use Rattle.store_shell.specs.Lines.{kept};
 ghost use Rattle.store_shell.specs.Forms.{without_return, IsFileName, Asks, IsForm};
+ghost use Rattle.store_shell.specs.Numbered.{IsNumbered};
 ghost use Rattle.store_shell.specs.Parsed.{form_of};
 ghost use Rattle.store_shell.specs.Verbs.{is_blank};
 
@@ -77,6 +78,12 @@ fn parse_command(words: &[u8]) -> Option<Command<'_>>
         Verb::Show => number(arguments).map(|number| Command::Show { number }),
         Verb::Query => query(arguments).map(|text| Command::Query { text }),
         Verb::Count => query(arguments).map(|text| Command::Count { text }),
+        Verb::Rename => match numbered(arguments)? {
+            (_, []) => None,
+            (number, name) => Some(Command::Rename { number, name }),
+        },
+        Verb::Delete => number(arguments).map(|number| Command::Delete { number }),
+        Verb::Value => numbered(arguments).map(|(number, value)| Command::Value { number, value }),
     }
 }
 
@@ -109,6 +116,16 @@ fn query(bytes: &[u8]) -> Option<&[u8]>
     ensures { MatchOption result (bytes.now ≡ []) (λ text. (text.now ≡ bytes.now) × (bytes.now ≢ [])) }
 {
     if bytes.is_empty() { None } else { Some(bytes) }
+}
+
+/// A number, and what stands behind the space that ends it. Where nothing stands there, the space may be missing.
+fn numbered(arguments: &[u8]) -> Option<(u64, &[u8])>
+    ensures { MatchOption result ((n : ℕ) (bytes : List ℕ) → IsNumbered arguments.now n bytes → ⊥) (λ read. IsNumbered arguments.now read.0 read.1.now) }
+{
+    match first_space(arguments) {
+        Some(space) => Some((number(&arguments[..space])?, &arguments[space + 1..])),
+        None => Some((number(arguments)?, &[])),
+    }
 }
 
 /// A number below 2^64 by its digits, without a leading zero.

@@ -9,6 +9,9 @@ pub enum Verb {
     Show,
     Query,
     Count,
+    Rename,
+    Delete,
+    Value,
 }
 
 impl Verb {
@@ -28,6 +31,9 @@ impl Verb {
             b"show" => Some(Verb::Show),
             b"query" => Some(Verb::Query),
             b"count" => Some(Verb::Count),
+            b"rename" => Some(Verb::Rename),
+            b"delete" => Some(Verb::Delete),
+            b"value" => Some(Verb::Value),
             _ => None,
         }
     }

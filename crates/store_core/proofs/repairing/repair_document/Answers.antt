@@ -9,11 +9,11 @@ use Rattle.store_core.specs.Worlds.{told_files}
 use Rattle.store_core.specs.declared.answer.Answer.TheVariants.{Repaired}
 use Rattle.store_core.proofs.Encoded.{stands-same}
 use Rattle.segment_counts.proofs.Coded.{weight-coded}
-use Rattle.store_core.proofs.repairing.repair_store.Goals as goal
+use Rattle.store_core.proofs.repairing.repair_document.Goals as goal
 
 pub update-requires-clause-few : goal.update-requires-clause-few
 update-requires-clause-few c =
-    let store = c.args.store.now in
+    let store = c.args.loaded.now.store in
     let held = c.requires.held in
     let settled = rules_of c.in_ok-grammar.field-0.grammar.rules in
     let same : value settled ≡ value (rules_of store.grammar.rules) = c.in_ok-grammar.ensures.kept.same in
@@ -22,7 +22,7 @@ update-requires-clause-few c =
 
 pub returns-clause-held : goal.returns-clause-held
 returns-clause-held c =
-    let store = c.args.store.now in
+    let store = c.args.loaded.now.store in
     let held = c.requires.held in
     let settled = rules_of c.in_ok-grammar.field-0.grammar.rules in
     let same : value settled ≡ value (rules_of store.grammar.rules) = c.in_ok-grammar.ensures.kept.same in
@@ -36,7 +36,7 @@ returns-clause-held c =
 
 pub returns-clause-repairs : goal.returns-clause-repairs
 returns-clause-repairs c = λ told count.
-    let store = c.args.store.now in
+    let store = c.args.loaded.now.store in
     let held = c.requires.held in
     let settled = rules_of c.in_ok-grammar.field-0.grammar.rules in
     let same : value settled ≡ value (rules_of store.grammar.rules) = c.in_ok-grammar.ensures.kept.same in

@@ -1,7 +1,8 @@
 use Rattle.std.proofs.Common.{ℕ, List, codes, refl}
 use Rattle.std.proofs.lemmas.Result.{err_from_is_err_and}
+use Rattle.store_core.specs.CommandOf.{act_of}
 use Rattle.store_core.specs.Worlds.{World, world}
-use Rattle.store_shell.specs.Forms.{Long}
+use Rattle.store_shell.specs.Forms.{Command, Long}
 use Rattle.store_shell.proofs.Runs.{Goes-as}
 use Rattle.store_shell.proofs.script.end_line.Goals as goal
 
@@ -17,3 +18,11 @@ returns-in_err-write-in-Long-clause-ends g c = λ bytes e.
     let text : List ℕ = codes "! long-line\n" in
     let p = err_from_is_err_and c.from_residual.result c.from_residual.ensures.1 in
     rw p.1 (text, Goes-as bytes Long w w text (λ same. cc) (c.in-Long.ensures bytes e) (refl, refl), c.in_err-write-in-Long.ensures.content)
+
+pub returns-in_err-command-in-Command-clause-ends : goal.returns-in_err-command-in-Command-clause-ends
+returns-in_err-command-in-Command-clause-ends g c = λ bytes e.
+    let w : World = world c.args.session.now (g.F.Shelf.told c.args.shelf.now) (g.F.Shelf.faults c.args.shelf.now) in
+    let v : World = world c.command.new.self (g.F.Shelf.told c.command.new.shelf) (g.F.Shelf.faults c.command.new.shelf) in
+    let s = c.in_err-command-in-Command.ensures.step in
+    let p = err_from_is_err_and c.from_residual-in_err-command-in-Command.result c.from_residual-in_err-command-in-Command.ensures.1 in
+    rw p.1 (s.0, Goes-as bytes (Command (act_of c.in-Command.command)) w v s.0 (λ same. cc) (c.in-Command.ensures bytes e) s.1, s.2)

@@ -27,3 +27,7 @@ returns-in-Query-clause-reads g c = rw c.in-Query.is c.query.ensures.reads
 
 pub returns-in-Count-clause-reads : goal.returns-in-Count-clause-reads
 returns-in-Count-clause-reads g c = rw c.in-Count.is c.count.ensures.reads
+
+pub returns-in-Rename-clause-prints : goal.returns-in-Rename-clause-prints
+returns-in-Rename-clause-prints g c =
+    ([], Gets-nil (g.K.Sink.got c.args.sink.now), c.edit.ensures.comes (g.F.Shelf.told c.args.shelf.now) (g.F.Shelf.faults c.args.shelf.now))

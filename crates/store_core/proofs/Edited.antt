@@ -1,0 +1,162 @@
+-- Edits of a store as steps of the machine.
+use Rattle.std.proofs.Common.{◌≡◌, ◌≤◌, ◌<◌, ℕ, List, [], Option, Some, inl, inr, refl, ap, ◌∙◌, arith}
+use Rattle.tree_outside.proofs.Beside.{Stays-refl}
+use Rattle.tree_outside.specs.Files.{Told}
+use Rattle.plain_tree.specs.Allowed.{AreLawfulParts as AreLawfulEditParts}
+use Rattle.plain_tree.specs.Edits.{edited, number_of}
+use Rattle.plain_tree.specs.NodePairs.{Pair}
+use Rattle.plain_tree.specs.Tree.{Tree, node_count}
+use Rattle.plain_tree.specs.declared.edit.Edit.{Edit}
+use Rattle.slt_grammar.specs.Grammars.{IsGrammar, size}
+use Rattle.slt_grammar.specs.Keyed.{rules_of}
+use Rattle.slt_grammar.specs.declared.rules.Rule.{Rule}
+use Rattle.tree_updates.specs.Stores.{BringsNoNode, IsEdited, IsRefused, IsStoreFor}
+use Rattle.tree_updates.specs.declared.store.EditError.{EditError}
+use Rattle.tree_updates.specs.declared.store.EditError.TheVariants as error
+use Rattle.tree_updates.specs.declared.store.Store.{Store}
+use Rattle.xml_profile.proofs.ValueChars.{value_chars}
+use Rattle.store_core.specs.Acts.{Act, Rename, Delete, Value, node_asked}
+use Rattle.store_core.specs.Editing.{AsksEdit, Edits, IsEdit, IsSettledWhereDue, WantsEdit, one_more}
+use Rattle.store_core.specs.Errors.{IsNoEdit, IsNoValue, refusal_of}
+use Rattle.store_core.specs.Machine.{Begins, Does, Refuses}
+use Rattle.store_core.specs.Refusals.{Cause, IsReady}
+use Rattle.store_core.specs.StoreOf.{IsCounted, held_of, parts_of}
+use Rattle.store_core.specs.Texts.{answer_line}
+use Rattle.store_core.specs.Worlds.{AreLawfulParts, Held, World, told_files, with_names, world}
+use Rattle.store_core.specs.declared.answer.Answer.{Answer}
+use Rattle.store_core.specs.declared.answer.Refusal.{Refusal}
+use Rattle.store_core.specs.declared.answer.Refusal.TheVariants as no
+use Rattle.store_core.specs.declared.command.Settings.{Settings}
+use Rattle.store_core.specs.declared.loaded.Loaded.{Loaded}
+
+-- a store that is held lawfully is one for its document
+pub store-held : (s : Store) (h : AreLawfulParts (parts_of s)) → IsCounted s → IsStoreFor s h.tree
+store-held s h c = record { stand = h.stand; small = h.small; swept = h.swept; counts = c.counts; index = c.index }
+
+pub held-store : (s : Store) (t : Tree) → IsStoreFor s t → IsGrammar (rules_of s.grammar.rules) → AreLawfulParts (parts_of s)
+held-store s t i g = record { tree = t; stand = i.stand; small = i.small; grammar = g; swept = i.swept }
+
+pub counted-store : (s : Store) (t : Tree) → IsStoreFor s t → IsCounted s
+counted-store s t i = record { counts = i.counts; index = i.index }
+
+-- an edit that a command asks for gives what is lawful, and brings no node
+pub asked-parts : (act : Act) (e : Edit) → AsksEdit act e → AreLawfulEditParts e
+asked-parts (Rename number name) e (is, same) = rw same is
+asked-parts (Delete number) e same = rw same tt
+asked-parts (Value number bytes) e (value, spelled, same) = rw same (value_chars bytes value spelled)
+asked-parts act e asked = absurd asked
+
+pub asked-brings : (act : Act) (e : Edit) → AsksEdit act e → BringsNoNode e
+asked-brings (Rename number name) e (is, same) = rw same tt
+asked-brings (Delete number) e same = rw same tt
+asked-brings (Value number bytes) e (value, spelled, same) = rw same tt
+asked-brings act e asked = absurd asked
+
+-- the node of which it asks
+pub asked-node : (act : Act) (e : Edit) → AsksEdit act e → node_asked act ≡ Some (number_of e)
+asked-node (Rename number name) e (is, same) = rw same refl
+asked-node (Delete number) e same = rw same refl
+asked-node (Value number bytes) e (value, spelled, same) = rw same refl
+asked-node act e asked = absurd asked
+
+-- bytes that spell no value make no edit
+pub value-not-read : (refusal : Refusal) (number : ℕ) (bytes : List ℕ) (count : ℕ) → number < count → IsNoValue refusal bytes → IsNoEdit refusal (Value number bytes) count
+value-not-read no.BadValue number bytes count low why = ((number, refl, low), (bytes, refl, why))
+value-not-read no.Memory number bytes count low why = tt
+value-not-read refusal number bytes count low why = absurd why
+
+-- what an edit does is what its command does
+does-edit : (settings : Settings) (act : Act) (old new : World) (out : List ℕ) → IsEdit act → Edits settings act old out new → Does settings act old out new
+does-edit settings (Rename number name) old new out is edits = edits
+does-edit settings (Delete number) old new out is edits = edits
+does-edit settings (Value number bytes) old new out is edits = edits
+does-edit settings act old new out is edits = absurd is
+
+begins-nothing : (act : Act) (refusal : Refusal) (old : World) → IsEdit act → Begins act refusal old []
+begins-nothing (Rename number name) refusal old is = refl
+begins-nothing (Delete number) refusal old is = refl
+begins-nothing (Value number bytes) refusal old is = refl
+begins-nothing act refusal old is = absurd is
+
+ready-to-edit : (act : Act) (held : Held) (told : Option Told) (count : ℕ) → IsEdit act → IsReady act (world (Some held) told count)
+ready-to-edit (Rename number name) held told count is = record { document = λ needs. refl; file = λ n reads. absurd cc }
+ready-to-edit (Delete number) held told count is = record { document = λ needs. refl; file = λ n reads. absurd cc }
+ready-to-edit (Value number bytes) held told count is = record { document = λ needs. refl; file = λ n reads. absurd cc }
+ready-to-edit act held told count is = absurd is
+
+module _ (settings : Settings) (act : Act) (is : IsEdit act) (l : Loaded) (told : Option Told) (count : ℕ) (t : Tree) (i : IsStoreFor l.store t) where
+  abbrev before : World
+  before = world (Some (held_of l)) told count
+
+  -- no edit comes of it
+  pub edit-not-asked : (refusal : Refusal) (total : ℕ) → total ≡ node_count t → IsNoEdit refusal act total → Refuses act refusal before [] before
+  edit-not-asked refusal total many why = record {
+    begins = begins-nothing act refusal before is;
+    cause = cause refusal why;
+    leaves = inl (record { state = refl; files = Stays-refl (told_files told) });
+  }
+    where
+      cause : (refusal : Refusal) → IsNoEdit refusal act total → Cause refusal act before before
+      cause no.NoNode (number, asked, past) = (number, asked, record { parts = parts_of l.store; tree = t; held = refl; stand = i.stand; past = omega (arith, many, past) })
+      cause no.BadName ((number, asked, low), none) = ((number, asked, record { parts = parts_of l.store; tree = t; held = refl; stand = i.stand; there = omega (arith, many, low) }), none)
+      cause no.BadValue ((number, asked, low), none) = ((number, asked, record { parts = parts_of l.store; tree = t; held = refl; stand = i.stand; there = omega (arith, many, low) }), none)
+      cause no.Memory why = ready-to-edit act (held_of l) told count is
+      cause refusal why = absurd why
+
+  module _ (e : Edit) (asked : AsksEdit act e) (total : ℕ) (many : total ≡ node_count t) (low : number_of e < total) where
+    abbrev wants : WantsEdit act before
+    wants = record { held = held_of l; tree = t; edit = e; is = refl; stand = i.stand; asked = asked; there = omega (arith, many, low) }
+
+    -- the edit was made, and the grammar settled where that was due
+    pub edit-done : (mid : Store) (new : Loaded) (answer : Answer) → IsEdited t e l.store mid → IsStoreFor new.store (edited t e) → new.store.names ≡ mid.names
+        → size (rules_of new.store.grammar.rules) ≤ size (rules_of mid.grammar.rules)
+        → IsSettledWhereDue settings (one_more l.edits) (held_of new) (node_count (edited t e)) answer → Does settings act before (answer_line answer) (world (Some (held_of new)) told count)
+    edit-done mid new answer made store names small settled =
+        let most = made.size in
+        let grown = made.names in
+        does-edit settings act before (world (Some (held_of new)) told count) (answer_line answer) is (record {
+          wants = wants;
+          allowed = made.allowed;
+          held = held_of new;
+          state = refl;
+          stand = store.stand;
+          names = rw names grown;
+          size = omega (arith, small, most);
+          answer = answer;
+          settled = settled;
+          files = Stays-refl (told_files told);
+          printed = refl;
+        })
+
+    abbrev after : Store → World
+    after s = world (Some (held_of (record { store = s; edits = l.edits }))) told count
+
+    held-still : (s : Store) (names : List Pair) → s.names ≡ names → rules_of s.grammar.rules ≡ rules_of l.store.grammar.rules → s.texts.texts ≡ l.store.texts.texts
+        → Some (held_of (record { store = s; edits = l.edits })) ≡ Some (record { parts = with_names (parts_of l.store) names; edits = l.edits })
+    held-still s names n g x =
+        ap (λ (ns : List Pair). Some (record { parts = record { names = ns; rules = rules_of s.grammar.rules; texts = s.texts.texts }; edits = l.edits })) n
+        ∙ ap (λ (G : List Rule). Some (record { parts = record { names = names; rules = G; texts = s.texts.texts }; edits = l.edits })) g
+        ∙ ap (λ (ts : List (List ℕ)). Some (record { parts = record { names = names; rules = rules_of l.store.grammar.rules; texts = ts }; edits = l.edits })) x
+
+    -- it was refused
+    pub edit-refused : (s : Store) (err : EditError) → IsRefused t e err l.store s → Refuses act (refusal_of err) before [] (after s)
+    edit-refused s (error.NoNode n) r = record {
+      begins = begins-nothing act no.NoNode before is;
+      cause = (number_of e, asked-node act e asked, record { parts = parts_of l.store; tree = t; held = refl; stand = i.stand; past = r.cause.1 });
+      leaves = inl (record { state = held-still s l.store.names r.names r.rules r.texts; files = Stays-refl (told_files told) });
+    }
+    edit-refused s (error.NotAllowed kind) r = record {
+      begins = begins-nothing act no.NotAllowed before is;
+      cause = (wants, r.cause.1);
+      leaves = inl (record { state = held-still s l.store.names r.names r.rules r.texts; files = Stays-refl (told_files told) });
+    }
+    edit-refused s error.TooMany r = record {
+      begins = begins-nothing act no.TooMany before is;
+      cause = inr (wants, r.cause.0, r.cause.1);
+      leaves = inl (record { state = held-still s l.store.names r.names r.rules r.texts; files = Stays-refl (told_files told) });
+    }
+    edit-refused s error.Memory r = record {
+      begins = begins-nothing act no.Memory before is;
+      cause = ready-to-edit act (held_of l) told count is;
+      leaves = inr (refl, record { wants = wants; names = s.names; grown = r.names; state = held-still s s.names refl r.rules r.texts; files = Stays-refl (told_files told) });
+    }

@@ -1,0 +1,19 @@
+// What a session holds of a document.
+use digram_index::Index;
+use segment_counts::Counts;
+use tree_updates::Store;
+
+/// A document that is loaded.
+#[derive(Drop)]
+pub struct Loaded {
+    pub store: Store,
+    /// How many edits were accepted since the grammar was settled.
+    pub edits: u64,
+}
+
+/// What is told of a grammar beside its rules.
+#[derive(Drop)]
+pub(crate) struct Tables {
+    pub counts: Counts,
+    pub index: Index,
+}

@@ -1,4 +1,4 @@
--- An index after a step of which one node alone is linked anew.
+-- An index after a step of which the near nodes are linked anew, or one alone.
 use Rattle.std.proofs.Common.{◌≡◌, ◌≢◌, ◌⊎◌, inl, inr, ℕ, Some, None, ap, ◌∙◌}
 use Rattle.std.proofs.lemmas.Bool.{cases_eq}
 use Rattle.rule_arena.specs.declared.key.Key.{Key}
@@ -51,3 +51,15 @@ module _ (h : Keyed) (near : ℕ → Type 0) (mid : Linked) (B : IsIndexBut h mi
       by : (r p : ℕ) (key : Key) → key_at h.rules r p ≡ Some key → (key.number ≡ last.number) ⊎ (key.number ≡ last.number → ⊥) → cell J key.number ≡ occurrence_at h.rules r p
       by r p key k (inl e) = ap (cell J) e ∙ right r p (k ∙ ap (λ (t : Key). Some t) (one-key key last e))
       by r p key k (inr d) = others key.number d ∙ far r p key k d (test key.number)
+
+  -- all near nodes that stand were linked
+  pub all-linked : (J : Linked) → IsPartOf h J → ((key : Key) → near key.number → IsRight h.rules J key) → ((n : ℕ) → (near n → ⊥) → cell J n ≡ cell mid n) → IsIndexOf h J
+  all-linked J P right others = record {
+    rules = P.rules;
+    all = λ r p key k. by r p key k (test key.number);
+    only = λ k v. let w = P.only k v in (w.0, (w.1.0.rule, (w.1.0.place, (w.1.0.there, w.1.1))));
+  }
+    where
+      by : (r p : ℕ) (key : Key) → key_at h.rules r p ≡ Some key → near key.number ⊎ (near key.number → ⊥) → cell J key.number ≡ occurrence_at h.rules r p
+      by r p key k (inl n) = right key n r p k
+      by r p key k (inr d) = others key.number d ∙ B.all r p key k d

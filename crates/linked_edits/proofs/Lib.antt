@@ -7,3 +7,8 @@ pub mod Lifted
 pub mod NodeUps
 pub mod SharedIndex
 pub mod Relabelled
+pub mod AroundParts
+pub mod WrappedIndex
+pub mod LinkingRuns
+pub mod NodesBelow
+pub mod PutBefore

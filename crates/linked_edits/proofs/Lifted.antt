@@ -1,5 +1,5 @@
 -- An index while a node of the start gives way to its second child.
-use Rattle.std.proofs.Common.{◌≡◌, ◌≢◌, ◌⊎◌, ℕ, zero, suc, ◌-◌, List, [], ◌∷◌, length, get_or, Option, Some, None, IsSome, slice_get, refl, sym, ap, ◌∙◌, subst, arith}
+use Rattle.std.proofs.Common.{◌≡◌, ◌≢◌, ◌⊎◌, ℕ, zero, suc, List, [], ◌∷◌, length, get_or, Option, Some, None, IsSome, slice_get, refl, sym, ap, ◌∙◌, subst, arith}
 use Rattle.rule_arena.specs.Terms.{Node, kids_in}
 use Rattle.rule_arena.specs.declared.key.Key.{Key}
 use Rattle.rule_arena.specs.declared.label.Label.{Label}

@@ -51,7 +51,17 @@ pub fn encode_list(alloc: Global, nodes: &Nodes, names: &mut Names) -> Result<Co
     ensures names { OnOk result (Interns names.old (pairs_of_trees (trees nodes.now)) names.new) }
     ensures refused { OnErr result ((k : ℕ) × Interns names.old (take k (pairs_of_trees (trees nodes.now))) names.new) }
 {
-    let mut coded = encode_nodes(alloc, nodes.as_slice(), names)?;
+    encode_slice(alloc, nodes.as_slice(), names)
+}
+
+/// The same of some nodes of a list.
+pub fn encode_slice(alloc: Global, nodes: &[Node], names: &mut Names) -> Result<Coded, AllocError>
+    ensures code { IfOk result (λ c. (term : Term) × CodesTo names.new (Hole 0) (trees (trees_of nodes.now)) term × (c.body ≡ term_labels term)) }
+    ensures texts { IfOk result (λ c. c.texts ≡ texts_all (trees (trees_of nodes.now))) }
+    ensures names { OnOk result (Interns names.old (pairs_of_trees (trees (trees_of nodes.now))) names.new) }
+    ensures refused { OnErr result ((k : ℕ) × Interns names.old (take k (pairs_of_trees (trees (trees_of nodes.now)))) names.new) }
+{
+    let mut coded = encode_nodes(alloc, nodes, names)?;
     coded.body.push(Label::Param)?;
     Ok(coded)
 }

@@ -3,7 +3,7 @@
 //! A list of nodes is coded by its first child and its next sibling: bottom for the empty list, else the symbol of the first
 //! node over the code of its kids and the code of the nodes behind it. A symbol is the place of a pair of kind and name in
 //! the table of names; what the nodes have as values are the texts, in document order. `encode` makes a `Coded` of a node,
-//! and `encode_list` one of a list of nodes, with a parameter where the code of others is to follow. `laws` says that a grammar
+//! and `encode_list` and `encode_slice` one of a list of nodes, with a parameter where the code of others is to follow. `laws` says that a grammar
 //! whose one rule has the code as its body stands for the document.
 //!
 //! A `Folder` takes a document as the calls of a `Builder`, without its tree, and keeps each different subterm of the code once:
@@ -28,7 +28,7 @@ mod sharing;
 mod subterms;
 mod symbols;
 
-pub use coding::{Coded, encode, encode_list};
+pub use coding::{Coded, encode, encode_list, encode_slice};
 pub use folder::{Folded, Folder};
 pub use laws::{
     code_goes_before, codes_are_kept, encoded_stands_for_its_document, list_names_are_lawful,

@@ -76,7 +76,7 @@ own-new x b (more (node k m w ls) ss) v ks us h =
         (((λ e s. other refl (sym s)), r.0), r.1)
 
 -- codes of kids
-coded-from : (names : List Pair) (n : ℕ) (ts : Trees) → n < node_count_all ts → (term : Term) → Codes names ts term → (u : Term) × Codes names (from_node n ts) u
+pub coded-from : (names : List Pair) (n : ℕ) (ts : Trees) → n < node_count_all ts → (term : Term) → Codes names ts term → (u : Term) × Codes names (from_node n ts) u
 coded-from names n ts low = each-node (λ n ts. (term : Term) → Codes names ts term → (u : Term) × Codes names (from_node n ts) u)
     (λ t ts term c. (term, c))
     (λ k m v ks ts n h r term c. let q = r c.1 c.4 in (q.0, subst (λ (us : Trees). Codes names us q.0) (sym (from-inside k m v ks ts n h)) q.1))

@@ -13,14 +13,10 @@ use Rattle.slt_grammar.proofs.Standing.{own, texts_all-more}
 use Rattle.plain_tree.specs.Edits.{changed, chained, with_first, with_kids, with_value, with_attribute, made}
 use Rattle.plain_tree.specs.declared.edit.Edit.TheVariants.{Attr}
 use Rattle.plain_tree.proofs.Changing.{changed-inside, changed-alike, changed-deeper, more-later, from_node, chained-more, count-chained}
+use Rattle.tree_updates.specs.ElementAttributes.{AreOtherAttributes}
 use Rattle.tree_updates.proofs.KidPlaces.{HasNoAttribute, behind_attributes}
 use Rattle.plain_tree.proofs.PlainEdits.{valued_at}
 use Rattle.tree_updates.proofs.Texts.{rank_in, texts-around, insert-at}
-
--- attributes alone, none of this name
-abbrev pub AreOtherAttributes : List ℕ → Trees → Type 0
-AreOtherAttributes name none = Unit {0}
-AreOtherAttributes name (more (node k m v ks) ts) = (k ≡ Attribute) × (bytes_eq m name ≡ false) × AreOtherAttributes name ts
 
 attribute-passed : (name value : List ℕ) (k : Kind) (m v : List ℕ) (ks ts : Trees) → k ≡ Attribute → bytes_eq m name ≡ false → with_attribute name value (more (node k m v ks) ts) ≡ more (node k m v ks) (with_attribute name value ts)
 attribute-passed name value Attribute m v ks ts e f = by_test (bytes_eq m name) f

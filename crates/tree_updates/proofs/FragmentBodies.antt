@@ -1,35 +1,18 @@
 -- The body of a fragment's code means that code.
-use Rattle.std.proofs.Common.{◌≡◌, ℕ, List, [], ◌∷◌, ◌++◌, get_or, take, drop, refl, ap, sym, ◌∙◌, append_assoc, append-nil}
+use Rattle.std.proofs.Common.{◌≡◌, ℕ, List, [], ◌∷◌, ◌++◌, length, get_or, take, drop, ap, sym, ◌∙◌, append_assoc, append-nil}
 use Rattle.rule_arena.specs.declared.label.Label.{Label}
-use Rattle.rule_arena.specs.declared.label.Label.TheVariants.{Bottom, Symbol, Param}
+use Rattle.rule_arena.specs.declared.label.Label.TheVariants.{Param, Symbol}
 use Rattle.plain_tree.specs.declared.kind.Kind.{Kind}
 use Rattle.plain_tree.specs.Tree.{node, Trees, none, more}
 use Rattle.slt_grammar.specs.Algebras.{apply, meanings, meaning}
 use Rattle.slt_grammar.specs.Coding.{CodesTo}
 use Rattle.slt_grammar.specs.Terms.{Term, Leaf, Node, Hole, holes_of, holes, substitute, term_algebra}
+use Rattle.linked_edits.specs.Endings.{EndsInParam}
+use Rattle.fcns_encoding.specs.Labels.{term_labels}
+use Rattle.fcns_encoding.proofs.LabelLemmas.{labels-calls, labels-mean, labels-params, labels-term}
+use Rattle.tree_updates.specs.CodePlaces.{IsBodyOf}
 use Rattle.tree_updates.proofs.CodeChanges.{whole-stays}
 use Rattle.tree_updates.proofs.CodeEdits.{codes-whole}
-
--- the labels of a term in preorder, as fcns_encoding has them
-abbrev pub term_labels : Term → List Label
-term_labels Leaf = Bottom ∷ []
-term_labels (Node f a b) = Symbol f ∷ (term_labels a ++ term_labels b)
-term_labels (Hole i) = Param ∷ []
-
-split-nil : (xs ys : List Term) → xs ++ ys ≡ [] → (xs ≡ []) × (ys ≡ [])
-split-nil [] ys e = (refl, e)
-split-nil (x ∷ xs) ys e = (cc, cc)
-
-labels-mean : (ranks : List ℕ) (fs : List (List Term → Term)) (t : Term) (args : List Term) (ys : List Label) (rest : List Term) → holes_of t ≡ []
-    → meanings term_algebra ranks fs args (term_labels t ++ ys) rest ≡ t ∷ meanings term_algebra ranks fs args ys rest
-labels-mean ranks fs Leaf args ys rest e = refl
-labels-mean ranks fs (Node f a b) args ys rest e =
-    let h = split-nil (holes_of a) (holes_of b) e in
-    let all : meanings term_algebra ranks fs args ((term_labels a ++ term_labels b) ++ ys) rest ≡ a ∷ b ∷ meanings term_algebra ranks fs args ys rest =
-    ap (λ ls. meanings term_algebra ranks fs args ls rest) (append_assoc (term_labels a) (term_labels b) ys)
-    ∙ labels-mean ranks fs a args (term_labels b ++ ys) rest h.0 ∙ ap (λ ms. a ∷ ms) (labels-mean ranks fs b args ys rest h.1) in
-    ap (λ (ms : List Term). apply term_algebra fs (Symbol f) (take 2 ms) ∷ drop 2 ms) all
-labels-mean ranks fs (Hole i) args ys rest e = cc
 
 module _ (names : List (Kind × List ℕ)) (ranks : List ℕ) (fs : List (List Term → Term)) (arg : Term) where
   -- the labels of a code that ends in a parameter mean it with the argument at its end
@@ -59,3 +42,27 @@ fragment-own names none front c = ap (λ t. substitute t (holes 0 1)) c ∙ sym 
 fragment-own names (more (node k m v ks) F) front c =
     ap (λ t. substitute t (holes 0 1)) c.6 ∙ ap (λ x. Node c.0 x (substitute c.2 (holes 0 1))) (whole-stays c.1 (holes 0 1) (codes-whole names ks c.1 c.4))
     ∙ ap (λ x. Node c.0 c.1 x) (fragment-own names F c.2 c.5) ∙ sym c.6
+
+fragment-hole : (names : List (Kind × List ℕ)) (F : Trees) (front : Term) → CodesTo names (Hole 0) F front → holes_of front ≡ Hole 0 ∷ []
+fragment-hole names none front c = ap holes_of c
+fragment-hole names (more (node k m v ks) F) front c = ap holes_of c.6 ∙ ap (λ hs. hs ++ holes_of c.2) (codes-whole names ks c.1 c.4) ∙ fragment-hole names F c.2 c.5
+
+-- and is the last of its labels
+fragment-last : (names : List (Kind × List ℕ)) (F : Trees) (front : Term) → CodesTo names (Hole 0) F front → EndsInParam (term_labels front)
+fragment-last names none front c = record { front = []; is = ap term_labels c }
+fragment-last names (more (node k m v ks) F) front c =
+    let r = fragment-last names F c.2 c.5 in
+    record {
+      front = Symbol c.0 ∷ (term_labels c.1 ++ r.front);
+      is = ap term_labels c.6 ∙ ap (λ ls. Symbol c.0 ∷ (term_labels c.1 ++ ls)) r.is ∙ ap (λ ls. Symbol c.0 ∷ ls) (sym (append_assoc (term_labels c.1) r.front (Param ∷ [])));
+    }
+
+-- its labels are a body that may come around any term
+pub fragment-body : (names : List (Kind × List ℕ)) (F : Trees) (front : Term) → CodesTo names (Hole 0) F front → IsBodyOf front (term_labels front)
+fragment-body names F front c = record {
+  plain = labels-calls 0 front;
+  term = λ ranks. labels-term ranks front;
+  linear = labels-params front ∙ ap length (fragment-hole names F front c);
+  last = fragment-last names F front c;
+  means = λ ranks fs. fragment-means names ranks fs (Hole 0) F front c ∙ fragment-own names F front c;
+}

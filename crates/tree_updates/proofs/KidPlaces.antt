@@ -182,7 +182,7 @@ reached-attributes (more (node Attribute m v ks) ts) =
     let e : 2 * node_count_all ks + 2 + attribute_places ts ≡ suc (places ks + attribute_places ts) = omega arith in
     ap (λ (i : ℕ). reached places i (more (node Attribute m v ks) ts)) e ∙ reached-later none Attribute m v ks ts (attribute_places ts) ∙ reached-attributes ts
 
-attribute-low : (ks : Trees) → attribute_places ks < places ks
+pub attribute-low : (ks : Trees) → attribute_places ks < places ks
 attribute-low none = omega arith
 attribute-low (more (node Document m v ks) ts) = omega arith
 attribute-low (more (node Element m v ks) ts) = omega arith
@@ -208,6 +208,12 @@ module _ (names : List (Kind × List ℕ)) (ts : Trees) (C this : Term) (once : 
 
   -- node n, whose place is q, begins here
   module _ (n : ℕ) (low : n < node_count_all ts) (q : ℕ) (k : Kind) (m v : List ℕ) (ks us : Trees) (here : from_node n ts ≡ more (node k m v ks) us) (placed_there : slice_get (placed 0 ts) n ≡ Some (q, node k m v ks)) where
+    -- no more than a bottom stands behind its kids
+    pub end-leaf : hole_at all_weight C ≡ q + 1 + 2 * node_count_all ks → this ≡ Leaf
+    end-leaf at =
+        let r = kid-place none n ts low 0 q (node k m v ks) placed_there (2 * node_count_all ks) (omega arith) (hole_at all_weight C) (omega (arith, at)) in
+        subst (λ us. Codes names us this) (r.1 ∙ reached-end ks) place-there.codes
+
     -- what stands at the bottom behind its kids comes behind its last kid
     pub code-appended : hole_at all_weight C ≡ q + 1 + 2 * node_count_all ks → this ≡ Leaf → (F : Trees) (front : Term) → CodesTo names (Hole 0) F front
         → Codes names (appended more F n ts) (substitute C (substitute front (Leaf ∷ []) ∷ []))

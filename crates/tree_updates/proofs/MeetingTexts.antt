@@ -112,7 +112,7 @@ module _ (t : Tree) (d : IsDocument t) where
             right_is = told.0 ∙ ap (λ s. suc a + node_count s) same-here;
           }
 
-text-told : (k : Option Kind) → is_text k ≡ true → k ≡ Some Text
+pub text-told : (k : Option Kind) → is_text k ≡ true → k ≡ Some Text
 text-told None e = absurd (true≢false (sym e))
 text-told (Some Text) e = refl
 text-told (Some Document) e = absurd (true≢false (sym e))

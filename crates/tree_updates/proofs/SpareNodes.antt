@@ -56,7 +56,7 @@ module _ (t : Tree) (d : IsDocument t) (n : ℕ) (low : n < node_count t) (kind 
   pub there : (p : Place) × (place_at t n ≡ Some p)
   there = has-place n (more t none) (omega arith) None none
 
-  its-kind : kind_of there.0.here ≡ kind
+  pub its-kind : kind_of there.0.here ≡ kind
   its-kind =
       let A = at t d.lawful n low in
       let same : kind_of A.here ≡ kind_of there.0.here = first-kind A.here there.0.here A.behind there.0.behind (sym A.from_is ∙ place-from None none n (more t none) there.0 there.1) in

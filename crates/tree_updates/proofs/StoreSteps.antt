@@ -29,7 +29,8 @@ use Rattle.segment_counts.specs.Weights.{node_weight, all_weight}
 use Rattle.preorder_address.specs.TreeNumbers.{placed as placed_nodes, end_at, attribute_places, kids_of, after_attributes_at}
 use Rattle.preorder_address.proofs.TreePlaces.{get-right, length-placed}
 use Rattle.tree_updates.specs.Differences.{DifferThere}
-use Rattle.tree_updates.proofs.Attributes.{AreOtherAttributes, front_attributes, attr-old, texts-attribute}
+use Rattle.tree_updates.specs.ElementAttributes.{AreOtherAttributes}
+use Rattle.tree_updates.proofs.Attributes.{front_attributes, attr-old, texts-attribute}
 use Rattle.tree_updates.proofs.CodeEdits.{code-kept}
 use Rattle.tree_updates.proofs.KidPlaces.{HasNoAttribute}
 use Rattle.tree_updates.proofs.Stands.{stands-placed, stands-deleted, stands-named, stands-inserted, stands-copied, stands-valued, stands-appended, stands-attribute}
@@ -129,7 +130,7 @@ module _ (n : ℕ) (t : Tree) (a : NodeOf n t) where
   abbrev this-node : Tree
   this-node = node a.kind a.name a.content a.kids
 
-  place-of : (q : ℕ) × (slice_get (placed_nodes 0 (more t none)) n ≡ Some (q, this-node))
+  pub place-of : (q : ℕ) × (slice_get (placed_nodes 0 (more t none)) n ≡ Some (q, this-node))
   place-of =
       let r = place-there n (more t none) low 0 in
       (r.0, r.3 ∙ ap (λ x. Some (r.0, x)) (first-is r.1 this-node r.2 a.behind (sym r.4 ∙ a.here)))
@@ -153,7 +154,7 @@ module _ (n : ℕ) (t : Tree) (a : NodeOf n t) where
     kids-size : node_count_all a.kids ≡ c + node_count_all (more (node Attribute x o.content o.below) o.behind)
     kids-size = ap node_count_all o.is ∙ count-chained o.before (more (node Attribute x o.content o.below) o.behind)
 
-    attribute-here : from_node (n + suc c) (more t none) ≡ more (node Attribute x o.content o.below) o.behind
+    pub attribute-here : from_node (n + suc c) (more t none) ≡ more (node Attribute x o.content o.below) o.behind
     attribute-here =
         from-deeper n (more t none) low c (rw a.here (omega (arith, kids-size))) ∙ ap (from_node (suc c)) a.here ∙ from-inside a.kind a.name a.content a.kids a.behind c (omega (arith, kids-size))
         ∙ ap (from_node c) o.is ∙ from-end o.before (more (node Attribute x o.content o.below) o.behind)
@@ -161,7 +162,7 @@ module _ (n : ℕ) (t : Tree) (a : NodeOf n t) where
     attribute-low : n + suc c < node_count_all (more t none)
     attribute-low = low-at (n + suc c) (more t none) Attribute x o.content o.below o.behind attribute-here
 
-    here-kids : from_node n (more t none) ≡ more (node a.kind a.name a.content (chained more o.before (more (node Attribute x o.content o.below) o.behind))) a.behind
+    pub here-kids : from_node n (more t none) ≡ more (node a.kind a.name a.content (chained more o.before (more (node Attribute x o.content o.below) o.behind))) a.behind
     here-kids = a.here ∙ ap (λ ks. more (node a.kind a.name a.content ks) a.behind) o.is
 
 -- What changes so stands for the edited tree.

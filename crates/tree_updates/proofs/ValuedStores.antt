@@ -112,7 +112,7 @@ module _ (old : Store) (t : Tree) (i : IsStoreFor old t) (n : ℕ) (w : List ℕ
   edit-of : IsEditOf t e
   edit-of = record { document_is = i.stand.document; allowed = allowed; parts = chars }
 
-  stands-after : StandsFor (rules_of old.grammar.rules) old.names (slice_set old.texts.texts rank w) (edited t e)
+  pub stands-after : StandsFor (rules_of old.grammar.rules) old.names (slice_set old.texts.texts rank w) (edited t e)
   stands-after = by_here at.place.here at.from may
     where
       by_here : (s : Tree) → from_node n (more t none) ≡ more s at.place.behind → MayHaveValue w (kind_of s) → StandsFor (rules_of old.grammar.rules) old.names (slice_set old.texts.texts rank w) (edited t e)

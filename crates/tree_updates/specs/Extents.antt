@@ -7,6 +7,8 @@ use Rattle.plain_tree.specs.Lawful.{IsDocument}
 use Rattle.plain_tree.specs.Numbers.{texts}
 use Rattle.plain_tree.specs.Siblings.{from_node}
 use Rattle.plain_tree.specs.Tree.{Tree, node, Trees, none, more, node_count}
+use Rattle.slt_grammar.specs.Coding.{Codes}
+use Rattle.slt_grammar.specs.Grammars.{value}
 use Rattle.slt_grammar.specs.Keyed.{rules_of}
 use Rattle.slt_grammar.specs.Standing.{StandsFor}
 use Rattle.digram_index.specs.Linked.{IsIndexOf}
@@ -28,6 +30,11 @@ pub record IsExtentOf (t : Tree) (n : ℕ) (e : Extent) : Type 0 where
 pub record LeavesDocument (t : Tree) (e : Edit) : Type 0 where
   pub alone : made more e (more t none) ≡ more (placed t e) none
   pub document : IsDocument (placed t e)
+
+-- the store's grammar and names code the document, whatever its texts are
+pub record IsCodedBy (s : Store) (t : Tree) : Type 0 where
+  pub document : IsDocument t
+  pub code : Codes s.names (more t none) (value (rules_of s.grammar.rules))
 
 -- The store's grammar, names and texts stand for the document, and the counts and the index are those of the grammar. Some of its rules may be
 -- called by nobody.

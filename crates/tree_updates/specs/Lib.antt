@@ -1,7 +1,14 @@
 pub mod CallAnswers
+pub mod CodePlaces
 pub mod Differences
+pub mod ElementAttributes
 pub mod Extents
+pub mod FragmentGrowths
+pub mod Growths
+pub mod Fragments
+pub mod Joinings
 pub mod Marked
+pub mod NewAttributes
 pub mod Numbered
 pub mod Stores
 pub mod Ways

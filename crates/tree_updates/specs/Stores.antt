@@ -1,7 +1,7 @@
 -- Stores of documents, and what an edit makes of one.
 use Rattle.std.specs.Prelude.{◌≡◌, ℕ, ◌+◌, ◌*◌, ◌<◌, ◌≤◌, ◌^◌, List, take, Some, Result, MatchResult}
 use Rattle.plain_tree.specs.declared.edit.Edit.{Edit}
-use Rattle.plain_tree.specs.declared.edit.Edit.TheVariants.{Rename, Delete, Value}
+use Rattle.plain_tree.specs.declared.edit.Edit.TheVariants.{Copy}
 use Rattle.plain_tree.specs.Additions.{added, new_pairs}
 use Rattle.plain_tree.specs.Allowed.{IsAllowed}
 use Rattle.plain_tree.specs.Edits.{edited, merged, number_of}
@@ -59,9 +59,7 @@ pub record IsRefused (t : Tree) (e : Edit) (error : EditError) (old new : Store)
 abbrev pub Applies : Tree → Edit → Store → Result (Unit {0}) EditError → Store → Type 0
 Applies t e old result new = MatchResult result (λ _. IsEdited t e old new) (λ error. IsRefused t e error old new)
 
--- the edit brings no node into the document
-abbrev pub BringsNoNode : Edit → Type 0
-BringsNoNode (Rename number name) = Unit {0}
-BringsNoNode (Delete number) = Unit {0}
-BringsNoNode (Value number value) = Unit {0}
-BringsNoNode e = ⊥
+-- the edit is no copy
+abbrev pub IsNoCopy : Edit → Type 0
+IsNoCopy (Copy number) = ⊥
+IsNoCopy e = Unit {0}

@@ -24,16 +24,16 @@ use std::sync::ledger::Ledger;
 
 // A text's place among the texts, and the text.
 #[derive(Drop)]
-struct RankedText<'a> {
-    rank: u64,
-    text: &'a [u8],
+pub(crate) struct RankedText<'a> {
+    pub(crate) rank: u64,
+    pub(crate) text: &'a [u8],
 }
 
-// The place of the text that stands before a node, and what it is with the text behind the node.
+// The place of a text among the texts, and what it is with the text that it meets.
 #[derive(Drop)]
-struct JoinedText {
-    rank: u64,
-    value: Bytes,
+pub(crate) struct JoinedText {
+    pub(crate) rank: u64,
+    pub(crate) value: Bytes,
 }
 
 // Deletes the node with this number, which stands between two texts: the left one gets the value of both, the right one goes, and then the
@@ -83,7 +83,7 @@ fn join_texts<L: Ledger>(
 }
 
 // The first bytes with the second behind them.
-fn joined_bytes(alloc: Global, first: &[u8], second: &[u8]) -> Result<Bytes, AllocError>
+pub(crate) fn joined_bytes(alloc: Global, first: &[u8], second: &[u8]) -> Result<Bytes, AllocError>
     ensures { IfOk result (λ joined. joined ≡ first.now ++ second.now) }
 {
     let mut both = Vec::new(alloc);
@@ -93,7 +93,11 @@ fn joined_bytes(alloc: Global, first: &[u8], second: &[u8]) -> Result<Bytes, All
 }
 
 // The text with this number.
-fn text_of<'a, L: Ledger>(store: &'a Store, number: u64, steps: &mut Steps<L>) -> RankedText<'a>
+pub(crate) fn text_of<'a, L: Ledger>(
+    store: &'a Store,
+    number: u64,
+    steps: &mut Steps<L>,
+) -> RankedText<'a>
     requires store { (t : Tree) × (v : List ℕ) × (us : Trees) × IsStoreFor store.now t × (from_node number (more t none) ≡ more (node Text [] v none) us) }
     ensures rank { (t : Tree) → IsStoreFor store.now t → Some result.rank ≡ text_rank_at t number }
     ensures text { (t : Tree) (v : List ℕ) (us : Trees) → IsStoreFor store.now t → from_node number (more t none) ≡ more (node Text [] v none) us → result.text.now ≡ v }

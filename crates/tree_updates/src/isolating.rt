@@ -1,6 +1,7 @@
 // The node of a spot, made a node of the start's body, and changes there.
 ghost use Rattle.std.specs.Prelude.{◌≡◌, ◌≤◌, ◌+◌, ◌-◌, ◌*◌, ℕ, List, length};
 ghost use Rattle.plain_tree.specs.declared.kind.Kind.{Kind};
+ghost use Rattle.plain_tree.specs.Tree.{Tree};
 ghost use Rattle.slt_grammar.specs.Bodies.{real_nodes};
 ghost use Rattle.slt_grammar.specs.ChangedValues.{start_body};
 ghost use Rattle.slt_grammar.specs.Grammars.{size, value_at};
@@ -9,15 +10,16 @@ ghost use Rattle.slt_grammar.specs.RuleValues.{HaveOtherValues};
 ghost use Rattle.digram_index.specs.Linked.{IsIndexOf};
 ghost use Rattle.path_isolation.specs.Isolations.{DifferInStart, room_along};
 ghost use Rattle.preorder_address.specs.Spots.{IsSpot};
+ghost use Rattle.tree_updates.specs.Fragments.{GetsBefore, IsCodeOf};
 ghost use Rattle.tree_updates.specs.Numbered.{GetsSymbol, IsNodeIsolated, LosesNode};
 ghost use Rattle.tree_updates.specs.Ways.{LeadToNode};
 
 use digram_index::Index;
-use linked_edits::{lift_linked, relabel_linked};
+use linked_edits::{lift_linked, relabel_linked, wrap_linked};
 use path_isolation::isolate_linked;
 use preorder_address::Spot;
 use read_steps::Steps;
-use slt_grammar::{Grammar, Key, Way};
+use slt_grammar::{Body, Grammar, Key, Way};
 use std::sync::ledger::Ledger;
 
 /// In the value the spot's node gives way to what stands in its second child's place. There is room for the nodes of the bodies of the
@@ -111,6 +113,38 @@ pub fn relabel_node<L: Ledger>(
 {
     let at = isolate_node(grammar, index, spot, steps);
     relabel_linked(grammar, index, at, symbol);
+}
+
+/// In the value the spot's node stands in the hole of a code, which comes in its place. There is room for the nodes of the bodies of the
+/// spot's levels behind the first and of the code's body, and for as many links, so it takes no memory. Rules that nobody calls any more stay.
+pub fn wrap_node<L: Ledger>(
+    grammar: &mut Grammar,
+    index: &mut Index,
+    spot: &Spot,
+    body: &Body,
+    steps: &mut Steps<L>,
+)
+    requires spot { (names : List (Kind × List ℕ)) × (number : ℕ) × IsSpot names grammar.old.rules number spot.now }
+    requires body { (names : List (Kind × List ℕ)) × (F : List Tree) × IsCodeOf names F body.now }
+    requires index { IsIndexOf grammar.old index.old }
+    requires room { room_along grammar.old.rules spot.now.levels.items + length body.now ≤ grammar.old.spare_nodes }
+    requires links { room_along grammar.old.rules spot.now.levels.items + length body.now ≤ index.old.spare_links }
+    requires cells { grammar.old.limit ≤ length index.old.cells }
+    ensures value { (names others : List (Kind × List ℕ)) (number : ℕ) (F : List Tree) → IsSpot names grammar.old.rules number spot.now
+        → (C : IsCodeOf others F body.now) → GetsBefore (rules_of grammar.old.rules) (rules_of grammar.new.rules) number C.front }
+    ensures values { HaveOtherValues (length (rules_of grammar.old.rules) - 1) (rules_of grammar.old.rules) (rules_of grammar.new.rules) }
+    ensures size { size (rules_of grammar.new.rules) ≤ 2 * size (rules_of grammar.old.rules) + real_nodes body.now }
+    ensures index { IsIndexOf grammar.new index.new }
+    ensures spare_rules { grammar.new.spare_rules ≡ grammar.old.spare_rules }
+    ensures limit { grammar.new.limit ≡ grammar.old.limit }
+    ensures numbers { index.new.spare_rules ≡ index.old.spare_rules }
+    ensures cells { length index.old.cells ≤ length index.new.cells }
+    ensures steps { steps.new ≤ steps.old }
+{
+    let at = isolate_node(grammar, index, spot, steps);
+    // The call tells what is true of every grammar.
+    let _limit = grammar.limit();
+    wrap_linked(grammar, index, at, body);
 }
 
 // Makes the spot's node a node of the start's body, and answers it. It takes no memory.

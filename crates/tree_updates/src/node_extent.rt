@@ -3,7 +3,7 @@ ghost use Rattle.std.specs.Prelude.{◌≡◌, ◌<◌, ◌≤◌, length, take}
 ghost use Rattle.plain_tree.specs.Numbers.{nodes, values_of};
 ghost use Rattle.plain_tree.specs.Tree.{Tree, node_count};
 ghost use Rattle.preorder_address.specs.Spots.{IsSpot};
-ghost use Rattle.tree_updates.specs.Extents.{IsExtentOf, IsUnsweptFor};
+ghost use Rattle.tree_updates.specs.Extents.{IsCodedBy, IsExtentOf, IsUnsweptFor};
 
 use crate::store::Store;
 use preorder_address::{Spot, extent, text_rank};
@@ -27,7 +27,7 @@ pub(crate) fn extent_of<L: Ledger>(
 ) -> Extent
     requires store { (t : Tree) × IsUnsweptFor store.now t }
     requires spot { IsSpot store.now.names store.now.grammar.rules number spot.now }
-    ensures extent { (t : Tree) → IsUnsweptFor store.now t → IsExtentOf t number result }
+    ensures extent { (t : Tree) → IsCodedBy store.now t → IsExtentOf t number result }
 {
     let rank = spot.text_rank();
     let nodes = spot.extent(&store.grammar, &store.counts, steps) + 1;
@@ -60,7 +60,7 @@ pub(crate) fn located_extent<L: Ledger>(store: &Store, number: u64, steps: &mut 
 // How many texts belong to the nodes before a number, which may be the count of all nodes.
 fn texts_before<L: Ledger>(store: &Store, number: u64, steps: &mut Steps<L>) -> u64
     requires store { (t : Tree) × IsUnsweptFor store.now t × (number ≤ node_count t) }
-    ensures texts { (t : Tree) → IsUnsweptFor store.now t → result ≡ length (values_of (take number (nodes t))) }
+    ensures texts { (t : Tree) → IsCodedBy store.now t → result ≡ length (values_of (take number (nodes t))) }
 {
     // The call tells what is true of every grammar.
     let _limit = store.grammar.limit();

@@ -12,7 +12,7 @@ ghost use Rattle.preorder_address.specs.TreeNumbers.{kind_at};
 ghost use Rattle.tree_updates.specs.Stores.{Applies, IsRefusedFor, IsStoreFor};
 
 use crate::isolating::relabel_node;
-use crate::kid_attributes::has_attribute;
+use crate::kid_attributes::find_attribute;
 use crate::node_spots::spot_at;
 use crate::store::{EditError, Store};
 use crate::sweeping::sweep_uncalled;
@@ -160,6 +160,6 @@ fn is_alone<L: Ledger>(
     let Some(element) = parent else {
         unreachable!()
     };
-    let has = has_attribute(alloc, store, element, symbol, steps)?;
-    Ok(!has)
+    let place = find_attribute(alloc, store, element, name, steps)?;
+    Ok(!place.found)
 }

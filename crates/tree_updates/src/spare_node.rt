@@ -79,7 +79,7 @@ fn is_spare<L: Ledger>(
     Ok(true)
 }
 
-fn is_element(kind: Kind) -> bool
+pub(crate) fn is_element(kind: Kind) -> bool
     ensures { IsTrue result ↔ kind ≡ Element }
 {
     matches!(kind, Kind::Element)

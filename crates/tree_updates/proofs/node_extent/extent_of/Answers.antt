@@ -1,4 +1,5 @@
 use Rattle.std.proofs.Common.{sym, arith}
+use Rattle.tree_updates.proofs.LeavingDocuments.{coded}
 use Rattle.tree_updates.proofs.SpotExtents.{spot-measured, texts-between}
 use Rattle.tree_updates.proofs.node_extent.extent_of.Goals as goal
 
@@ -36,16 +37,16 @@ overflow_sub-result g c =
     omega (
       arith,
       texts-between r.0 c.args.number c.extent-nodes.result c.text_rank-rank.result c.texts_before-end.result m
-          (c.text_rank-rank.ensures a.names a.grammar.rules c.args.number r.0 c.requires.spot code) (c.texts_before-end.ensures.texts r.0 r.1),
+          (c.text_rank-rank.ensures a.names a.grammar.rules c.args.number r.0 c.requires.spot code) (c.texts_before-end.ensures.texts r.0 (coded a r.0 r.1)),
     )
 
 pub returns : goal.returns
 returns g c = record {
   extent = λ t s.
       let a = c.args.store.now in
-      let code = s.stand.code in
+      let code = s.code in
       let rank = c.text_rank-rank.ensures a.names a.grammar.rules c.args.number t c.requires.spot code in
-      let m = spot-measured a.names a.grammar.rules t c.args.number c.extent-nodes.result c.args.spot.now s.stand.document code c.requires.spot
+      let m = spot-measured a.names a.grammar.rules t c.args.number c.extent-nodes.result c.args.spot.now s.document code c.requires.spot
       (c.extent-nodes.ensures.extent a.names c.args.number t c.requires.spot code) in
       record {
         here = m.here;

@@ -5,6 +5,7 @@ use Rattle.slt_grammar.specs.Grammars.{value}
 use Rattle.slt_grammar.specs.Keyed.{rules_of}
 use Rattle.segment_counts.proofs.Coded.{weight-coded}
 use Rattle.preorder_address.proofs.Naming.{total-count}
+use Rattle.tree_updates.proofs.LeavingDocuments.{coded}
 use Rattle.tree_updates.proofs.NodeExtents.{extent-texts, rank-is}
 use Rattle.tree_updates.proofs.Ranks.{rank-told}
 use Rattle.tree_updates.proofs.SpotExtents.{measured}
@@ -44,8 +45,8 @@ overflow_sub-result g c =
     let a = c.args.store.now in
     let r = c.requires.store in
     let m = measured r.0 c.args.number c.unwrap-nodes.result r.1.stand.document r.2 (sym c.unwrap-nodes.ensures ∙ c.extent-told.ensures.extent a.names r.0 r.1.stand.code) in
-    let end = c.texts_before-end.ensures.texts r.0 r.1 ∙ ap (λ (i : ℕ). length (values_of (take (c.args.number + i) (nodes r.0)))) m.many in
-    omega (arith, extent-texts r.0 c.args.number m.low m.here m.behind m.from_is c.texts_before-rank.result c.texts_before-end.result (c.texts_before-rank.ensures.texts r.0 r.1) end)
+    let end = c.texts_before-end.ensures.texts r.0 (coded a r.0 r.1) ∙ ap (λ (i : ℕ). length (values_of (take (c.args.number + i) (nodes r.0)))) m.many in
+    omega (arith, extent-texts r.0 c.args.number m.low m.here m.behind m.from_is c.texts_before-rank.result c.texts_before-end.result (c.texts_before-rank.ensures.texts r.0 (coded a r.0 r.1)) end)
 
 pub returns : goal.returns
 returns g c = record {
@@ -57,8 +58,8 @@ returns g c = record {
       let below : n < node_count r.0 = r.2 in
       let low : n < node_count t = omega (arith, below, weight-coded a.names t v s.stand.code, weight-coded a.names r.0 v r.1.stand.code) in
       let m = measured t n c.unwrap-nodes.result s.stand.document low (sym c.unwrap-nodes.ensures ∙ c.extent-told.ensures.extent a.names t s.stand.code) in
-      let rank = c.texts_before-rank.ensures.texts t s in
-      let end = c.texts_before-end.ensures.texts t s ∙ ap (λ (i : ℕ). length (values_of (take (n + i) (nodes t)))) m.many in
+      let rank = c.texts_before-rank.ensures.texts t (coded a t s) in
+      let end = c.texts_before-end.ensures.texts t (coded a t s) ∙ ap (λ (i : ℕ). length (values_of (take (n + i) (nodes t)))) m.many in
       record {
         here = m.here;
         behind = m.behind;

@@ -1,8 +1,10 @@
 use Rattle.std.proofs.Common.{◌≡◌, ◌≢◌, ℕ, Bool, true, false, Option, Some, ap, sym, ◌∙◌, subst, refl}
 use Rattle.std.specs.Prelude.{IfNone, not, slice_get}
+use Rattle.plain_tree.specs.Siblings.{first_kids, from_node}
 use Rattle.plain_tree.specs.Tree.{none, more}
 use Rattle.plain_tree.specs.declared.kind.Kind.TheVariants.{Attribute}
 use Rattle.tree_updates.proofs.AloneNames.{allowed-free, free-allowed, own-allowed, parent-low, some-parent, unnamed-allowed}
+use Rattle.tree_updates.proofs.AttributeTokens.{place-has}
 use Rattle.tree_updates.proofs.SpareNodes.{unwrap-none, unwrap-some}
 use Rattle.tree_updates.proofs.renaming.is_alone.Goals as goal
 
@@ -28,23 +30,23 @@ unreachable-requires g c =
     some-parent s r.0 r.1 c.args.number r.2 c.args.spot.now c.requires.spot c.in_ok-told.told (c.in_ok-told.ensures.parent s.names (more r.0 none) r.1.stand.code)
     (unwrap-none c.in_ok-told.told (sym c.unwrap_or-parent.ensures ∙ c.in_default-parent.is))
 
-pub has_attribute-requires-clause-store : goal.has_attribute-requires-clause-store
-has_attribute-requires-clause-store g c =
+pub find_attribute-requires : goal.find_attribute-requires
+find_attribute-requires g c =
     let s = c.args.store.now in
     let r = c.requires.store in
     let parent = sym (unwrap-some c.in_ok-told.told c.in-Some-parent.element (sym c.unwrap_or-parent.ensures ∙ c.in-Some-parent.is)) ∙ c.in_ok-told.ensures.parent s.names (more r.0 none) r.1.stand.code in
-    (r.0, r.1, parent-low s r.0 r.1 c.args.number r.2 c.args.spot.now c.requires.spot c.in-Some-parent.element parent)
+    record { store = (r.0, r.1, parent-low s r.0 r.1 c.args.number r.2 c.args.spot.now c.requires.spot c.in-Some-parent.element parent) }
 
 pub returns : goal.returns
 returns g c = λ t i told.
     let s = c.args.store.now in
     let x = c.args.name.now in
-    let has : Bool = c.in_ok-has.has in
+    let has : Bool = c.in_ok-place.place.found in
     let element : ℕ = c.in-Some-parent.element in
     let pair = c.in-Some.ensures.some in
     let parent = sym (unwrap-some c.in_ok-told.told element (sym c.unwrap_or-parent.ensures ∙ c.in-Some-parent.is)) ∙ c.in_ok-told.ensures.parent s.names (more t none) i.stand.code in
     let apart = λ (e : c.args.spot.now.symbol ≡ c.in-Some.symbol). c.if-symbol.false (c.symbol.ensures ∙ e) in
-    let tells = c.in_ok-has.ensures t x i pair in (
+    let tells = place-has x (first_kids (from_node element (more t none))) c.in_ok-place.place (c.in_ok-place.ensures t i) in (
       λ h. free-allowed s t i c.args.number told c.args.spot.now c.requires.spot x c.in-Some.symbol pair apart element parent has tells (not-true has h),
       λ a. ap not (allowed-free s t i c.args.number told c.args.spot.now c.requires.spot x c.in-Some.symbol pair apart element parent has tells a),
     )

@@ -1,0 +1,62 @@
+use Rattle.std.proofs.Common.{arith}
+use Rattle.plain_tree.specs.declared.edit.Edit.TheVariants.{Attr}
+use Rattle.plain_tree.specs.EditLaws.{IsEditOf}
+use Rattle.tree_updates.proofs.AttributePlaces.{before-low}
+use Rattle.tree_updates.proofs.NodeExtents.{spot-low}
+use Rattle.tree_updates.proofs.OldAttributes.{attribute-applies}
+use Rattle.tree_updates.proofs.attribute_setting.set_attribute.Goals as goal
+
+pub find_attribute-requires : goal.find_attribute-requires
+find_attribute-requires g c =
+    let s = c.args.store.now in
+    let r = c.requires.store in
+    record { store = (r.0, r.1, spot-low s.names s.grammar.rules r.0 c.args.number c.in_ok-spot.spot r.1.stand.code c.in_ok-spot.ensures.spot) }
+
+pub overflow_add-number : goal.overflow_add-number
+overflow_add-number g c =
+    let s = c.args.store.now in
+    let r = c.requires.store in
+    omega (arith, spot-low s.names s.grammar.rules r.0 c.args.number c.in_ok-spot.spot r.1.stand.code c.in_ok-spot.ensures.spot, r.1.small)
+
+pub overflow_add-number-then-place : goal.overflow_add-number-then-place
+overflow_add-number-then-place g c =
+    let r = c.requires.store in
+    let x = c.args.name.now in
+    let w = c.args.value.now in
+    let edit : IsEditOf r.0 (Attr c.args.number x w) = record { document_is = r.1.stand.document; allowed = c.in_ok-spot.ensures.answer r.0 x w r.1; parts = (c.requires.name, c.requires.chars) } in
+    omega (arith, before-low r.0 c.args.number x w edit c.in_ok-place.place (c.in_ok-place.ensures r.0 r.1), r.1.small)
+
+pub returns-then-place : goal.returns-then-place
+returns-then-place g c = record {
+  applies = λ t i.
+      let s = c.args.store.now in
+      let x = c.args.name.now in
+      let w = c.args.value.now in
+      let edit : IsEditOf t (Attr c.args.number x w) = record { document_is = i.stand.document; allowed = c.in_ok-spot.ensures.answer t x w i; parts = (c.requires.name, c.requires.chars) } in
+      attribute-applies s t i c.args.number x w edit c.in_ok-place.place (c.in_ok-place.ensures t i) c.if-place.true c.set_value.result c.set_value.new.store (c.set_value.ensures.applies t i);
+}
+
+pub attribute_site-site-requires-clause-store : goal.attribute_site-site-requires-clause-store
+attribute_site-site-requires-clause-store g c =
+    let r = c.requires.store in
+    let x = c.args.name.now in
+    let w = c.args.value.now in
+    let edit : IsEditOf r.0 (Attr c.args.number x w) = record { document_is = r.1.stand.document; allowed = c.in_ok-spot.ensures.answer r.0 x w r.1; parts = (c.requires.name, c.requires.chars) } in
+    (r.0, w, r.1, edit, c.in_ok-place.ensures r.0 r.1)
+
+pub add_attribute-requires : goal.add_attribute-requires
+add_attribute-requires g c =
+    let r = c.requires.store in
+    let x = c.args.name.now in
+    let w = c.args.value.now in
+    let edit : IsEditOf r.0 (Attr c.args.number x w) = record { document_is = r.1.stand.document; allowed = c.in_ok-spot.ensures.answer r.0 x w r.1; parts = (c.requires.name, c.requires.chars) } in
+    record { store = (r.0, c.args.number, r.1, edit, c.attribute_site-site.ensures r.0 w r.1 edit (c.in_ok-place.ensures r.0 r.1)) }
+
+pub returns : goal.returns
+returns g c = record {
+  applies = λ t i.
+      let x = c.args.name.now in
+      let w = c.args.value.now in
+      let edit : IsEditOf t (Attr c.args.number x w) = record { document_is = i.stand.document; allowed = c.in_ok-spot.ensures.answer t x w i; parts = (c.requires.name, c.requires.chars) } in
+      c.add_attribute.ensures.applies t c.args.number i edit (c.attribute_site-site.ensures t w i edit (c.in_ok-place.ensures t i));
+}

@@ -1,0 +1,12 @@
+use Rattle.std.proofs.Common.{arith}
+use Rattle.tree_updates.proofs.InsertedEdits.{fits-told}
+use Rattle.tree_updates.proofs.StoreLemmas.{total-is}
+use Rattle.tree_updates.proofs.inserting.fits.Goals as goal
+
+pub overflow_sub-most : goal.overflow_sub-most
+overflow_sub-most c =
+    let r = c.requires.store in
+    omega (arith, c.total.ensures.kept, total-is c.args.store.now r.0 r.1 c.limit-limit.ensures.keyed.grammar, r.1.small)
+
+pub returns : goal.returns
+returns c = fits-told c.args.store.now c.args.fragment.now c.args.seams c.limit-limit.ensures.keyed.grammar c.total.result c.total.ensures.kept c.ends.result c.ends-2.result c.ends.ensures c.ends-2.ensures c.are_few.result c.are_few.ensures

@@ -1,0 +1,45 @@
+use Rattle.std.proofs.Common.{List, sym, ◌∙◌, arith}
+use Rattle.slt_grammar.specs.Keyed.{KeyedRule, rules_of}
+use Rattle.slt_grammar.proofs.KeyedLemmas.{length-rules_of}
+use Rattle.tree_updates.proofs.CodeBodies.{code-last, code-means, code-wrapper}
+use Rattle.tree_updates.proofs.InStart.{others-stay, same-value}
+use Rattle.tree_updates.proofs.WrappedNodes.{gets-before, in-start-rule}
+use Rattle.tree_updates.proofs.isolating.wrap_node.Goals as goal
+
+pub wrap_linked-requires-clause-there : goal.wrap_linked-requires-clause-there
+wrap_linked-requires-clause-there g c =
+    let r = c.requires.spot in
+    in-start-rule c.isolate_node-at.new.grammar.rules r.1 c.isolate_node-at.result (c.isolate_node-at.ensures.node r.0 r.1 r.2)
+
+pub wrap_linked-requires-clause-body : goal.wrap_linked-requires-clause-body
+wrap_linked-requires-clause-body g c = let b = c.requires.body in code-wrapper b.0 b.1 c.args.body.now b.2 (rules_of c.isolate_node-at.new.grammar.rules)
+
+pub wrap_linked-requires-clause-last : goal.wrap_linked-requires-clause-last
+wrap_linked-requires-clause-last g c = let b = c.requires.body in code-last b.0 b.1 c.args.body.now b.2
+
+pub wrap_linked-requires-clause-nodes : goal.wrap_linked-requires-clause-nodes
+wrap_linked-requires-clause-nodes g c = omega (arith, c.requires.room, c.isolate_node-at.ensures.spare_nodes)
+
+pub wrap_linked-requires-clause-links : goal.wrap_linked-requires-clause-links
+wrap_linked-requires-clause-links g c = omega (arith, c.requires.links, c.isolate_node-at.ensures.links)
+
+pub wrap_linked-requires-clause-cells : goal.wrap_linked-requires-clause-cells
+wrap_linked-requires-clause-cells g c = omega (arith, c.requires.cells, c.isolate_node-at.ensures.cells, c.isolate_node-at.ensures.limit)
+
+pub returns-clause-value : goal.returns-clause-value
+returns-clause-value g c = λ names others n F s C.
+    let G : List KeyedRule = c.args.grammar.now.rules in
+    let H : List KeyedRule = c.isolate_node-at.new.grammar.rules in
+    let I = c.isolate_node-at.ensures.node names n s in
+    let v = same-value (rules_of G) (rules_of H) (length-rules_of H ∙ c.isolate_node-at.ensures.others.many ∙ sym (length-rules_of G)) c.isolate_node-at.ensures.values in
+    gets-before G H c.wrap_linked.new.grammar.rules n c.isolate_node-at.result I c.limit-limit.ensures.keyed.grammar v c.args.body.now (c.wrap_linked.ensures.value (in-start-rule H n c.isolate_node-at.result I)) C.front
+    (code-means others F c.args.body.now C (rules_of H))
+
+pub returns-clause-values : goal.returns-clause-values
+returns-clause-values g c =
+    let G : List KeyedRule = c.args.grammar.now.rules in
+    let H : List KeyedRule = c.isolate_node-at.new.grammar.rules in
+    others-stay (rules_of G) (rules_of H) (rules_of c.wrap_linked.new.grammar.rules) (length-rules_of H ∙ c.isolate_node-at.ensures.others.many ∙ sym (length-rules_of G)) c.isolate_node-at.ensures.values c.wrap_linked.ensures.values
+
+pub returns-clause-size : goal.returns-clause-size
+returns-clause-size g c = omega (arith, c.wrap_linked.ensures.size, c.isolate_node-at.ensures.most)

@@ -1,0 +1,94 @@
+// A fragment that comes behind the last kid of a node.
+ghost use Rattle.std.specs.Prelude.{◌≡◌, IfOk, MatchResult};
+ghost use Rattle.plain_tree.specs.declared.edit.Edit.TheVariants.{Append};
+ghost use Rattle.plain_tree.specs.Allowed.{IsAllowed};
+ghost use Rattle.plain_tree.specs.EditLaws.{IsEditOf};
+ghost use Rattle.plain_tree.specs.Edits.{edited, placed};
+ghost use Rattle.plain_tree.specs.Lawful.{IsFragment};
+ghost use Rattle.plain_tree.specs.Tree.{Tree, trees};
+ghost use Rattle.preorder_address.specs.Spots.{IsSpot};
+ghost use Rattle.tree_updates.specs.Stores.{Applies, IsRefusedFor, IsStoreFor};
+
+use crate::appending_joined::{append_joined, meeting_kid};
+use crate::fragment_growing::{end_site, fragment_growth};
+use crate::fragment_kinds::may_stand_under;
+use crate::fragment_nodes::count_nodes;
+use crate::growing::{TOO_MANY, grow};
+use crate::node_spots::spot_at;
+use crate::store::{EditError, Store};
+use plain_tree::Nodes;
+use preorder_address::Spot;
+use read_steps::Steps;
+use std::alloc::Global;
+use std::sync::ledger::Ledger;
+
+/// Puts the fragment behind the last kid of the node with this number, an element or, for comments and instructions alone, the document. Where
+/// that kid and the first of the fragment are texts, they become one. It reads the way to the node, how many nodes and texts are below it, and
+/// how often each rule is called. `EditError` says when it is refused; the document and its rules stay then. It is refused for want of memory
+/// at any time, and some first ones of the fragment's names may be in the table then.
+pub(crate) fn append<L: Ledger>(
+    alloc: Global,
+    store: &mut Store,
+    number: u64,
+    fragment: &Nodes,
+    steps: &mut Steps<L>,
+) -> Result<(), EditError>
+    requires store { (t : Tree) × IsStoreFor store.old t }
+    requires fragment { IsFragment (trees fragment.now) }
+    ensures applies { (t : Tree) → IsStoreFor store.old t → Applies t (Append number fragment.now) store.old result store.new }
+{
+    let spot = host_spot(alloc, store, number, fragment, steps)?;
+    match meeting_kid(store, number, &spot, fragment, steps)? {
+        None => append_apart(alloc, store, number, &spot, fragment, steps),
+        Some(last) => append_joined(alloc, store, number, last, &spot, fragment, steps),
+    }
+}
+
+// The spot of the node with this number, under which the fragment may come to stand.
+fn host_spot<L: Ledger>(
+    alloc: Global,
+    store: &Store,
+    number: u64,
+    fragment: &Nodes,
+    steps: &mut Steps<L>,
+) -> Result<Spot, EditError>
+    requires store { (t : Tree) × IsStoreFor store.now t }
+    ensures spot { IfOk result (IsSpot store.now.names store.now.grammar.rules number) }
+    ensures answer { (t : Tree) → IsStoreFor store.now t → MatchResult result (λ _. IsAllowed t (Append number fragment.now)) (λ error. IsRefusedFor error t (Append number fragment.now)) }
+{
+    let spot = spot_at(alloc, store, number, steps)?;
+    let Some(kind) = spot.kind(&store.names) else {
+        unreachable!()
+    };
+    if !may_stand_under(kind, fragment) {
+        return Err(EditError::NotAllowed { kind });
+    }
+    Ok(spot)
+}
+
+// Puts the fragment behind the last kid of the spot's node, where no texts meet by that. All memory is taken first.
+fn append_apart<L: Ledger>(
+    alloc: Global,
+    store: &mut Store,
+    number: u64,
+    spot: &Spot,
+    fragment: &Nodes,
+    steps: &mut Steps<L>,
+) -> Result<(), EditError>
+    requires store { (t : Tree) × IsStoreFor store.old t × IsEditOf t (Append number fragment.now) }
+    requires spot { IsSpot store.old.names store.old.grammar.rules number spot.now }
+    ensures applies { (t : Tree) → IsStoreFor store.old t → IsEditOf t (Append number fragment.now) → edited t (Append number fragment.now) ≡ placed t (Append number fragment.now)
+        → Applies t (Append number fragment.now) store.old result store.new }
+{
+    // The call tells what is true of every grammar.
+    let _limit = store.grammar.limit();
+    let nodes = fragment.as_slice();
+    let count = count_nodes(alloc, nodes)?;
+    if count >= TOO_MANY - store.counts.total() {
+        return Err(EditError::TooMany);
+    }
+    let site = end_site(store, number, spot, steps);
+    let growth = fragment_growth(alloc, &mut store.names, site, count, nodes)?;
+    grow(store, growth, steps)?;
+    Ok(())
+}

@@ -1,0 +1,113 @@
+// Places of the code, made nodes of the start's body, and bodies that are put around them.
+ghost use Rattle.std.specs.Prelude.{◌≡◌, ◌<◌, ◌≤◌, ◌+◌, ◌-◌, ◌*◌, ℕ, length};
+ghost use Rattle.slt_grammar.specs.Bodies.{real_nodes};
+ghost use Rattle.slt_grammar.specs.ChangedValues.{start_body};
+ghost use Rattle.slt_grammar.specs.Grammars.{size, value_at};
+ghost use Rattle.slt_grammar.specs.Keyed.{rules_of};
+ghost use Rattle.slt_grammar.specs.RuleValues.{HaveOtherValues};
+ghost use Rattle.slt_grammar.specs.Terms.{Term};
+ghost use Rattle.digram_index.specs.Linked.{IsIndexOf};
+ghost use Rattle.path_isolation.specs.Isolations.{DifferInStart, room_along};
+ghost use Rattle.preorder_address.specs.Numberings.{AreCountsOf};
+ghost use Rattle.preorder_address.specs.Told.{AreTold, told_levels};
+ghost use Rattle.tree_updates.specs.CodePlaces.{ComesAround, IsBodyOf, IsPlaceIsolated, LeadToPlace, levels_to_place, places_in, room_to_place};
+
+use digram_index::Index;
+use linked_edits::wrap_linked;
+use path_isolation::{isolate_linked, nodes_along};
+use preorder_address::{CountedDescent, locate_place};
+use read_steps::Steps;
+use segment_counts::Counts;
+use slt_grammar::{Body, Grammar, Key, Way};
+use std::sync::ledger::Ledger;
+
+// The way to a place, by the counts.
+pub(crate) fn way_to_place<'a>(
+    grammar: &Grammar,
+    counts: &'a Counts,
+    place: u64,
+) -> CountedDescent<'a>
+    requires counts { AreCountsOf (rules_of grammar.now.rules) counts.now }
+    requires low { place < places_in grammar.now.rules }
+    ensures ready { AreTold result.descent.by result.counts.now grammar.now.rules result.descent.next }
+    ensures levels { told_levels result.descent.by result.counts.now grammar.now.rules result.descent.next ≡ levels_to_place grammar.now.rules place }
+{
+    // The call tells what is true of every grammar.
+    let _limit = grammar.limit();
+    let descent = locate_place(counts, place).unwrap();
+    descent.over(counts)
+}
+
+// For how many nodes there has to be room where the label at a place is isolated.
+pub(crate) fn nodes_to_place<L: Ledger>(
+    grammar: &Grammar,
+    counts: &Counts,
+    place: u64,
+    steps: &mut Steps<L>,
+) -> usize
+    requires counts { AreCountsOf (rules_of grammar.now.rules) counts.now }
+    requires low { place < places_in grammar.now.rules }
+    ensures { result ≡ room_to_place grammar.now.rules place }
+{
+    // The call tells what is true of every grammar.
+    let _limit = grammar.limit();
+    let way = way_to_place(grammar, counts, place);
+    nodes_along(grammar, way, steps)
+}
+
+// In the value the label at the place to which a way leads, with all below it, comes into the hole of a body's term. There is room for the
+// nodes of the bodies on the way and for those of the body, and for as many links, so it takes no memory. Rules that nobody calls any more
+// stay.
+pub(crate) fn wrap_place<W: Way, L: Ledger>(
+    grammar: &mut Grammar,
+    index: &mut Index,
+    way: W,
+    body: &Body,
+    steps: &mut Steps<L>,
+)
+    requires ready { W.ready way grammar.old.rules }
+    requires leads { (place : ℕ) × LeadToPlace grammar.old.rules (W.levels way grammar.old.rules) place }
+    requires body { (front : Term) × IsBodyOf front body.now }
+    requires index { IsIndexOf grammar.old index.old }
+    requires room { room_along grammar.old.rules (W.levels way grammar.old.rules) + length body.now ≤ grammar.old.spare_nodes }
+    requires links { room_along grammar.old.rules (W.levels way grammar.old.rules) + length body.now ≤ index.old.spare_links }
+    requires cells { grammar.old.limit ≤ length index.old.cells }
+    ensures value { (place : ℕ) (front : Term) → LeadToPlace grammar.old.rules (W.levels way grammar.old.rules) place → IsBodyOf front body.now
+        → ComesAround (rules_of grammar.old.rules) (rules_of grammar.new.rules) place front }
+    ensures values { HaveOtherValues (length (rules_of grammar.old.rules) - 1) (rules_of grammar.old.rules) (rules_of grammar.new.rules) }
+    ensures most { size (rules_of grammar.new.rules) + real_nodes (start_body (rules_of grammar.old.rules))
+        ≤ 2 * size (rules_of grammar.old.rules) + real_nodes body.now }
+    ensures index { IsIndexOf grammar.new index.new }
+{
+    let at = isolate_place(grammar, index, way, steps);
+    wrap_linked(grammar, index, at, body);
+}
+
+// Makes the label at the place to which a way leads one of the start's body, and answers its node. There is room for the nodes of the bodies
+// on the way, and for as many links, so it takes no memory.
+fn isolate_place<W: Way, L: Ledger>(
+    grammar: &mut Grammar,
+    index: &mut Index,
+    way: W,
+    steps: &mut Steps<L>,
+) -> Key
+    requires ready { W.ready way grammar.old.rules }
+    requires leads { (place : ℕ) × LeadToPlace grammar.old.rules (W.levels way grammar.old.rules) place }
+    requires index { IsIndexOf grammar.old index.old }
+    requires room { room_along grammar.old.rules (W.levels way grammar.old.rules) ≤ grammar.old.spare_nodes }
+    requires links { room_along grammar.old.rules (W.levels way grammar.old.rules) ≤ index.old.spare_links }
+    requires cells { grammar.old.limit ≤ length index.old.cells }
+    ensures isolated { (place : ℕ) → LeadToPlace grammar.old.rules (W.levels way grammar.old.rules) place → IsPlaceIsolated grammar.new.rules place result }
+    ensures others { DifferInStart grammar.old.rules grammar.new.rules }
+    ensures values { (r : ℕ) → value_at (rules_of grammar.new.rules) r ≡ value_at (rules_of grammar.old.rules) r }
+    ensures most { size (rules_of grammar.new.rules) + real_nodes (start_body (rules_of grammar.old.rules)) ≤ 2 * size (rules_of grammar.old.rules) }
+    ensures index { IsIndexOf grammar.new index.new }
+    ensures spare_nodes { grammar.old.spare_nodes ≤ grammar.new.spare_nodes + room_along grammar.old.rules (W.levels way grammar.old.rules) }
+    ensures limit { grammar.new.limit ≡ grammar.old.limit }
+    ensures links { index.old.spare_links ≤ index.new.spare_links + room_along grammar.old.rules (W.levels way grammar.old.rules) }
+    ensures cells { length index.old.cells ≤ length index.new.cells }
+{
+    // The call tells what is true of every grammar.
+    let _limit = grammar.limit();
+    isolate_linked(grammar, index, way, steps)
+}

@@ -1,0 +1,298 @@
+// Nodes that come before a node.
+ghost use Rattle.std.specs.Prelude.{◌≡◌, ◌↔◌, ◌<◌, ◌≤◌, ◌+◌, ◌*◌, ◌^◌, ℕ, List, [], Some, IfOk, IsTrue, OnErr, OnOk, length, true};
+ghost use Rattle.plain_tree.specs.Allowed.{IsAllowed};
+ghost use Rattle.plain_tree.specs.Edits.{edited, placed};
+ghost use Rattle.plain_tree.specs.InTurn.{in_turn, insert_any};
+ghost use Rattle.plain_tree.specs.Lawful.{IsFragment};
+ghost use Rattle.plain_tree.specs.Tree.{Tree, trees, node_count, node_count_all};
+ghost use Rattle.plain_tree.specs.declared.edit.Edit.TheVariants.{Insert};
+ghost use Rattle.plain_tree.specs.declared.kind.Kind.{Kind};
+ghost use Rattle.slt_grammar.specs.Bodies.{real_nodes};
+ghost use Rattle.slt_grammar.specs.Grammars.{size};
+ghost use Rattle.slt_grammar.specs.Keyed.{rules_of};
+ghost use Rattle.path_isolation.specs.Isolations.{room_along};
+ghost use Rattle.preorder_address.specs.Spots.{IsSpot};
+ghost use Rattle.tree_updates.specs.Extents.{IsUnsweptFor};
+ghost use Rattle.tree_updates.specs.Fragments.{IsCodeOf, MayComeBefore};
+ghost use Rattle.tree_updates.specs.Joinings.{AreApart, MayInsert, MayJoin, back_value, ends, front_value, joined_edits, valued_texts};
+ghost use Rattle.tree_updates.specs.Stores.{Applies, IsStoreFor};
+
+use crate::finding_seams::find_seams;
+use crate::fragment_code::encode_in;
+use crate::fragment_counts::are_few;
+use crate::fragment_spots::spot_beside;
+use crate::isolating::wrap_node;
+use crate::joining::{Joined, Seams, ends, join_ends};
+use crate::joining_three::join_three;
+use crate::room::reserve_room;
+use crate::store::{EditError, Store};
+use crate::sweeping::sweep;
+use fcns_encoding::Coded;
+use path_isolation::nodes_along;
+use plain_tree::{Bytes, Nodes};
+use preorder_address::Spot;
+use read_steps::Steps;
+use slt_grammar::Label;
+use std::alloc::{AllocError, Global};
+use std::sync::ledger::Ledger;
+use text_list::TextList;
+
+// No document has more nodes.
+const MOST_NODES: u64 = (1 << 63) - 1;
+
+/// Puts the fragment's nodes before the node with this number, among its siblings. A text that comes to stand beside a text becomes one with
+/// it. It is refused where there is no such node, where the node is the document or an attribute, where it stands under the document and the
+/// fragment has a text or an element, where the document would have more than 2^63 - 1 nodes, and for want of memory: all of that is asked for
+/// before the first change of the grammar, and names may be in the table then.
+pub(crate) fn insert<L: Ledger>(
+    alloc: Global,
+    store: &mut Store,
+    number: u64,
+    fragment: &Nodes,
+    steps: &mut Steps<L>,
+) -> Result<(), EditError>
+    requires store { (t : Tree) × IsStoreFor store.old t }
+    requires fragment { IsFragment (trees fragment.now) }
+    ensures applies { (t : Tree) → IsStoreFor store.old t → Applies t (Insert number fragment.now) store.old result store.new }
+{
+    // The call tells what is true of every grammar.
+    let _limit = store.grammar.limit();
+    let spot = spot_beside(alloc, store, number, fragment, steps)?;
+    let seams = find_seams(store, number, &spot, fragment, steps);
+    if !fits(alloc, store, fragment, seams)? {
+        return Err(EditError::TooMany);
+    }
+    let rank = spot.text_rank();
+    let coded = encode_in(alloc, store, fragment)?;
+    put_fragment(alloc, store, number, &spot, rank, seams, coded, steps)?;
+    Ok(())
+}
+
+// Whether the document has no more than 2^63 - 1 nodes with those of the fragment, where each seam takes one.
+fn fits(alloc: Global, store: &Store, fragment: &Nodes, seams: Seams) -> Result<bool, AllocError>
+    requires store { (t : Tree) × IsStoreFor store.now t }
+    ensures { IfOk result (λ fits. (t : Tree) → IsStoreFor store.now t
+        → (IsTrue fits ↔ node_count t + node_count_all (trees fragment.now) < 2 ^ 63 + (ends seams.front 1 + ends seams.back 1))) }
+{
+    // The call tells what is true of every grammar.
+    let _limit = store.grammar.limit();
+    let merged = ends(seams.front, 1) + ends(seams.back, 1);
+    let most = MOST_NODES - store.counts.total() + merged as u64;
+    are_few(alloc, fragment, most)
+}
+
+// Puts a code with its texts before the spot's node, where texts that meet become one. All memory is taken before the first change of the grammar.
+fn put_fragment<L: Ledger>(
+    alloc: Global,
+    store: &mut Store,
+    number: u64,
+    spot: &Spot,
+    rank: u64,
+    seams: Seams,
+    coded: Coded,
+    steps: &mut Steps<L>,
+) -> Result<(), AllocError>
+    requires comes { (t : Tree) × (F : List Tree) × IsStoreFor store.old t × MayInsert store.old t number rank seams F coded }
+    requires spot { (names : List (Kind × List ℕ)) × IsSpot names store.old.grammar.rules number spot.now }
+    ensures store { OnOk result ((t : Tree) (F : List Tree) → IsStoreFor store.old t → MayInsert store.old t number rank seams F coded → IsStoreFor store.new (edited t (Insert number F))) }
+    ensures kept { OnErr result ((t : Tree) → IsStoreFor store.old t → IsStoreFor store.new t) }
+    ensures rules { OnErr result (store.new.grammar.rules ≡ store.old.grammar.rules) }
+    ensures texts { OnErr result (store.new.texts.texts ≡ store.old.texts.texts) }
+    ensures names { store.new.names ≡ store.old.names }
+    ensures size { OnOk result (size (rules_of store.new.grammar.rules) ≤ 2 * size (rules_of store.old.grammar.rules) + real_nodes coded.body) }
+{
+    if is_one_between(seams, coded.body.len()) {
+        return join_three(alloc, store, number, rank, &coded.texts, steps);
+    }
+    place_coded(alloc, store, number, spot, rank, seams, coded, steps)
+}
+
+// Whether a code of so many labels has one node, which meets texts on both sides.
+fn is_one_between(seams: Seams, labels: usize) -> bool
+    ensures { IsTrue result ↔ ((seams.front ≡ true) × ((seams.back ≡ true) × (labels ≡ 3))) }
+{
+    seams.front && seams.back && labels == 3
+}
+
+// Puts a code with its texts before the spot's node, where texts that meet become one, and the code is not one text that meets two. All memory is
+// taken before the first change of the grammar.
+fn place_coded<L: Ledger>(
+    alloc: Global,
+    store: &mut Store,
+    number: u64,
+    spot: &Spot,
+    rank: u64,
+    seams: Seams,
+    coded: Coded,
+    steps: &mut Steps<L>,
+) -> Result<(), AllocError>
+    requires comes { (t : Tree) × (F : List Tree) × IsStoreFor store.old t × MayInsert store.old t number rank seams F coded × AreApart (front_value t number F) (back_value t number F) F }
+    requires spot { (names : List (Kind × List ℕ)) × IsSpot names store.old.grammar.rules number spot.now }
+    ensures store { OnOk result ((t : Tree) (F : List Tree) → IsStoreFor store.old t → MayInsert store.old t number rank seams F coded → AreApart (front_value t number F) (back_value t number F) F
+        → IsStoreFor store.new (edited t (Insert number F))) }
+    ensures kept { OnErr result ((t : Tree) → IsStoreFor store.old t → IsStoreFor store.new t) }
+    ensures rules { OnErr result (store.new.grammar.rules ≡ store.old.grammar.rules) }
+    ensures texts { OnErr result (store.new.texts.texts ≡ store.old.texts.texts) }
+    ensures names { store.new.names ≡ store.old.names }
+    ensures size { OnOk result (size (rules_of store.new.grammar.rules) ≤ 2 * size (rules_of store.old.grammar.rules) + real_nodes coded.body) }
+{
+    let joined = join_ends(alloc, &store.texts, rank, seams, coded)?;
+    place(store, number, spot, rank, joined, steps)
+}
+
+// Gives texts that meet the joined values, and puts the code of the other trees with its texts before the spot's node. All memory is taken first.
+fn place<L: Ledger>(
+    store: &mut Store,
+    number: u64,
+    spot: &Spot,
+    rank: u64,
+    joined: Joined,
+    steps: &mut Steps<L>,
+) -> Result<(), AllocError>
+    requires comes { (t : Tree) × (F : List Tree) × IsStoreFor store.old t × MayJoin store.old t number rank F joined }
+    requires spot { (names : List (Kind × List ℕ)) × IsSpot names store.old.grammar.rules number spot.now }
+    ensures store { OnOk result ((t : Tree) (F : List Tree) → IsStoreFor store.old t → MayJoin store.old t number rank F joined → IsStoreFor store.new (in_turn t (joined_edits number joined.front joined.back F))) }
+    ensures kept { OnErr result ((t : Tree) → IsStoreFor store.old t → IsStoreFor store.new t) }
+    ensures rules { OnErr result (store.new.grammar.rules ≡ store.old.grammar.rules) }
+    ensures texts { OnErr result (store.new.texts.texts ≡ store.old.texts.texts) }
+    ensures names { store.new.names ≡ store.old.names }
+    ensures size { OnOk result (size (rules_of store.new.grammar.rules) ≤ 2 * size (rules_of store.old.grammar.rules) + real_nodes joined.rest.body) }
+{
+    reserve_code(store, spot, &joined.rest, steps)?;
+    put_joined(store, number, spot, rank, joined, steps);
+    sweep(store);
+    Ok(())
+}
+
+// Makes room for isolating the spot's node, and for a code with its texts and two texts more. The store stays.
+fn reserve_code<L: Ledger>(
+    store: &mut Store,
+    spot: &Spot,
+    coded: &Coded,
+    steps: &mut Steps<L>,
+) -> Result<(), AllocError>
+    requires spot { (names : List (Kind × List ℕ)) × (number : ℕ) × IsSpot names store.old.grammar.rules number spot.now }
+    ensures nodes { OnOk result (room_along store.new.grammar.rules spot.now.levels.items + length coded.now.body ≤ store.new.grammar.spare_nodes) }
+    ensures links { OnOk result (room_along store.new.grammar.rules spot.now.levels.items + length coded.now.body ≤ store.new.index.spare_links) }
+    ensures cells { OnOk result (store.new.grammar.limit ≤ length store.new.index.cells) }
+    ensures rules { store.new.grammar.rules ≡ store.old.grammar.rules }
+    ensures room { OnOk result (length coded.now.texts + 2 ≤ store.new.texts.room) }
+    ensures texts { store.new.texts.texts ≡ store.old.texts.texts }
+    ensures names { store.new.names ≡ store.old.names }
+    ensures store { (t : Tree) → IsStoreFor store.old t → IsStoreFor store.new t }
+{
+    // The call tells what is true of every grammar.
+    let _limit = store.grammar.limit();
+    let nodes = nodes_along(&store.grammar, spot.way(), steps);
+    reserve_room(store, with_labels(nodes, coded.body.as_slice()))?;
+    store
+        .texts
+        .reserve((coded.texts.len() as u64).saturating_add(2))
+}
+
+// So many nodes and one for each label.
+fn with_labels(nodes: usize, labels: &[Label]) -> usize
+    requires { nodes < 2 ^ 63 }
+    ensures value { result ≡ nodes + length labels.now }
+    ensures few { result + 1 < 2 ^ 64 }
+{
+    nodes + labels.len()
+}
+
+// Gives texts that meet the joined values, and puts the code of the other trees with its texts before the spot's node. Rules that nobody calls any
+// more stay. There is room for the nodes of the bodies of the spot's levels behind the first and of the code's body, for as many links, and for the
+// texts and two more, so it takes no memory.
+fn put_joined<L: Ledger>(
+    store: &mut Store,
+    number: u64,
+    spot: &Spot,
+    rank: u64,
+    joined: Joined,
+    steps: &mut Steps<L>,
+)
+    requires comes { (t : Tree) × (F : List Tree) × IsUnsweptFor store.old t × MayJoin store.old t number rank F joined }
+    requires spot { (names : List (Kind × List ℕ)) × IsSpot names store.old.grammar.rules number spot.now }
+    requires room { room_along store.old.grammar.rules spot.now.levels.items + length joined.rest.body ≤ store.old.grammar.spare_nodes }
+    requires links { room_along store.old.grammar.rules spot.now.levels.items + length joined.rest.body ≤ store.old.index.spare_links }
+    requires cells { store.old.grammar.limit ≤ length store.old.index.cells }
+    requires texts { length joined.rest.texts + 2 ≤ store.old.texts.room }
+    ensures store { (t : Tree) (F : List Tree) → IsUnsweptFor store.old t → MayJoin store.old t number rank F joined → IsUnsweptFor store.new (in_turn t (joined_edits number joined.front joined.back F)) }
+    ensures names { store.new.names ≡ store.old.names }
+    ensures size { size (rules_of store.new.grammar.rules) ≤ 2 * size (rules_of store.old.grammar.rules) + real_nodes joined.rest.body }
+{
+    let Joined { front, back, rest } = joined;
+    set_text(&mut store.texts, rank.saturating_sub(1), front);
+    set_text(&mut store.texts, rank, back);
+    put_rest(store, number, spot, rank, rest, steps);
+}
+
+// The text at a place gets this value, if there is one.
+fn set_text(texts: &mut TextList, place: u64, value: Option<Bytes>)
+    requires place { (w : List ℕ) → value ≡ Some w → place < length texts.old.texts }
+    requires room { 0 < texts.old.room }
+    ensures texts { texts.new.texts ≡ valued_texts texts.old.texts place value }
+    ensures room { texts.old.room ≤ texts.new.room + 1 }
+{
+    if let Some(text) = value {
+        texts.set(place, text);
+    }
+}
+
+// Puts the code of trees, if there are any, with its texts before the spot's node, as `put_before` does.
+fn put_rest<L: Ledger>(
+    store: &mut Store,
+    number: u64,
+    spot: &Spot,
+    rank: u64,
+    rest: Coded,
+    steps: &mut Steps<L>,
+)
+    requires comes { (t : Tree) × (F : List Tree) × IsUnsweptFor store.old t × IsCodeOf store.old.names F rest.body × ((F ≡ [] → ⊥) → MayComeBefore store.old t number rank F rest) }
+    requires spot { (names : List (Kind × List ℕ)) × IsSpot names store.old.grammar.rules number spot.now }
+    requires room { room_along store.old.grammar.rules spot.now.levels.items + length rest.body ≤ store.old.grammar.spare_nodes }
+    requires links { room_along store.old.grammar.rules spot.now.levels.items + length rest.body ≤ store.old.index.spare_links }
+    requires cells { store.old.grammar.limit ≤ length store.old.index.cells }
+    requires texts { length rest.texts ≤ store.old.texts.room }
+    ensures store { (t : Tree) (F : List Tree) → IsUnsweptFor store.old t → IsCodeOf store.old.names F rest.body → ((F ≡ [] → ⊥) → MayComeBefore store.old t number rank F rest)
+        → IsUnsweptFor store.new (in_turn t (insert_any number F)) }
+    ensures names { store.new.names ≡ store.old.names }
+    ensures size { size (rules_of store.new.grammar.rules) ≤ 2 * size (rules_of store.old.grammar.rules) + real_nodes rest.body }
+{
+    if rest.body.len() == 1 {
+        return;
+    }
+    put_before(store, number, spot, rank, rest, steps);
+}
+
+// Puts a code with its texts before the spot's node. Texts that meet by it stay two, and rules that nobody calls any more stay. There is room
+// for the nodes of the bodies of the spot's levels behind the first and of the code's body, for as many links, and for the texts, so it takes no
+// memory.
+fn put_before<L: Ledger>(
+    store: &mut Store,
+    number: u64,
+    spot: &Spot,
+    rank: u64,
+    coded: Coded,
+    steps: &mut Steps<L>,
+)
+    requires comes { (t : Tree) × (F : List Tree) × IsUnsweptFor store.old t × MayComeBefore store.old t number rank F coded }
+    requires spot { (names : List (Kind × List ℕ)) × IsSpot names store.old.grammar.rules number spot.now }
+    requires room { room_along store.old.grammar.rules spot.now.levels.items + length coded.body ≤ store.old.grammar.spare_nodes }
+    requires links { room_along store.old.grammar.rules spot.now.levels.items + length coded.body ≤ store.old.index.spare_links }
+    requires cells { store.old.grammar.limit ≤ length store.old.index.cells }
+    requires texts { length coded.texts ≤ store.old.texts.room }
+    ensures store { (t : Tree) (F : List Tree) → IsUnsweptFor store.old t → MayComeBefore store.old t number rank F coded → IsUnsweptFor store.new (placed t (Insert number F)) }
+    ensures names { store.new.names ≡ store.old.names }
+    ensures size { size (rules_of store.new.grammar.rules) ≤ 2 * size (rules_of store.old.grammar.rules) + real_nodes coded.body }
+{
+    // The calls tell what is true of every grammar, and how few texts there are.
+    let _limit = store.grammar.limit();
+    let Coded { body, texts } = coded;
+    wrap_node(&mut store.grammar, &mut store.index, spot, &body, steps);
+    let before = store.texts.len();
+    store.texts.insert(rank, texts).unwrap();
+    let after = store.texts.len();
+    store
+        .counts
+        .raise_start((body.len() / 2) as u64, after - before);
+}

@@ -1,0 +1,68 @@
+// A text that comes between two texts.
+ghost use Rattle.std.specs.Prelude.{◌≡◌, ◌≤◌, ◌*◌, ◌++◌, List, IfOk, OnErr, OnOk};
+ghost use Rattle.plain_tree.specs.Edits.{edited};
+ghost use Rattle.plain_tree.specs.Tree.{Tree};
+ghost use Rattle.plain_tree.specs.declared.edit.Edit.TheVariants.{Insert};
+ghost use Rattle.slt_grammar.specs.Grammars.{size};
+ghost use Rattle.slt_grammar.specs.Keyed.{rules_of};
+ghost use Rattle.tree_updates.specs.Joinings.{MayInsertBetween};
+ghost use Rattle.tree_updates.specs.Stores.{IsStoreFor};
+
+use crate::joining::value_at;
+use crate::located::{nodes_to, take_out_located};
+use crate::room::reserve_room;
+use crate::store::Store;
+use crate::sweeping::sweep;
+use plain_tree::{Bytes, Texts};
+use read_steps::Steps;
+use std::alloc::{AllocError, Global};
+use std::sync::ledger::Ledger;
+
+// Inserts a text, which is the only one of these, between two texts: the one before gets the value of all three, and the node with this number
+// goes. All memory is taken before the first change.
+pub(crate) fn join_three<L: Ledger>(
+    alloc: Global,
+    store: &mut Store,
+    number: u64,
+    rank: u64,
+    added: &Texts,
+    steps: &mut Steps<L>,
+) -> Result<(), AllocError>
+    requires between { (t : Tree) × (F : List Tree) × IsStoreFor store.old t × MayInsertBetween t number rank F added.now }
+    ensures store { OnOk result ((t : Tree) (F : List Tree) → IsStoreFor store.old t → MayInsertBetween t number rank F added.now → IsStoreFor store.new (edited t (Insert number F))) }
+    ensures kept { OnErr result ((t : Tree) → IsStoreFor store.old t → IsStoreFor store.new t) }
+    ensures rules { OnErr result (store.new.grammar.rules ≡ store.old.grammar.rules) }
+    ensures texts { OnErr result (store.new.texts.texts ≡ store.old.texts.texts) }
+    ensures names { store.new.names ≡ store.old.names }
+    ensures size { OnOk result (size (rules_of store.new.grammar.rules) ≤ 2 * size (rules_of store.old.grammar.rules)) }
+{
+    // The call tells what is true of every grammar.
+    let _limit = store.grammar.limit();
+    let before = store.texts.get(rank - 1).unwrap();
+    let text = value_at(added, 0).unwrap();
+    let here = store.texts.get(rank).unwrap();
+    let value = three_bytes(alloc, before, text, here)?;
+    let nodes = nodes_to(store, number, steps);
+    reserve_room(store, nodes)?;
+    store.texts.reserve(1)?;
+    store.texts.set(rank - 1, value);
+    take_out_located(store, number, steps);
+    sweep(store);
+    Ok(())
+}
+
+// The first bytes with the second behind them, and then the third.
+fn three_bytes(
+    alloc: Global,
+    first: &[u8],
+    second: &[u8],
+    third: &[u8],
+) -> Result<Bytes, AllocError>
+    ensures { IfOk result (λ joined. joined ≡ first.now ++ (second.now ++ third.now)) }
+{
+    let mut all = Vec::new(alloc);
+    all.extend_from_slice(first)?;
+    all.extend_from_slice(second)?;
+    all.extend_from_slice(third)?;
+    Bytes::from_slice(alloc, all.as_slice())
+}

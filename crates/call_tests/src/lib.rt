@@ -19,4 +19,6 @@ mod texts;
 #[cfg(test)]
 mod tree;
 #[cfg(test)]
+mod words;
+#[cfg(test)]
 mod xml;

@@ -41,7 +41,7 @@ use Rattle.store_core.specs.declared.answer.Answer.{Answer}
 use Rattle.store_core.specs.declared.answer.Answer.TheVariants as ok
 use Rattle.store_core.specs.declared.answer.Refusal.{Refusal}
 use Rattle.store_core.specs.declared.answer.Refusal.TheVariants as no
-use Rattle.store_core.specs.declared.command.Settings.{Settings}
+use Rattle.store_words.specs.declared.words.Settings.{Settings}
 use Rattle.store_core.proofs.HitLines.{lines-told}
 use Rattle.tree_outside.proofs.Sinks.{GetsFront-first}
 use Rattle.segment_counts.proofs.Coded.{weight-coded}
@@ -59,21 +59,10 @@ asks_ready act query parts old asked held = absurd (cc)
 -- why the text is no query is a cause to refuse the command
 pub query_refused :
     (refusal : Refusal) (act : Act) (query : List ℕ) (parts : Parts) (old new : World) → IsNoQuery refusal query → query_asked act ≡ Some query → parts_in old.state ≡ Some parts → Cause refusal act old new
-query_refused no.NoDocument act query parts old new why asked held = absurd why
-query_refused no.ReadFault act query parts old new why asked held = absurd why
-query_refused no.NoFile act query parts old new why asked held = absurd why
-query_refused no.WriteFault act query parts old new why asked held = absurd why
-query_refused no.LongFile act query parts old new why asked held = absurd why
-query_refused (no.BadXml at) act query parts old new why asked held = absurd why
-query_refused no.BadGrammar act query parts old new why asked held = absurd why
 query_refused no.BadQuery act query parts old new why asked held = (query, asked, asks_ready act query parts old asked held, why)
 query_refused no.LargeQuery act query parts old new why asked held = (query, asked, asks_ready act query parts old asked held, why)
-query_refused no.NoNode act query parts old new why asked held = absurd why
-query_refused no.BadName act query parts old new why asked held = absurd why
-query_refused no.BadValue act query parts old new why asked held = absurd why
-query_refused no.NotAllowed act query parts old new why asked held = absurd why
-query_refused no.TooMany act query parts old new why asked held = absurd why
 query_refused no.Memory act query parts old new why asked held = asks_ready act query parts old asked held
+query_refused refusal act query parts old new why asked held = absurd why
 
 -- what an error of the parser says of the text
 pub query_says : (e : QueryError) (query : List ℕ) → (e ≡ error.Bad → SpellsNoQuery query) → (e ≡ error.Large → SpellsLarge query) → SaysOfQuery e query

@@ -5,19 +5,20 @@ use Rattle.tree_outside.specs.Files.{Told}
 use Rattle.plain_tree.specs.Allowed.{AreLawfulParts as AreLawfulEditParts}
 use Rattle.plain_tree.specs.Edits.{edited, number_of}
 use Rattle.plain_tree.specs.NodePairs.{Pair}
-use Rattle.plain_tree.specs.Tree.{Tree, node_count}
+use Rattle.plain_tree.specs.Tree.{Tree, trees, node_count}
 use Rattle.plain_tree.specs.declared.edit.Edit.{Edit}
 use Rattle.slt_grammar.specs.Grammars.{IsGrammar, size}
 use Rattle.slt_grammar.specs.Keyed.{rules_of}
 use Rattle.slt_grammar.specs.declared.rules.Rule.{Rule}
-use Rattle.tree_updates.specs.Stores.{BringsNoNode, IsEdited, IsRefused, IsStoreFor}
+use Rattle.tree_updates.specs.Stores.{IsEdited, IsRefused, IsStoreFor, IsNoCopy}
 use Rattle.tree_updates.specs.declared.store.EditError.{EditError}
 use Rattle.tree_updates.specs.declared.store.EditError.TheVariants as error
 use Rattle.tree_updates.specs.declared.store.Store.{Store}
+use Rattle.xml_nodes.proofs.Bytes.{spells-fragment}
 use Rattle.xml_profile.proofs.ValueChars.{value_chars}
-use Rattle.store_core.specs.Acts.{Act, Rename, Delete, Value, node_asked}
+use Rattle.store_core.specs.Acts.{Act, Load, LoadGrammar, Save, SaveGrammar, Show, Query, Count, Rename, Insert, Append, Delete, Value, Attr, Repair, file_read, fragment_given, name_given, node_asked, value_given}
 use Rattle.store_core.specs.Editing.{AsksEdit, Edits, IsEdit, IsSettledWhereDue, WantsEdit, one_more}
-use Rattle.store_core.specs.Errors.{IsNoEdit, IsNoValue, refusal_of}
+use Rattle.store_core.specs.Errors.{AsksBelow, GivesNoEdit, IsNoEdit, IsNoFragment, IsNoName, IsNoValue, refusal_of}
 use Rattle.store_core.specs.Machine.{Begins, Does, Refuses}
 use Rattle.store_core.specs.Refusals.{Cause, IsReady}
 use Rattle.store_core.specs.StoreOf.{IsCounted, held_of, parts_of}
@@ -26,7 +27,7 @@ use Rattle.store_core.specs.Worlds.{AreLawfulParts, Held, World, told_files, wit
 use Rattle.store_core.specs.declared.answer.Answer.{Answer}
 use Rattle.store_core.specs.declared.answer.Refusal.{Refusal}
 use Rattle.store_core.specs.declared.answer.Refusal.TheVariants as no
-use Rattle.store_core.specs.declared.command.Settings.{Settings}
+use Rattle.store_words.specs.declared.words.Settings.{Settings}
 use Rattle.store_core.specs.declared.loaded.Loaded.{Loaded}
 
 -- a store that is held lawfully is one for its document
@@ -39,50 +40,79 @@ held-store s t i g = record { tree = t; stand = i.stand; small = i.small; gramma
 pub counted-store : (s : Store) (t : Tree) → IsStoreFor s t → IsCounted s
 counted-store s t i = record { counts = i.counts; index = i.index }
 
--- an edit that a command asks for gives what is lawful, and brings no node
+-- an edit that a command asks for gives what is lawful
 pub asked-parts : (act : Act) (e : Edit) → AsksEdit act e → AreLawfulEditParts e
 asked-parts (Rename number name) e (is, same) = rw same is
+asked-parts (Insert number bytes) e (fragment, spelled, same) = rw same (spells-fragment bytes (trees fragment) spelled).0
+asked-parts (Append number bytes) e (fragment, spelled, same) = rw same (spells-fragment bytes (trees fragment) spelled).0
 asked-parts (Delete number) e same = rw same tt
 asked-parts (Value number bytes) e (value, spelled, same) = rw same (value_chars bytes value spelled)
+asked-parts (Attr number name bytes) e (value, is, spelled, same) = rw same (is, value_chars bytes value spelled)
 asked-parts act e asked = absurd asked
 
-pub asked-brings : (act : Act) (e : Edit) → AsksEdit act e → BringsNoNode e
-asked-brings (Rename number name) e (is, same) = rw same tt
-asked-brings (Delete number) e same = rw same tt
-asked-brings (Value number bytes) e (value, spelled, same) = rw same tt
-asked-brings act e asked = absurd asked
+-- and is no copy
+pub asked-no-copy : (act : Act) (e : Edit) → AsksEdit act e → IsNoCopy e
+asked-no-copy (Rename number name) e (is, same) = rw same tt
+asked-no-copy (Insert number bytes) e (fragment, spelled, same) = rw same tt
+asked-no-copy (Append number bytes) e (fragment, spelled, same) = rw same tt
+asked-no-copy (Delete number) e same = rw same tt
+asked-no-copy (Value number bytes) e (value, spelled, same) = rw same tt
+asked-no-copy (Attr number name bytes) e (value, is, spelled, same) = rw same tt
+asked-no-copy act e asked = absurd asked
 
 -- the node of which it asks
 pub asked-node : (act : Act) (e : Edit) → AsksEdit act e → node_asked act ≡ Some (number_of e)
 asked-node (Rename number name) e (is, same) = rw same refl
+asked-node (Insert number bytes) e (fragment, spelled, same) = rw same refl
+asked-node (Append number bytes) e (fragment, spelled, same) = rw same refl
 asked-node (Delete number) e same = rw same refl
 asked-node (Value number bytes) e (value, spelled, same) = rw same refl
+asked-node (Attr number name bytes) e (value, is, spelled, same) = rw same refl
 asked-node act e asked = absurd asked
 
--- bytes that spell no value make no edit
-pub value-not-read : (refusal : Refusal) (number : ℕ) (bytes : List ℕ) (count : ℕ) → number < count → IsNoValue refusal bytes → IsNoEdit refusal (Value number bytes) count
-value-not-read no.BadValue number bytes count low why = ((number, refl, low), (bytes, refl, why))
-value-not-read no.Memory number bytes count low why = tt
-value-not-read refusal number bytes count low why = absurd why
+-- what a command gives makes no edit where its name is no Name, and where its bytes spell no fragment, or no value
+pub name-not-taken : (refusal : Refusal) (act : Act) (name : List ℕ) → name_given act ≡ Some name → IsNoName refusal name → GivesNoEdit refusal act
+name-not-taken no.BadName act name gives why = (name, gives, why)
+name-not-taken no.Memory act name gives why = tt
+name-not-taken refusal act name gives why = absurd why
+
+pub fragment-not-read : (refusal : Refusal) (act : Act) (bytes : List ℕ) → fragment_given act ≡ Some bytes → IsNoFragment refusal bytes → GivesNoEdit refusal act
+fragment-not-read no.BadFragment act bytes gives why = (bytes, gives, why)
+fragment-not-read no.Memory act bytes gives why = tt
+fragment-not-read refusal act bytes gives why = absurd why
+
+pub value-not-read : (refusal : Refusal) (act : Act) (bytes : List ℕ) → value_given act ≡ Some bytes → IsNoValue refusal bytes → GivesNoEdit refusal act
+value-not-read no.BadValue act bytes gives why = (bytes, gives, why)
+value-not-read no.Memory act bytes gives why = tt
+value-not-read refusal act bytes gives why = absurd why
+
+-- a command that gives what makes no edit comes to none
+pub given-not-asked : (refusal : Refusal) (act : Act) (count : ℕ) → AsksBelow act count → GivesNoEdit refusal act → IsNoEdit refusal act count
+given-not-asked no.NoNode act count below why = absurd why
+given-not-asked refusal act count below why = (below, why)
 
 -- what an edit does is what its command does
 does-edit : (settings : Settings) (act : Act) (old new : World) (out : List ℕ) → IsEdit act → Edits settings act old out new → Does settings act old out new
 does-edit settings (Rename number name) old new out is edits = edits
+does-edit settings (Insert number bytes) old new out is edits = edits
+does-edit settings (Append number bytes) old new out is edits = edits
 does-edit settings (Delete number) old new out is edits = edits
 does-edit settings (Value number bytes) old new out is edits = edits
+does-edit settings (Attr number name bytes) old new out is edits = edits
 does-edit settings act old new out is edits = absurd is
 
 begins-nothing : (act : Act) (refusal : Refusal) (old : World) → IsEdit act → Begins act refusal old []
-begins-nothing (Rename number name) refusal old is = refl
-begins-nothing (Delete number) refusal old is = refl
-begins-nothing (Value number bytes) refusal old is = refl
-begins-nothing act refusal old is = absurd is
+begins-nothing (Query query) refusal old is = absurd is
+begins-nothing act refusal old is = refl
+
+-- it reads no file
+reads-nothing : (act : Act) (name : List ℕ) → IsEdit act → file_read act ≡ Some name → ⊥
+reads-nothing (Load name) n is reads = absurd is
+reads-nothing (LoadGrammar name) n is reads = absurd is
+reads-nothing act n is reads = absurd cc
 
 ready-to-edit : (act : Act) (held : Held) (told : Option Told) (count : ℕ) → IsEdit act → IsReady act (world (Some held) told count)
-ready-to-edit (Rename number name) held told count is = record { document = λ needs. refl; file = λ n reads. absurd cc }
-ready-to-edit (Delete number) held told count is = record { document = λ needs. refl; file = λ n reads. absurd cc }
-ready-to-edit (Value number bytes) held told count is = record { document = λ needs. refl; file = λ n reads. absurd cc }
-ready-to-edit act held told count is = absurd is
+ready-to-edit act held told count is = record { document = λ needs. refl; file = λ name reads. absurd (reads-nothing act name is reads) }
 
 module _ (settings : Settings) (act : Act) (is : IsEdit act) (l : Loaded) (told : Option Told) (count : ℕ) (t : Tree) (i : IsStoreFor l.store t) where
   abbrev before : World
@@ -99,9 +129,10 @@ module _ (settings : Settings) (act : Act) (is : IsEdit act) (l : Loaded) (told 
       cause : (refusal : Refusal) → IsNoEdit refusal act total → Cause refusal act before before
       cause no.NoNode (number, asked, past) = (number, asked, record { parts = parts_of l.store; tree = t; held = refl; stand = i.stand; past = omega (arith, many, past) })
       cause no.BadName ((number, asked, low), none) = ((number, asked, record { parts = parts_of l.store; tree = t; held = refl; stand = i.stand; there = omega (arith, many, low) }), none)
+      cause no.BadFragment ((number, asked, low), none) = ((number, asked, record { parts = parts_of l.store; tree = t; held = refl; stand = i.stand; there = omega (arith, many, low) }), none)
       cause no.BadValue ((number, asked, low), none) = ((number, asked, record { parts = parts_of l.store; tree = t; held = refl; stand = i.stand; there = omega (arith, many, low) }), none)
       cause no.Memory why = ready-to-edit act (held_of l) told count is
-      cause refusal why = absurd why
+      cause refusal why = absurd why.1
 
   module _ (e : Edit) (asked : AsksEdit act e) (total : ℕ) (many : total ≡ node_count t) (low : number_of e < total) where
     abbrev wants : WantsEdit act before

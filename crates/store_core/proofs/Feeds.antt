@@ -68,21 +68,9 @@ read_front count len buffer behind within room = take-take count len (buffer ++ 
 
 -- why the bytes that are left are no document stops the reading of one
 no_document-stops : (refusal : Refusal) (opened : Option Told) (bytes : List ℕ) (before now : ℕ) → HasLeft opened bytes → IsNoDocument refusal bytes → StopsDocument refusal opened before now
-no_document-stops no.NoDocument opened bytes before now left why = absurd why
-no_document-stops no.ReadFault opened bytes before now left why = absurd why
-no_document-stops no.NoFile opened bytes before now left why = absurd why
-no_document-stops no.WriteFault opened bytes before now left why = absurd why
-no_document-stops no.LongFile opened bytes before now left why = absurd why
 no_document-stops (no.BadXml at) opened bytes before now left why = (bytes, left, why)
-no_document-stops no.BadGrammar opened bytes before now left why = absurd why
-no_document-stops no.BadQuery opened bytes before now left why = absurd why
-no_document-stops no.LargeQuery opened bytes before now left why = absurd why
-no_document-stops no.NoNode opened bytes before now left why = absurd why
-no_document-stops no.BadName opened bytes before now left why = absurd why
-no_document-stops no.BadValue opened bytes before now left why = absurd why
-no_document-stops no.NotAllowed opened bytes before now left why = absurd why
-no_document-stops no.TooMany opened bytes before now left why = absurd why
 no_document-stops no.Memory opened bytes before now left why = tt
+no_document-stops refusal opened bytes before now left why = absurd why
 
 document_says : (error : XmlError) (bytes : List ℕ) → ((at : ℕ) → error ≡ xml.Bad at → IsBad bytes at) → SaysOfDocument error bytes
 document_says (xml.Bad at) bytes bad = bad at refl
@@ -97,18 +85,5 @@ bad_stops error refusal opened reader built before now feeds refuses bad =
 
 -- what stops the reading of a file stops that of a document
 pub stops-document : (refusal : Refusal) (opened : Option Told) (before now : ℕ) → StopsReading refusal opened before now → StopsDocument refusal opened before now
-stops-document no.NoDocument opened before now stops = stops
-stops-document no.ReadFault opened before now stops = stops
-stops-document no.NoFile opened before now stops = stops
-stops-document no.WriteFault opened before now stops = stops
-stops-document no.LongFile opened before now stops = stops
 stops-document (no.BadXml at) opened before now stops = absurd stops
-stops-document no.BadGrammar opened before now stops = stops
-stops-document no.BadQuery opened before now stops = stops
-stops-document no.LargeQuery opened before now stops = stops
-stops-document no.NoNode opened before now stops = stops
-stops-document no.BadName opened before now stops = stops
-stops-document no.BadValue opened before now stops = stops
-stops-document no.NotAllowed opened before now stops = stops
-stops-document no.TooMany opened before now stops = stops
-stops-document no.Memory opened before now stops = stops
+stops-document refusal opened before now stops = stops

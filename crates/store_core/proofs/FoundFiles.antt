@@ -98,21 +98,10 @@ read_lawful told document reads =
 pub stops_loading :
     (refusal : Refusal) (act : Act) (old opening : Option Told) (name : List ℕ) (state : State) (count before now : ℕ) (new : World) → LoadsFile act name → Finds old name true
     → Becomes old opening (file_opened name) → count ≤ before → now ≤ new.count → StopsReading refusal opening before now → Cause refusal act (world state old count) new
-stops_loading no.NoDocument act old opening name state count before now new reads finds opens b n stops = absurd stops
 stops_loading no.ReadFault act old opening name state count before now new reads finds opens b n stops = (rw reads.reads refl, omega (arith, stops))
-stops_loading no.NoFile act old opening name state count before now new reads finds opens b n stops = absurd stops
-stops_loading no.WriteFault act old opening name state count before now new reads finds opens b n stops = absurd stops
 stops_loading no.LongFile act old opening name state count before now new reads finds opens b n stops = long_file act old opening name state count reads finds opens stops
-stops_loading (no.BadXml at) act old opening name state count before now new reads finds opens b n stops = absurd stops
-stops_loading no.BadGrammar act old opening name state count before now new reads finds opens b n stops = absurd stops
-stops_loading no.BadQuery act old opening name state count before now new reads finds opens b n stops = absurd stops
-stops_loading no.LargeQuery act old opening name state count before now new reads finds opens b n stops = absurd stops
-stops_loading no.NoNode act old opening name state count before now new reads finds opens b n stops = absurd stops
-stops_loading no.BadName act old opening name state count before now new reads finds opens b n stops = absurd stops
-stops_loading no.BadValue act old opening name state count before now new reads finds opens b n stops = absurd stops
-stops_loading no.NotAllowed act old opening name state count before now new reads finds opens b n stops = absurd stops
-stops_loading no.TooMany act old opening name state count before now new reads finds opens b n stops = absurd stops
 stops_loading no.Memory act old opening name state count before now new reads finds opens b n stops = found_to_load act old name state count reads finds
+stops_loading refusal act old opening name state count before now new reads finds opens b n stops = absurd stops
 
 -- and so is what stops the reading of a document
 pub stops_document :
@@ -123,14 +112,4 @@ stops_document (no.BadXml at) old opening name state count before now new finds 
 stops_document no.ReadFault old opening name state count before now new finds opens b n stops = stops_loading no.ReadFault (Load name) old opening name state count before now new (load_reads name) finds opens b n stops
 stops_document no.LongFile old opening name state count before now new finds opens b n stops = stops_loading no.LongFile (Load name) old opening name state count before now new (load_reads name) finds opens b n stops
 stops_document no.Memory old opening name state count before now new finds opens b n stops = stops_loading no.Memory (Load name) old opening name state count before now new (load_reads name) finds opens b n stops
-stops_document no.NoDocument old opening name state count before now new finds opens b n stops = absurd stops
-stops_document no.NoFile old opening name state count before now new finds opens b n stops = absurd stops
-stops_document no.WriteFault old opening name state count before now new finds opens b n stops = absurd stops
-stops_document no.BadGrammar old opening name state count before now new finds opens b n stops = absurd stops
-stops_document no.BadQuery old opening name state count before now new finds opens b n stops = absurd stops
-stops_document no.LargeQuery old opening name state count before now new finds opens b n stops = absurd stops
-stops_document no.NoNode old opening name state count before now new finds opens b n stops = absurd stops
-stops_document no.BadName old opening name state count before now new finds opens b n stops = absurd stops
-stops_document no.BadValue old opening name state count before now new finds opens b n stops = absurd stops
-stops_document no.NotAllowed old opening name state count before now new finds opens b n stops = absurd stops
-stops_document no.TooMany old opening name state count before now new finds opens b n stops = absurd stops
+stops_document refusal old opening name state count before now new finds opens b n stops = absurd stops

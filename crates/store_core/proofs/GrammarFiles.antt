@@ -37,18 +37,7 @@ file_says file.Memory bytes bad many = tt
 -- why no store is made of a file is a cause to refuse the loading
 pub no_store :
     (refusal : Refusal) (name bytes : List ℕ) (old new : World) → HasFile old name bytes → length bytes < 2 ^ 30 → IsNoStore refusal bytes → Cause refusal (LoadGrammar name) old new
-no_store no.NoDocument name bytes old new has short why = absurd why
-no_store no.ReadFault name bytes old new has short why = absurd why
-no_store no.NoFile name bytes old new has short why = absurd why
-no_store no.WriteFault name bytes old new has short why = absurd why
-no_store no.LongFile name bytes old new has short why = absurd why
-no_store (no.BadXml at) name bytes old new has short why = absurd why
 no_store no.BadGrammar name bytes old new has short why = (bytes, record { input = record { name = name; reads = refl; file = has }; short = short }, why)
-no_store no.BadQuery name bytes old new has short why = absurd why
-no_store no.LargeQuery name bytes old new has short why = absurd why
-no_store no.NoNode name bytes old new has short why = absurd why
-no_store no.BadName name bytes old new has short why = absurd why
-no_store no.BadValue name bytes old new has short why = absurd why
-no_store no.NotAllowed name bytes old new has short why = absurd why
 no_store no.TooMany name bytes old new has short why = inl (bytes, record { input = record { name = name; reads = refl; file = has }; short = short }, why)
 no_store no.Memory name bytes old new has short why = ready_to_load (LoadGrammar name) old name bytes (load_grammar_reads name) has
+no_store refusal name bytes old new has short why = absurd why

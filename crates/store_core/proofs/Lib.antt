@@ -10,6 +10,7 @@ pub mod Saves
 pub mod Shapes
 pub mod NodeCalls
 pub mod Encoded
+pub mod Generated
 pub mod Shown
 pub mod Printing
 pub mod Distinct

@@ -9,7 +9,7 @@ use Rattle.store_core.specs.Worlds.{AreLawfulParts, IsLawfulState, Parts, PartsS
 use Rattle.store_core.specs.declared.answer.Answer.{Answer}
 use Rattle.store_core.specs.declared.answer.Answer.TheVariants as ok
 use Rattle.store_core.specs.declared.answer.Refusal.{Refusal}
-use Rattle.store_core.specs.declared.command.Settings.{Settings}
+use Rattle.store_words.specs.declared.words.Settings.{Settings}
 
 -- a command that comes to an outcome behind a text prints both
 pub comes_step : (settings : Settings) (act : Act) (old new : World) (text : List ℕ) (outcome : Result Answer Refusal) → IsLawfulState old.state → IsLawfulState new.state → old.count ≤ new.count

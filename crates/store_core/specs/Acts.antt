@@ -1,5 +1,5 @@
 -- Commands, as the machine sees them.
-use Rattle.std.specs.Prelude.{ℕ, Bool, true, false, List, Option, Some, None}
+use Rattle.std.specs.Prelude.{◌≤◌, ℕ, Bool, true, false, List, Option, IfSome, Some, None}
 
 pub data Act : Type 0 where
   -- the document becomes that of the file with this name
@@ -18,17 +18,26 @@ pub data Act : Type 0 where
   Count : (query : List ℕ) → Act
   -- the node with this number gets this name
   Rename : (number : ℕ) (name : List ℕ) → Act
+  -- the nodes that these bytes spell come to stand before the node with this number
+  Insert : (number : ℕ) (bytes : List ℕ) → Act
+  -- they come to stand behind its last kid
+  Append : (number : ℕ) (bytes : List ℕ) → Act
   -- the node with this number is deleted, with all below it
   Delete : (number : ℕ) → Act
   -- the node with this number gets the value that these bytes spell
   Value : (number : ℕ) (bytes : List ℕ) → Act
+  -- the attribute with this name of the node with this number gets the value that these bytes spell
+  Attr : (number : ℕ) (name bytes : List ℕ) → Act
   -- the grammar is settled
   Repair : Act
+  -- the document becomes the one that is made with so many records
+  Generate : (records : ℕ) → Act
 
 -- whether the command needs a document that is loaded
 abbrev pub needs_document : Act → Bool
 needs_document (Load name) = false
 needs_document (LoadGrammar name) = false
+needs_document (Generate records) = false
 needs_document act = true
 
 -- the name of the file in which the command reads a document
@@ -57,8 +66,11 @@ writes_file act = false
 abbrev pub node_asked : Act → Option ℕ
 node_asked (Show number) = Some number
 node_asked (Rename number name) = Some number
+node_asked (Insert number bytes) = Some number
+node_asked (Append number bytes) = Some number
 node_asked (Delete number) = Some number
 node_asked (Value number bytes) = Some number
+node_asked (Attr number name bytes) = Some number
 node_asked act = None
 
 -- the query whose nodes the command asks for
@@ -67,12 +79,29 @@ query_asked (Query query) = Some query
 query_asked (Count query) = Some query
 query_asked act = None
 
--- the name that the command gives a node
+-- the name that the command gives a node, or the attribute of one
 abbrev pub name_given : Act → Option (List ℕ)
 name_given (Rename number name) = Some name
+name_given (Attr number name bytes) = Some name
 name_given act = None
 
--- the bytes of the value that it gives a node
+-- the bytes of the nodes that it brings
+abbrev pub fragment_given : Act → Option (List ℕ)
+fragment_given (Insert number bytes) = Some bytes
+fragment_given (Append number bytes) = Some bytes
+fragment_given act = None
+
+-- the bytes of the value that it gives
 abbrev pub value_given : Act → Option (List ℕ)
 value_given (Value number bytes) = Some bytes
+value_given (Attr number name bytes) = Some bytes
 value_given act = None
+
+-- how many records it asks for
+abbrev pub records_asked : Act → Option ℕ
+records_asked (Generate records) = Some records
+records_asked act = None
+
+-- they are 1 to 200,000
+abbrev pub AsksFewRecords : Act → Type 0
+AsksFewRecords act = IfSome (records_asked act) (λ records. (1 ≤ records) × (records ≤ 200000))

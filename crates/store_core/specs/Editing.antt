@@ -6,37 +6,47 @@ use Rattle.plain_tree.specs.Allowed.{IsAllowed}
 use Rattle.plain_tree.specs.Edits.{edited, merged, number_of}
 use Rattle.plain_tree.specs.Lawful.{IsName}
 use Rattle.plain_tree.specs.NodePairs.{Pair}
-use Rattle.plain_tree.specs.Tree.{Tree, node_count}
+use Rattle.plain_tree.specs.Tree.{Tree, Trees, trees, node_count}
+use Rattle.plain_tree.specs.declared.nodes.Nodes.{Nodes}
 use Rattle.plain_tree.specs.declared.edit.Edit.{Edit}
 use Rattle.plain_tree.specs.declared.edit.Edit.TheVariants as edit
-use Rattle.xml_nodes.specs.Spelling.{SpellsValue}
+use Rattle.xml_nodes.specs.Spelling.{SpellsList, SpellsValue}
 use Rattle.slt_grammar.specs.Digrams.{IsSettled}
 use Rattle.slt_grammar.specs.Grammars.{size}
 use Rattle.fcns_encoding.specs.Interning.{Interns}
-use Rattle.store_core.specs.Acts.{Act, Rename, Delete, Value, name_given, value_given}
+use Rattle.store_core.specs.Acts.{Act, Rename, Insert, Append, Delete, Value, Attr, name_given, fragment_given, value_given}
 use Rattle.store_core.specs.Texts.{answer_line}
 use Rattle.store_core.specs.Worlds.{Held, with_names, PartsStandFor, World}
 use Rattle.store_core.specs.declared.answer.Answer.{Answer}
 use Rattle.store_core.specs.declared.answer.Answer.TheVariants as ok
-use Rattle.store_core.specs.declared.command.Settings.{Settings}
+use Rattle.store_words.specs.declared.words.Settings.{Settings}
 
--- the command asks for this edit: the name that it gives is a Name, its bytes spell the value
+-- the command asks for this edit: the name that it gives is a Name, its bytes spell the fragment or the value
 abbrev pub AsksEdit : Act → Edit → Type 0
 AsksEdit (Rename number name) e = IsName name × (e ≡ edit.Rename number name)
+AsksEdit (Insert number bytes) e = (fragment : Nodes) × SpellsList bytes (trees fragment) × (e ≡ edit.Insert number fragment)
+AsksEdit (Append number bytes) e = (fragment : Nodes) × SpellsList bytes (trees fragment) × (e ≡ edit.Append number fragment)
 AsksEdit (Delete number) e = e ≡ edit.Delete number
 AsksEdit (Value number bytes) e = (value : List ℕ) × SpellsValue bytes value × (e ≡ edit.Value number value)
+AsksEdit (Attr number name bytes) e = (value : List ℕ) × IsName name × SpellsValue bytes value × (e ≡ edit.Attr number name value)
 AsksEdit act e = ⊥
 
 -- it is one that asks for an edit, if what it gives is lawful
 abbrev pub IsEdit : Act → Type 0
 IsEdit (Rename number name) = Unit {0}
+IsEdit (Insert number bytes) = Unit {0}
+IsEdit (Append number bytes) = Unit {0}
 IsEdit (Delete number) = Unit {0}
 IsEdit (Value number bytes) = Unit {0}
+IsEdit (Attr number name bytes) = Unit {0}
 IsEdit act = ⊥
 
--- the name that it gives is no Name, and its bytes spell no value
+-- the name that it gives is no Name, and its bytes spell no fragment, and no value
 abbrev pub GivesNoName : Act → Type 0
 GivesNoName act = (name : List ℕ) × (name_given act ≡ Some name) × (IsName name → ⊥)
+
+abbrev pub GivesNoFragment : Act → Type 0
+GivesNoFragment act = (bytes : List ℕ) × (fragment_given act ≡ Some bytes) × ((nodes : Trees) → SpellsList bytes nodes → ⊥)
 
 abbrev pub GivesNoValue : Act → Type 0
 GivesNoValue act = (bytes : List ℕ) × (value_given act ≡ Some bytes) × ((value : List ℕ) → SpellsValue bytes value → ⊥)

@@ -1,7 +1,8 @@
 -- What errors of the layers below say, and that a refusal says the same.
 use Rattle.std.specs.Prelude.{◌≡◌, ◌≤◌, ◌<◌, ℕ, List, Some}
 use Rattle.plain_tree.specs.Lawful.{IsName}
-use Rattle.xml_nodes.specs.Spelling.{SpellsValue}
+use Rattle.plain_tree.specs.Tree.{Trees}
+use Rattle.xml_nodes.specs.Spelling.{SpellsList, SpellsValue}
 use Rattle.xml_profile.specs.declared.error.XmlError.{XmlError}
 use Rattle.xml_profile.specs.declared.error.XmlError.TheVariants as xml
 use Rattle.xml_profile.specs.Reading.{IsBad}
@@ -12,7 +13,7 @@ use Rattle.grammar_file.specs.declared.error.FileError.TheVariants as file
 use Rattle.xpath_parser.specs.declared.error.QueryError.{QueryError}
 use Rattle.xpath_parser.specs.declared.error.QueryError.TheVariants as query
 use Rattle.store_core.specs.Acts.{Act, node_asked}
-use Rattle.store_core.specs.Editing.{GivesNoName, GivesNoValue}
+use Rattle.store_core.specs.Editing.{GivesNoFragment, GivesNoName, GivesNoValue}
 use Rattle.store_core.specs.GrammarFiles.{IsNoFile, IsFileOfMany}
 use Rattle.store_core.specs.GrammarStores.{IsNoStore}
 use Rattle.store_core.specs.Selecting.{SpellsNoQuery, SpellsLarge}
@@ -64,11 +65,16 @@ refusal_of (edit.NotAllowed kind) = no.NotAllowed
 refusal_of edit.TooMany = no.TooMany
 refusal_of edit.Memory = no.Memory
 
--- why a name is not taken, and why no value is read of bytes
+-- why a name is not taken, and why no fragment and no value is read of bytes
 abbrev pub IsNoName : Refusal → List ℕ → Type 0
 IsNoName no.BadName name = IsName name → ⊥
 IsNoName no.Memory name = Unit {0}
 IsNoName _ name = ⊥
+
+abbrev pub IsNoFragment : Refusal → List ℕ → Type 0
+IsNoFragment no.BadFragment bytes = (nodes : Trees) → SpellsList bytes nodes → ⊥
+IsNoFragment no.Memory bytes = Unit {0}
+IsNoFragment _ bytes = ⊥
 
 abbrev pub IsNoValue : Refusal → List ℕ → Type 0
 IsNoValue no.BadValue bytes = (value : List ℕ) → SpellsValue bytes value → ⊥
@@ -79,10 +85,15 @@ IsNoValue _ bytes = ⊥
 abbrev pub AsksBelow : Act → ℕ → Type 0
 AsksBelow act count = (number : ℕ) × (node_asked act ≡ Some number) × (number < count)
 
--- why a command comes to no edit of a document with so many nodes
+-- why what a command gives makes no edit
+abbrev pub GivesNoEdit : Refusal → Act → Type 0
+GivesNoEdit no.BadName act = GivesNoName act
+GivesNoEdit no.BadFragment act = GivesNoFragment act
+GivesNoEdit no.BadValue act = GivesNoValue act
+GivesNoEdit no.Memory act = Unit {0}
+GivesNoEdit _ act = ⊥
+
+-- why a command comes to no edit of a document with so many nodes: there is no such node, or what it gives makes none
 abbrev pub IsNoEdit : Refusal → Act → ℕ → Type 0
 IsNoEdit no.NoNode act count = (number : ℕ) × (node_asked act ≡ Some number) × (count ≤ number)
-IsNoEdit no.BadName act count = AsksBelow act count × GivesNoName act
-IsNoEdit no.BadValue act count = AsksBelow act count × GivesNoValue act
-IsNoEdit no.Memory act count = Unit {0}
-IsNoEdit _ act count = ⊥
+IsNoEdit refusal act count = AsksBelow act count × GivesNoEdit refusal act

@@ -12,8 +12,9 @@ use Rattle.slt_grammar.specs.Digrams.{IsSettled}
 use Rattle.slt_grammar.specs.Grammars.{size}
 use Rattle.slt_grammar.specs.Ranks.{greatest_rank}
 use Rattle.fcns_encoding.specs.Interning.{Interns, pairs_of_tree}
+use Rattle.record_generator.specs.Records.{generated}
 use Rattle.grammar_file.specs.FileBytes.{file_bytes}
-use Rattle.store_core.specs.Acts.{Act, Load, LoadGrammar, Save, SaveGrammar, Show, Query, Count, Rename, Delete, Value, Repair}
+use Rattle.store_core.specs.Acts.{Act, Load, LoadGrammar, Save, SaveGrammar, Show, Query, Count, Rename, Insert, Append, Delete, Value, Attr, Repair, Generate}
 use Rattle.store_core.specs.Editing.{Edits, KeepsNames}
 use Rattle.store_core.specs.GrammarFiles.{IsFileOfDocument}
 use Rattle.store_core.specs.Selecting.{Selects}
@@ -24,7 +25,7 @@ use Rattle.store_core.specs.declared.answer.Answer.{Answer}
 use Rattle.store_core.specs.declared.answer.Answer.TheVariants as ok
 use Rattle.store_core.specs.declared.answer.Refusal.{Refusal}
 use Rattle.store_core.specs.declared.answer.Refusal.TheVariants as no
-use Rattle.store_core.specs.declared.command.Settings.{Settings}
+use Rattle.store_words.specs.declared.words.Settings.{Settings}
 
 -- what a loading makes of a document: names in the order of their first nodes, and a grammar that is settled for a rank and has no
 -- rule of a greater one
@@ -50,6 +51,14 @@ pub record Loads (rank : ℕ) (name : List ℕ) (old : World) (out : List ℕ) (
   pub state : new.state ≡ Some (unedited parts)
   pub files : Stays old.files new.files
   pub printed : out ≡ answer_line (ok.Nodes (node_count tree))
+
+-- the document becomes the one that is made with so many records
+pub record Generates (rank records : ℕ) (old : World) (out : List ℕ) (new : World) : Type 0 where
+  pub parts : Parts
+  pub encoded : Encodes rank (generated records) parts
+  pub state : new.state ≡ Some (unedited parts)
+  pub files : Stays old.files new.files
+  pub printed : out ≡ answer_line (ok.Nodes (node_count (generated records)))
 
 -- the document becomes that of the grammar file: its parts are those of which the file's bytes are
 pub record LoadsGrammar (name : List ℕ) (old : World) (out : List ℕ) (new : World) : Type 0 where
@@ -142,9 +151,13 @@ Does settings (Show number) old out new = Shows number old out new
 Does settings (Query query) old out new = Queries query old out new
 Does settings (Count query) old out new = Counts query old out new
 Does settings (Rename number name) old out new = Edits settings (Rename number name) old out new
+Does settings (Insert number bytes) old out new = Edits settings (Insert number bytes) old out new
+Does settings (Append number bytes) old out new = Edits settings (Append number bytes) old out new
 Does settings (Delete number) old out new = Edits settings (Delete number) old out new
 Does settings (Value number bytes) old out new = Edits settings (Value number bytes) old out new
+Does settings (Attr number name bytes) old out new = Edits settings (Attr number name bytes) old out new
 Does settings Repair old out new = Repairs settings.rank old out new
+Does settings (Generate records) old out new = Generates settings.rank records old out new
 
 -- the text is the lines of some first nodes that the query selects
 pub record PrintsFirst (query : List ℕ) (old : World) (text : List ℕ) : Type 0 where

@@ -8,7 +8,7 @@ use Rattle.plain_tree.specs.Tree.{node_count}
 use Rattle.xml_profile.specs.Reading.{IsBad}
 use Rattle.store_core.specs.GrammarFiles.{IsNoFile, IsFileOfMany}
 use Rattle.store_core.specs.Acts.{Act, needs_document, document_read, grammar_read, file_read, node_asked, query_asked, writes_file}
-use Rattle.store_core.specs.Editing.{GivesNoName, GivesNoValue, WantsEdit}
+use Rattle.store_core.specs.Editing.{GivesNoFragment, GivesNoName, GivesNoValue, WantsEdit}
 use Rattle.store_core.specs.Selecting.{SpellsNoQuery, SpellsLarge}
 use Rattle.store_core.specs.Worlds.{World, HasFile, HasNoFile, HasNode, LacksNode}
 use Rattle.store_core.specs.declared.answer.Refusal.{Refusal}
@@ -47,6 +47,7 @@ Cause no.BadQuery act old new = (query : List ℕ) × (query_asked act ≡ Some 
 Cause no.LargeQuery act old new = (query : List ℕ) × (query_asked act ≡ Some query) × IsReady act old × SpellsLarge query
 Cause no.NoNode act old new = (number : ℕ) × (node_asked act ≡ Some number) × LacksNode old number
 Cause no.BadName act old new = FindsNode act old × GivesNoName act
+Cause no.BadFragment act old new = FindsNode act old × GivesNoFragment act
 Cause no.BadValue act old new = FindsNode act old × GivesNoValue act
 Cause no.NotAllowed act old new = (wants : WantsEdit act old) × (IsAllowed wants.tree wants.edit → ⊥)
 Cause no.TooMany act old new =

@@ -56,6 +56,8 @@ pub enum Refusal {
     NoNode,
     /// The name is no Name of XML.
     BadName,
+    /// The bytes spell no fragment: no list of at least one node.
+    BadFragment,
     /// The bytes spell no value.
     BadValue,
     NotAllowed,
@@ -170,6 +172,7 @@ fn write_refusal<K: Sink>(refusal: Refusal, sink: &mut K) -> Result<(), Failed>
         Refusal::LargeQuery => sink.write(b"! large-query\n"),
         Refusal::NoNode => sink.write(b"! no-node\n"),
         Refusal::BadName => sink.write(b"! bad-name\n"),
+        Refusal::BadFragment => sink.write(b"! bad-fragment\n"),
         Refusal::BadValue => sink.write(b"! bad-value\n"),
         Refusal::NotAllowed => sink.write(b"! not-allowed\n"),
         Refusal::TooMany => sink.write(b"! too-many\n"),

@@ -3,29 +3,31 @@ ghost use Rattle.std.specs.Prelude.{◌≡◌, ◌≤◌, ◌<◌, ◌^◌, ◌�
 ghost use Rattle.tree_outside.specs.Files.{Told};
 ghost use Rattle.plain_tree.specs.Edits.{number_of};
 ghost use Rattle.plain_tree.specs.Lawful.{IsName};
-ghost use Rattle.plain_tree.specs.Tree.{Tree, node_count};
-ghost use Rattle.xml_nodes.specs.Spelling.{SpellsValue};
+ghost use Rattle.plain_tree.specs.Tree.{Tree, trees, node_count};
+ghost use Rattle.xml_nodes.specs.Spelling.{SpellsList, SpellsValue};
 ghost use Rattle.slt_grammar.specs.Grammars.{IsGrammar, size};
 ghost use Rattle.slt_grammar.specs.Keyed.{rules_of};
 ghost use Rattle.tree_updates.specs.Stores.{IsStoreFor};
+ghost use Rattle.store_core.specs.Acts.{node_asked};
 ghost use Rattle.store_core.specs.CommandOf.{act_of};
 ghost use Rattle.store_core.specs.Editing.{AsksEdit, IsDue, IsEdit, IsSettledWhereDue, one_more};
-ghost use Rattle.store_core.specs.Errors.{IsNoEdit, IsNoName, IsNoValue};
+ghost use Rattle.store_core.specs.Errors.{GivesNoEdit, IsNoEdit, IsNoFragment, IsNoName, IsNoValue};
 ghost use Rattle.store_core.specs.Machine.{Comes};
 ghost use Rattle.store_core.specs.StoreOf.{IsCounted, held_of, parts_of};
 ghost use Rattle.store_core.specs.Worlds.{AreLawfulParts, world};
 
 use crate::answer::{Answer, Refusal};
-use crate::command::{Command, Settings};
+use crate::command::Command;
 use crate::loaded::Loaded;
 use crate::repairing::settle_store;
-use plain_tree::{Bytes, Edit};
+use plain_tree::{Bytes, Edit, Nodes};
 use read_steps::Steps;
 use std::alloc::{AllocError, Global};
 use std::sync::ledger::Ledger;
+use store_words::Settings;
 use tree_updates::{Store, apply};
 use xml_nodes::is_name;
-use xml_profile::{XmlError, read_value};
+use xml_profile::{XmlError, read_fragment, read_value};
 
 /// Makes the edit that a command asks for, and settles the grammar where that is due, for a rank of at most 8.
 pub(crate) fn edit_document<L: Ledger>(
@@ -69,23 +71,61 @@ fn edit_of(alloc: Global, count: u64, command: Command<'_>) -> Result<Edit, Refu
     ensures there { IfOk result (λ edit. number_of edit < count) }
     ensures refused { IfErr result (λ refusal. IsNoEdit refusal (act_of command.entry) count) }
 {
+    check_node(node_of(command), count)?;
+    edit_given(alloc, command)
+}
+
+// The number of the node at which a command asks for an edit.
+fn node_of(command: Command<'_>) -> u64
+    requires edit { IsEdit (act_of command) }
+    ensures { node_asked (act_of command.entry) ≡ Some result }
+{
     match command {
-        Command::Rename { number, name } => {
-            check_node(number, count)?;
-            let name = name_of(alloc, name)?;
-            Ok(Edit::Rename { number, name })
-        }
-        Command::Delete { number } => {
-            check_node(number, count)?;
-            Ok(Edit::Delete { number })
-        }
-        Command::Value { number, value } => {
-            check_node(number, count)?;
-            let value = value_of(alloc, value)?;
-            Ok(Edit::Value { number, value })
-        }
+        Command::Rename { number, .. }
+        | Command::Insert { number, .. }
+        | Command::Append { number, .. }
+        | Command::Delete { number }
+        | Command::Value { number, .. }
+        | Command::Attr { number, .. } => number,
         _ => unreachable!(),
     }
+}
+
+// The edit that a command asks for, where what it gives is lawful.
+fn edit_given(alloc: Global, command: Command<'_>) -> Result<Edit, Refusal>
+    requires edit { IsEdit (act_of command) }
+    ensures asked { IfOk result (AsksEdit (act_of command.entry)) }
+    ensures refused { IfErr result (λ refusal. GivesNoEdit refusal (act_of command.entry)) }
+{
+    Ok(match command {
+        Command::Rename { number, name } => Edit::Rename {
+            number,
+            name: name_of(alloc, name)?,
+        },
+        Command::Insert { number, fragment } => Edit::Insert {
+            number,
+            fragment: fragment_of(alloc, fragment)?,
+        },
+        Command::Append { number, fragment } => Edit::Append {
+            number,
+            fragment: fragment_of(alloc, fragment)?,
+        },
+        Command::Delete { number } => Edit::Delete { number },
+        Command::Value { number, value } => Edit::Value {
+            number,
+            value: value_of(alloc, value)?,
+        },
+        Command::Attr {
+            number,
+            name,
+            value,
+        } => Edit::Attr {
+            number,
+            name: name_of(alloc, name)?,
+            value: value_of(alloc, value)?,
+        },
+        _ => unreachable!(),
+    })
 }
 
 // Refuses the number of a node where there are only so many.
@@ -109,6 +149,18 @@ fn name_of(alloc: Global, name: &[u8]) -> Result<Bytes, Refusal>
         return Err(Refusal::BadName);
     }
     Ok(Bytes::from_slice(alloc, name)?)
+}
+
+// The nodes that the bytes spell.
+fn fragment_of(alloc: Global, bytes: &[u8]) -> Result<Nodes, Refusal>
+    ensures fragment { IfOk result (λ nodes. SpellsList bytes.now (trees nodes)) }
+    ensures refused { IfErr result (λ refusal. IsNoFragment refusal bytes.now) }
+{
+    match read_fragment(alloc, bytes) {
+        Ok(nodes) => Ok(nodes),
+        Err(XmlError::Bad { .. }) => Err(Refusal::BadFragment),
+        Err(XmlError::Memory) => Err(Refusal::Memory),
+    }
 }
 
 // The value that the bytes spell.

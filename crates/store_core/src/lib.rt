@@ -1,14 +1,15 @@
 //! The session: one document and the commands that read, change and write it.
 //!
 //! `Session::command` is one step of the plain tree machine (specs/Machine): what the command prints, what it leaves of the
-//! session and of the shelf's files. The document is held as a `Store`. Commands are in `loading`, `saving`, `showing`,
-//! `repairing` and `selecting`, the walk over a node is in `walking`, and what it writes in `writing`; `answer` has the lines that
+//! session and of the shelf's files. The document is held as a `Store`. Commands are in `loading`, `generating`, `saving`,
+//! `showing`, `repairing` and `selecting`, the walk over a node is in `walking`, and what it writes in `writing`; `answer` has the lines that
 //! commands print.
 #![tactic(auto)]
 
 mod answer;
 mod command;
 mod editing;
+mod generating;
 mod grammar_loading;
 mod listing;
 mod loaded;
@@ -23,7 +24,8 @@ mod walking;
 mod writing;
 
 pub use answer::{Answer, Refusal};
-pub use command::{Command, Settings};
+pub use command::Command;
 pub use loaded::Loaded;
 pub use session::{Session, SinkFailed};
+pub use store_words::Settings;
 pub use tree_updates::Store;

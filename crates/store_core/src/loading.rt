@@ -96,8 +96,8 @@ fn read_file<F: Shelf>(alloc: Global, name: &str, shelf: &mut F) -> Result<Folde
     read
 }
 
-// A folded document as a grammar that is settled for this rank, with its counts and its index. It is refused only for want of memory.
-fn store_of(alloc: Global, folded: Folded, rank: usize) -> Result<Store, AllocError>
+/// A folded document as a grammar that is settled for this rank, with its counts and its index. It is refused only for want of memory.
+pub(crate) fn store_of(alloc: Global, folded: Folded, rank: usize) -> Result<Store, AllocError>
     requires fold { (t : Tree) × (IsFoldOf t folded × (node_count t < 2 ^ 30)) }
     requires rank { (1 ≤ rank) × (rank ≤ 8) }
     ensures encoded { IfOk result (λ s. (t : Tree) → IsFoldOf t folded → Encodes rank t (parts_of s)) }

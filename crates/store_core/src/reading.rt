@@ -17,7 +17,7 @@ pub(crate) const FILE_LIMIT: usize = 1 << 30;
 
 /// A subterm of the code that is used less often has no rule before settling, which then finds smaller rules. Large ones have one
 /// sooner, since what is written out is work for settling.
-const SHARING: Sharing = Sharing {
+pub(crate) const SHARING: Sharing = Sharing {
     uses: 16,
     large_uses: 3,
     large: 50,

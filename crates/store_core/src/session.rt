@@ -3,11 +3,12 @@ ghost use Rattle.std.specs.Prelude.{◌≡◌, ◌≤◌, List, [], ℕ, Option,
 ghost use Rattle.tree_outside.specs.Files.{Told};
 ghost use Rattle.tree_outside.specs.Outside.{HasCause, Writes};
 ghost use Rattle.tree_outside.specs.Shelf.{Keeps};
-ghost use Rattle.store_core.specs.declared.command.Settings.{Settings};
+ghost use Rattle.store_words.specs.declared.words.Settings.{Settings};
 
 use crate::answer::{Answer, Refusal, write_line};
-use crate::command::{Command, Settings};
+use crate::command::Command;
 use crate::editing::edit_document;
+use crate::generating::generate_document;
 use crate::grammar_loading::load_grammar;
 use crate::listing::print_hits;
 use crate::loaded::Loaded;
@@ -21,6 +22,7 @@ use read_steps::Steps;
 use std::alloc::{AllocError, Global};
 use std::marker::Model;
 use std::sync::ledger::Ledger;
+use store_words::Settings;
 use thiserror::Error;
 use tree_outside::{Failed, Shelf, Sink};
 use tree_updates::Store;
@@ -59,6 +61,7 @@ impl Model for Session {
 
 impl Session {
     ghost use Rattle.store_core.specs.Acts as act;
+    ghost use Rattle.store_core.specs.Acts.{AsksFewRecords};
     ghost use Rattle.store_core.specs.CommandOf.{act_of};
     ghost use Rattle.store_core.specs.Machine.{Comes, Prints, Step};
     ghost use Rattle.store_core.specs.Reads.{AsksFew};
@@ -83,8 +86,8 @@ impl Session {
         self.loaded.as_ref().map(|loaded| &loaded.store)
     }
 
-    /// Does one command and prints its text, the last of which is a line that says what it came to. After a loading no rule has a greater
-    /// rank than the settings say, from 1 to 8, and after a repair none a greater one than that and than any had before.
+    /// Does one command and prints its text, the last of which is a line that says what it came to. After a loading or where a document was
+    /// made no rule has a greater rank than the settings say, from 1 to 8, and after a repair none a greater one than that and than any had before.
     ///
     /// `SinkFailed` comes only where the sink failed; session and shelf are then as after the command, and the sink got a front of the
     /// text. Where the shelf tells that no file was open and none pending, that is so after the command too.
@@ -101,6 +104,7 @@ impl Session {
         steps: &mut Steps<L>,
     ) -> Result<(), SinkFailed>
         requires rank { (1 ≤ settings.rank) × (settings.rank ≤ 8) }
+        requires records { AsksFewRecords (act_of command) }
         ensures step { (out : List ℕ)
             × Step settings (act_of command.entry)
             (world self.old (F.told shelf.old) (F.faults shelf.old)) out
@@ -127,6 +131,7 @@ impl Session {
         steps: &mut Steps<L>,
     ) -> Result<Result<Answer, Refusal>, Failed>
         requires rank { (1 ≤ settings.rank) × (settings.rank ≤ 8) }
+        requires records { AsksFewRecords (act_of command) }
         ensures lawful { IsLawfulState self.old × IsLawfulState self.new }
         ensures later { F.faults shelf.old ≤ F.faults shelf.new }
         ensures idle { IsIdle (F.told shelf.old) → IsIdle (F.told shelf.new) }
@@ -143,10 +148,14 @@ impl Session {
             Command::Show { number } => self.show(alloc, number, sink, steps),
             Command::Query { text } => self.query(alloc, text, sink, steps),
             Command::Count { text } => Ok(self.count(alloc, text, steps)),
-            Command::Rename { .. } | Command::Delete { .. } | Command::Value { .. } => {
-                Ok(self.edit(alloc, command, settings, steps))
-            }
+            Command::Rename { .. }
+            | Command::Insert { .. }
+            | Command::Append { .. }
+            | Command::Delete { .. }
+            | Command::Value { .. }
+            | Command::Attr { .. } => { Ok(self.edit(alloc, command, settings, steps)) }
             Command::Repair => Ok(self.repair(alloc, settings)),
+            Command::Generate { records } => Ok(self.generate(alloc, records, settings)),
         }
     }
 
@@ -191,6 +200,26 @@ impl Session {
             edits: 0,
         });
         Ok(Answer::Nodes(loaded.count))
+    }
+
+    fn generate(
+        &mut self,
+        alloc: Global,
+        records: u64,
+        settings: Settings,
+    ) -> Result<Answer, Refusal>
+        requires few { records ≤ 200000 }
+        requires rank { (1 ≤ settings.rank) × (settings.rank ≤ 8) }
+        ensures lawful { IsLawfulState self.old × IsLawfulState self.new }
+        ensures comes { (told : Option Told) (count : ℕ) → Comes settings (act.Generate records) (world self.old told count) [] result (world self.new told count) }
+    {
+        let _ = &self.loaded;
+        let made = generate_document(alloc, records, settings.rank)?;
+        self.loaded = Some(Loaded {
+            store: made.store,
+            edits: 0,
+        });
+        Ok(Answer::Nodes(made.count))
     }
 
     fn save<F: Shelf, L: Ledger>(

@@ -5,7 +5,7 @@ use Rattle.std.proofs.lemmas.List.{append_assoc, append-nil, take-append-le, len
 use Rattle.tree_outside.specs.Outside.{Stays, Takes}
 use Rattle.store_core.specs.Worlds.{World}
 use Rattle.store_shell.specs.Lines.{IsCut}
-use Rattle.store_core.specs.declared.command.Settings.{Settings}
+use Rattle.store_words.specs.declared.words.Settings.{Settings}
 use Rattle.store_shell.specs.Feeding.{Ends, Feeds}
 use Rattle.store_shell.specs.Serving.{Script, IsWhole, Serves}
 use Rattle.store_shell.specs.declared.script.Flow.{Flow}

@@ -1,11 +1,13 @@
-pub mod Beginnings
+pub mod Arguments
 pub mod Cuts
 pub mod Ending
+pub mod Given
+pub mod GivenSettings
 pub mod Kept
 pub mod Marks
-pub mod Numbered
 pub mod OneCut
 pub mod OneForm
 pub mod Pieces
 pub mod Runs
+pub mod Verbs
 pub mod Words

@@ -5,7 +5,7 @@ use Rattle.std.proofs.lemmas.List.{append-nil, take_more, take-append-drop}
 use Rattle.tree_outside.specs.Outside.{Stays}
 use Rattle.store_core.specs.Worlds.{World}
 use Rattle.store_shell.specs.Lines.{IsOneLine, IsCut, kept}
-use Rattle.store_core.specs.declared.command.Settings.{Settings}
+use Rattle.store_words.specs.declared.words.Settings.{Settings}
 use Rattle.store_shell.specs.Feeding.{Ends, Feeds}
 use Rattle.store_shell.specs.declared.script.Flow.{Flow}
 use Rattle.store_shell.specs.declared.script.Flow.TheVariants as flow

@@ -1,18 +1,19 @@
 -- The word of a command, and what follows the space after it.
-use Rattle.std.specs.Prelude.{◌≡◌, ◌<◌, ℕ, nat_lt, List, [], ◌∷◌, ◌++◌, length, take, true, cond, Some, None, codes, decimal, refl}
-use Rattle.std.proofs.Common.{sym, ap, ◌∙◌, subst, inl, inr, arith}
+use Rattle.std.specs.Prelude.{◌≡◌, ◌<◌, ℕ, nat_lt, List, [], ◌∷◌, ◌++◌, length, take, true, cond, Option, Some, None, MatchOption, codes, refl}
+use Rattle.std.proofs.Common.{sym, ap, ◌∙◌, subst, arith}
 use Rattle.std.specs.List.{position}
 use Rattle.std.proofs.lemmas.Bool.Decides.{nat_tests}
 use Rattle.std.proofs.lemmas.List.{take_at}
 use Rattle.std.proofs.lemmas.Option.{same_Some}
-use Rattle.store_core.specs.Acts.{Act, Load, LoadGrammar, Save, SaveGrammar, Show, Query, Count, Rename, Delete, Value, Repair}
-use Rattle.store_shell.specs.Forms.{Asks}
-use Rattle.store_shell.specs.Numbered.{IsNumbered}
-use Rattle.store_shell.specs.Verbs.{verb_word, is_blank}
+use Rattle.store_core.specs.Acts.{Act, AsksFewRecords, Load, LoadGrammar, Save, SaveGrammar, Show, Query, Count, Rename, Insert, Append, Delete, Value, Attr, Repair, Generate}
+use Rattle.store_core.specs.CommandOf.{act_of}
+use Rattle.store_core.specs.declared.command.Command.{Command}
+use Rattle.store_shell.specs.Forms.{Asks, Gives}
+use Rattle.store_shell.specs.Verbs.{verb_of, verb_word, is_blank}
 use Rattle.store_shell.specs.declared.verb.Verb.{Verb}
 use Rattle.store_shell.specs.declared.verb.Verb.TheVariants as verb
-use Rattle.store_shell.proofs.Beginnings.{value_words, all_words, first_word, place_in, begins}
-use Rattle.store_shell.proofs.Numbered.{from_behind, spaced, numbered-one}
+use Rattle.store_shell.proofs.Arguments.{from_behind, spaced}
+use Rattle.store_shell.proofs.Verbs.{verb-one}
 
 position_at : (n : ℕ) (words : List ℕ) → n < length words → cond (nat_lt n (length words)) (Some n) None ≡ Some n
 position_at n words lt =
@@ -29,8 +30,12 @@ verb_at verb.Show rest = position_at 4 (codes "show " ++ rest) (omega arith)
 verb_at verb.Query rest = position_at 5 (codes "query " ++ rest) (omega arith)
 verb_at verb.Count rest = position_at 5 (codes "count " ++ rest) (omega arith)
 verb_at verb.Rename rest = position_at 6 (codes "rename " ++ rest) (omega arith)
+verb_at verb.Insert rest = position_at 6 (codes "insert " ++ rest) (omega arith)
+verb_at verb.Append rest = position_at 6 (codes "append " ++ rest) (omega arith)
 verb_at verb.Delete rest = position_at 6 (codes "delete " ++ rest) (omega arith)
 verb_at verb.Value rest = position_at 5 (codes "value " ++ rest) (omega arith)
+verb_at verb.Attr rest = position_at 4 (codes "attr " ++ rest) (omega arith)
+verb_at verb.Generate rest = position_at 8 (codes "generate " ++ rest) (omega arith)
 
 -- a word and a space are cut there
 word_at : (v : Verb) (rest words : List ℕ) (at : ℕ) → position is_blank words ≡ Some at → words ≡ verb_word v ++ 32 ∷ rest → take at words ≡ verb_word v
@@ -42,41 +47,41 @@ word_at v rest words at e is =
 pub words_at : (v : Verb) (words : List ℕ) (at : ℕ) → position is_blank words ≡ Some at → take at words ≡ verb_word v → words ≡ verb_word v ++ 32 ∷ from_behind words at
 words_at v words at found is = spaced words at found ∙ ap (λ z. z ++ 32 ∷ from_behind words at) is
 
+-- what words ask for by a verb, or by none
+abbrev pub AsksBy : List ℕ → (List ℕ → Type 0) → Option Verb → Type 0
+AsksBy words P verb = MatchOption verb (words ≡ codes "repair") (λ v. (arguments : List ℕ) × (words ≡ verb_word v ++ 32 ∷ arguments) × P arguments)
+
+none-by : (words : List ℕ) (at : ℕ) (P : List ℕ → Type 0) (verb : Option Verb) → position is_blank words ≡ Some at → ((v : Verb) → take at words ≡ verb_word v → ⊥) → AsksBy words P verb → ⊥
+none-by words at P None e none h = let unspaced : None ≡ Some at = sym (ap (position is_blank) h) ∙ e in cc
+none-by words at P (Some v) e none (arguments, is, p) = none v (word_at v arguments words at e is)
+
 -- a command's word is one of the verbs
 pub no_verb : (words : List ℕ) (at : ℕ) (act : Act) → position is_blank words ≡ Some at → ((v : Verb) → take at words ≡ verb_word v → ⊥) → Asks words act → ⊥
-no_verb words at (Load name) e none h = none verb.Load (word_at verb.Load name words at e h.1)
-no_verb words at (LoadGrammar name) e none h = none verb.LoadGrammar (word_at verb.LoadGrammar name words at e h.1)
-no_verb words at (Save name) e none h = none verb.Save (word_at verb.Save name words at e h.1)
-no_verb words at (SaveGrammar name) e none h = none verb.SaveGrammar (word_at verb.SaveGrammar name words at e h.1)
-no_verb words at (Show number) e none h = none verb.Show (word_at verb.Show (decimal number) words at e h.1)
-no_verb words at (Query query) e none h = none verb.Query (word_at verb.Query query words at e h.1)
-no_verb words at (Count query) e none h = none verb.Count (word_at verb.Count query words at e h.1)
-no_verb words at (Rename number name) e none h = none verb.Rename (word_at verb.Rename (decimal number ++ 32 ∷ name) words at e h.2)
-no_verb words at (Delete number) e none h = none verb.Delete (word_at verb.Delete (decimal number) words at e h.1)
-no_verb words at (Value number bytes) e none h =
-    let asked = value_words words number bytes h in
-    none verb.Value (word_at verb.Value asked.0 words at e asked.1)
-no_verb words at Repair e none h = let unspaced : None ≡ Some at = sym (ap (position is_blank) h) ∙ e in cc
+no_verb words at act e none h = none-by words at (λ arguments. Gives arguments act) (verb_of act) e none h
 
--- words that begin with `value` ask for a value, if for anything
-pub asks_value : (words arguments : List ℕ) (n : ℕ) (bytes : List ℕ) → words ≡ codes "value " ++ arguments → IsNumbered arguments n bytes → Asks words (Value n bytes)
-asks_value words arguments n bytes is h =
-    elim h.1 [
-      | inl e ↦ (h.0, inl (is ∙ ap (λ z. codes "value " ++ z) e))
-      | inr e ↦ (h.0, inr (e.0, is ∙ ap (λ z. codes "value " ++ z) e.1))
-    ]
+pub repair-unspaced : (v : Verb) (words rest : List ℕ) → words ≡ verb_word v ++ 32 ∷ rest → words ≡ codes "repair" → ⊥
+repair-unspaced v words rest e h = let unspaced : None ≡ Some (length (verb_word v)) = sym (ap (position is_blank) h) ∙ (ap (position is_blank) e ∙ verb_at v rest) in cc
 
-pub asks_no_value : (words arguments : List ℕ) → words ≡ codes "value " ++ arguments → ((n : ℕ) (bytes : List ℕ) → IsNumbered arguments n bytes → ⊥) → (act : Act) → Asks words act → ⊥
-asks_no_value words arguments is none (Value n bytes) h =
-    let asked = value_words words n bytes h in
-    let same : asked.0 ≡ arguments = cc in
-    let P : List ℕ → Type 0 = λ z. IsNumbered z n bytes in
-    none n bytes (subst P same asked.2)
-asks_no_value words arguments is none act h = let at = begins words act h in let same = ap (λ ws. place_in all_words (first_word ws)) is in absurd (omega (arith, at, same))
+none-given : (v : Verb) (words arguments : List ℕ) (act : Act) (verb : Option Verb) → words ≡ verb_word v ++ 32 ∷ arguments → (verb ≡ Some v → Gives arguments act → ⊥) → AsksBy words (λ given. Gives given act) verb → ⊥
+none-given v words arguments act None is none h = repair-unspaced v words arguments is h
+none-given v words arguments act (Some w) is none (given, is2, gives) =
+    let same = verb-one w v words given arguments is2 is in
+    none (ap (λ z. Some z) same.0) (subst (λ z. Gives z act) same.1 gives)
 
--- words that begin with `rename` and a number ask for nothing without a name
-pub asks_unnamed : (words arguments : List ℕ) (n : ℕ) (name : List ℕ) → words ≡ codes "rename " ++ arguments → IsNumbered arguments n name → name ≡ [] → (act : Act) → Asks words act → ⊥
-asks_unnamed words arguments n name is h none (Rename m other) k =
-    let same : decimal m ++ 32 ∷ other ≡ arguments = cc in
-    k.1 ((numbered-one arguments m n other name (k.0, inl (sym same)) h).1 ∙ none)
-asks_unnamed words arguments n name is h none act k = let at = begins words act k in let same = ap (λ ws. place_in all_words (first_word ws)) is in absurd (omega (arith, at, same))
+-- words ask for what stands behind their verb, and for nothing else
+asks_given : (v : Verb) (words arguments : List ℕ) (act : Act) → words ≡ verb_word v ++ 32 ∷ arguments → verb_of act ≡ Some v → Gives arguments act → Asks words act
+asks_given v words arguments act is of gives = subst (λ verb. AsksBy words (λ given. Gives given act) verb) (sym of) (arguments, is, gives)
+
+asks_nothing : (v : Verb) (words arguments : List ℕ) → words ≡ verb_word v ++ 32 ∷ arguments → ((act : Act) → verb_of act ≡ Some v → Gives arguments act → ⊥) → (act : Act) → Asks words act → ⊥
+asks_nothing v words arguments is none act h = none-given v words arguments act (verb_of act) is (none act) h
+
+pub asks-by-given : (v : Verb) (words arguments : List ℕ) → words ≡ verb_word v ++ 32 ∷ arguments → (read : Option Command)
+    → MatchOption read ((act : Act) → verb_of act ≡ Some v → Gives arguments act → ⊥) (λ command. (verb_of (act_of command) ≡ Some v) × Gives arguments (act_of command))
+    → MatchOption read ((act : Act) → Asks words act → ⊥) (λ command. Asks words (act_of command))
+asks-by-given v words arguments is None none = asks_nothing v words arguments is none
+asks-by-given v words arguments is (Some command) (of, gives) = asks_given v words arguments (act_of command) is of gives
+
+-- what words ask for has few records
+pub asks_few : (words : List ℕ) (act : Act) → Asks words act → AsksFewRecords act
+asks_few words (Generate records) (arguments, is, gives) = (gives.0, gives.1)
+asks_few words act h = tt

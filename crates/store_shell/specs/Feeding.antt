@@ -2,7 +2,7 @@
 use Rattle.std.specs.Prelude.{◌≡◌, ℕ, List, ◌++◌, Option, Result, MatchResult}
 use Rattle.tree_outside.specs.Outside.{Gets, GetsFront, Stays}
 use Rattle.store_core.specs.Worlds.{World}
-use Rattle.store_core.specs.declared.command.Settings.{Settings}
+use Rattle.store_words.specs.declared.words.Settings.{Settings}
 use Rattle.store_shell.specs.Forms.{Quit, IsForm}
 use Rattle.store_shell.specs.Lines.{IsCut, kept}
 use Rattle.store_shell.specs.Runs.{DoesLine}

@@ -1,9 +1,11 @@
 -- What a line asks for.
-use Rattle.std.specs.Prelude.{◌≡◌, ◌≢◌, ◌<◌, ◌≤◌, ◌⊎◌, ◌-◌, ◌^◌, ℕ, List, [], ◌∷◌, ◌++◌, All, length, take, if◌then◌else◌, codes, decimal, nat_eq}
+use Rattle.std.specs.Prelude.{◌≡◌, ◌≢◌, ◌<◌, ◌≤◌, ◌-◌, ◌^◌, ℕ, List, [], ◌∷◌, ◌++◌, All, length, take, if◌then◌else◌, codes, decimal, nat_eq, MatchOption}
 use Rattle.std.specs.List.{ends_with}
 use Rattle.std.specs.Str.{IsUtf8}
-use Rattle.store_core.specs.Acts.{Act, Load, LoadGrammar, Save, SaveGrammar, Show, Query, Count, Rename, Delete, Value, Repair}
+use Rattle.store_core.specs.Acts.{Act, Load, LoadGrammar, Save, SaveGrammar, Show, Query, Count, Rename, Insert, Append, Delete, Value, Attr, Repair, Generate}
+use Rattle.store_shell.specs.Arguments.{IsNamed, IsNumbered}
 use Rattle.store_shell.specs.Lines.{longest}
+use Rattle.store_shell.specs.Verbs.{verb_of, verb_word}
 
 pub data Form : Type 0 where
   -- nothing
@@ -23,20 +25,27 @@ without_return line = if ends_with nat_eq line (13 ∷ []) then take (length lin
 abbrev pub IsFileName : List ℕ → Type 0
 IsFileName name = (name ≢ []) × IsUtf8 name
 
--- the words ask for this
+-- what stands behind the verb gives the command this
+abbrev pub Gives : List ℕ → Act → Type 0
+Gives arguments (Load name) = IsFileName name × (arguments ≡ name)
+Gives arguments (LoadGrammar name) = IsFileName name × (arguments ≡ name)
+Gives arguments (Save name) = IsFileName name × (arguments ≡ name)
+Gives arguments (SaveGrammar name) = IsFileName name × (arguments ≡ name)
+Gives arguments (Show number) = (number < 2 ^ 64) × (arguments ≡ decimal number)
+Gives arguments (Query query) = (query ≢ []) × (arguments ≡ query)
+Gives arguments (Count query) = (query ≢ []) × (arguments ≡ query)
+Gives arguments (Rename number name) = (name ≢ []) × IsNumbered arguments number name
+Gives arguments (Insert number bytes) = (bytes ≢ []) × IsNumbered arguments number bytes
+Gives arguments (Append number bytes) = (bytes ≢ []) × IsNumbered arguments number bytes
+Gives arguments (Delete number) = (number < 2 ^ 64) × (arguments ≡ decimal number)
+Gives arguments (Value number bytes) = IsNumbered arguments number bytes
+Gives arguments (Attr number name bytes) = (rest : List ℕ) × IsNumbered arguments number rest × IsNamed rest name bytes
+Gives arguments Repair = ⊥
+Gives arguments (Generate records) = (1 ≤ records) × (records ≤ 200000) × (arguments ≡ decimal records)
+
+-- the words ask for this: they are its verb and, behind one space, what gives it the rest; `repair` stands alone
 abbrev pub Asks : List ℕ → Act → Type 0
-Asks words (Load name) = IsFileName name × (words ≡ codes "load " ++ name)
-Asks words (LoadGrammar name) = IsFileName name × (words ≡ codes "load-grammar " ++ name)
-Asks words (Save name) = IsFileName name × (words ≡ codes "save " ++ name)
-Asks words (SaveGrammar name) = IsFileName name × (words ≡ codes "save-grammar " ++ name)
-Asks words (Show number) = (number < 2 ^ 64) × (words ≡ codes "show " ++ decimal number)
-Asks words (Query query) = (query ≢ []) × (words ≡ codes "query " ++ query)
-Asks words (Count query) = (query ≢ []) × (words ≡ codes "count " ++ query)
-Asks words (Rename number name) = (number < 2 ^ 64) × (name ≢ []) × (words ≡ codes "rename " ++ (decimal number ++ 32 ∷ name))
-Asks words (Delete number) = (number < 2 ^ 64) × (words ≡ codes "delete " ++ decimal number)
-Asks words (Value number bytes) =
-    (number < 2 ^ 64) × ((words ≡ codes "value " ++ (decimal number ++ 32 ∷ bytes)) ⊎ ((bytes ≡ []) × (words ≡ codes "value " ++ decimal number)))
-Asks words Repair = words ≡ codes "repair"
+Asks words act = MatchOption (verb_of act) (words ≡ codes "repair") (λ verb. (arguments : List ℕ) × (words ≡ verb_word verb ++ 32 ∷ arguments) × Gives arguments act)
 
 -- a line has this form
 abbrev pub IsForm : List ℕ → Form → Type 0

@@ -4,7 +4,7 @@ use Rattle.store_shell.specs.Forms.{Form, IsForm}
 use Rattle.store_shell.specs.Lines.{IsCut}
 use Rattle.store_shell.specs.Runs.{Run}
 use Rattle.store_core.specs.Worlds.{World, IsLawfulState}
-use Rattle.store_core.specs.declared.command.Settings.{Settings}
+use Rattle.store_words.specs.declared.words.Settings.{Settings}
 
 -- bytes are cut into lines and a tail in one way alone
 abbrev pub CutsOne : Type 0

@@ -1,8 +1,8 @@
+pub mod Arguments
 pub mod Feeding
 pub mod Forms
 pub mod Laws
 pub mod Lines
-pub mod Numbered
 pub mod Parsed
 pub mod Runs
 pub mod Serving

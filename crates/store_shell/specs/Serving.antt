@@ -1,8 +1,9 @@
 -- What `serve` does: its contract on the script, the session, the files and the sink.
 use Rattle.std.specs.Prelude.{◌≡◌, ◌<◌, ◌≤◌, ◌^◌, ◌⊎◌, ℕ, List, [], ◌∷◌, ◌++◌, length, Option, IfSome}
 use Rattle.tree_outside.specs.Outside.{Gets, GetsFront, Stays}
+use Rattle.store_words.specs.Words.{IsWords}
 use Rattle.store_core.specs.Worlds.{World}
-use Rattle.store_core.specs.declared.command.Settings.{Settings}
+use Rattle.store_words.specs.declared.words.Settings.{Settings}
 use Rattle.store_shell.specs.Forms.{Quit, IsForm, HasNoQuit}
 use Rattle.store_shell.specs.Lines.{IsCut}
 use Rattle.store_shell.specs.Runs.{DoesLine, Run}
@@ -73,9 +74,11 @@ pub record Refused (script : Script) (old new : World) (before now : Option (Lis
   pub world : new ≡ old
   pub got : Stays before now
 
--- the settings of a script: no words change them as yet
-abbrev pub default_settings : Settings
-default_settings = record { rank = 4; repair = 1 }
+-- the settings of a script that was read are those that the words give
+abbrev pub AreSettings : List (List ℕ) → Status → Settings → Type 0
+AreSettings words status.Words settings = Unit {0}
+AreSettings words status.Memory settings = Unit {0}
+AreSettings words _ settings = IsWords words settings.rank settings.repair
 
 -- what a status says of the script taken, of what was left in the source before, of the worlds and of the sink
 abbrev pub Serves : Settings → Script → Option (List ℕ) → Status → World → World → Option (List ℕ) → Option (List ℕ) → Type 0

@@ -1,12 +1,15 @@
 // The top call, which reads a script and does its lines.
-ghost use Rattle.std.specs.Prelude.{◌≡◌, ◌≢◌, ◌↔◌, ◌≤◌, ℕ, List, [], ◌∷◌, MatchResult};
+ghost use Rattle.std.specs.Prelude.{◌≡◌, ◌≢◌, ◌⊎◌, ◌≤◌, ℕ, List, [], ◌∷◌, MatchResult, map};
 ghost use Rattle.std.specs.Option.{option_copied};
+ghost use Rattle.std.specs.String.{string_bytes};
 ghost use Rattle.tree_outside.specs.Outside.{HasCause, Rose, Takes};
 ghost use Rattle.tree_outside.specs.Shelf.{Keeps};
+ghost use Rattle.store_words.specs.Words.{IsWords};
+ghost use Rattle.store_words.specs.declared.words.Settings.{Settings};
 ghost use Rattle.store_core.specs.Worlds.{world};
 ghost use Rattle.store_shell.specs.Lines.{IsOneLine, kept};
 ghost use Rattle.store_shell.specs.Feeding.{Ends, Feeds};
-ghost use Rattle.store_shell.specs.Serving.{Script, Serves, IsRefused, default_settings};
+ghost use Rattle.store_shell.specs.Serving.{Script, Serves, AreSettings, IsRefused};
 
 use crate::line::Line;
 use crate::parse::{Parsed, parse};
@@ -14,7 +17,8 @@ use crate::status::Status;
 use read_steps::Steps;
 use std::alloc::Global;
 use std::sync::ledger::Ledger;
-use store_core::{Session, Settings, SinkFailed};
+use store_core::{Session, SinkFailed};
+use store_words::{Settings, WordsError, read_settings};
 use tree_outside::{Failed, Shelf, Sink, Source};
 
 /// How many bytes of a script are taken.
@@ -23,9 +27,6 @@ const SCRIPT_LIMIT: usize = 1 << 30;
 /// How many bytes of a script are read at once.
 const PIECE: usize = 4096;
 
-/// As yet no words change them.
-const SETTINGS: Settings = Settings { rank: 4, repair: 1 };
-
 /// Whether a script goes on behind a line.
 #[derive(Clone, Copy)]
 enum Flow {
@@ -33,8 +34,8 @@ enum Flow {
     Quit,
 }
 
-/// Reads the script from the source, does each line's command on the session and the shelf, and writes its text to the sink.
-/// As yet there are no words.
+/// Reads the script from the source, does each line's command on the session and the shelf, and writes its text to the sink, by the
+/// settings that the words give. Words that give none are refused.
 pub fn serve<S: Source, K: Sink, F: Shelf, L: Ledger>(
     alloc: Global,
     words: &[String],
@@ -44,20 +45,48 @@ pub fn serve<S: Source, K: Sink, F: Shelf, L: Ledger>(
     shelf: &mut F,
     steps: &mut Steps<L>,
 ) -> Status
-    ensures serves { (script : Script) × Takes (S.left source.old) (S.left source.new) script.bytes
-        × Serves default_settings script (S.left source.old) result
+    ensures serves { (settings : Settings) × AreSettings (map string_bytes words.now) result settings
+        × (script : Script) × Takes (S.left source.old) (S.left source.new) script.bytes
+        × Serves settings script (S.left source.old) result
         (world session.old (F.told shelf.old) (F.faults shelf.old)) (world session.new (F.told shelf.new) (F.faults shelf.new))
         (K.got sink.old) (K.got sink.new) }
     ensures untouched { IsRefused result → (source.new ≡ source.old) × (sink.new ≡ sink.old) × (shelf.new ≡ shelf.old) }
     ensures later { (S.faults source.old ≤ S.faults source.new) × (K.faults sink.old ≤ K.faults sink.new) × (F.faults shelf.old ≤ F.faults shelf.new) }
     ensures kept { Keeps (K.kept sink.old) (K.kept sink.new) }
-    ensures words { (result ≡ Status.Words) ↔ (words.now ≢ []) }
+    ensures words { result ≡ Status.Words → (rank repair : ℕ) → IsWords (map string_bytes words.now) rank repair → ⊥ }
+    ensures refused { ((rank repair : ℕ) → IsWords (map string_bytes words.now) rank repair → ⊥) → (result ≡ Status.Words) ⊎ (result ≡ Status.Memory) }
     ensures read_fault { result ≡ Status.ReadFault → Rose (S.faults source.old) (S.faults source.new) }
     ensures write_fault { result ≡ Status.WriteFault → Rose (K.faults sink.old) (K.faults sink.new) }
 {
-    if !words.is_empty() {
-        return Status::Words;
+    match read_settings(alloc, words) {
+        Ok(settings) => serve_by(alloc, settings, session, source, sink, shelf, steps),
+        Err(WordsError::Bad) => Status::Words,
+        Err(WordsError::Memory) => Status::Memory,
     }
+}
+
+/// Does a script by these settings.
+fn serve_by<S: Source, K: Sink, F: Shelf, L: Ledger>(
+    alloc: Global,
+    settings: Settings,
+    session: &mut Session,
+    source: &mut S,
+    sink: &mut K,
+    shelf: &mut F,
+    steps: &mut Steps<L>,
+) -> Status
+    requires rank { (1 ≤ settings.rank) × (settings.rank ≤ 8) }
+    ensures serves { (script : Script) × Takes (S.left source.old) (S.left source.new) script.bytes
+        × Serves settings script (S.left source.old) result
+        (world session.old (F.told shelf.old) (F.faults shelf.old)) (world session.new (F.told shelf.new) (F.faults shelf.new))
+        (K.got sink.old) (K.got sink.new) }
+    ensures untouched { IsRefused result → (source.new ≡ source.old) × (sink.new ≡ sink.old) × (shelf.new ≡ shelf.old) }
+    ensures later { (S.faults source.old ≤ S.faults source.new) × (K.faults sink.old ≤ K.faults sink.new) × (F.faults shelf.old ≤ F.faults shelf.new) }
+    ensures kept { Keeps (K.kept sink.old) (K.kept sink.new) }
+    ensures words { result ≢ Status.Words }
+    ensures read_fault { result ≡ Status.ReadFault → Rose (S.faults source.old) (S.faults source.new) }
+    ensures write_fault { result ≡ Status.WriteFault → Rose (K.faults sink.old) (K.faults sink.new) }
+{
     let Ok(mut line) = Line::new(alloc) else {
         return Status::Memory;
     };
@@ -68,14 +97,14 @@ pub fn serve<S: Source, K: Sink, F: Shelf, L: Ledger>(
         match source.read(&mut piece[..room]) {
             Err(Failed) => return Status::ReadFault,
             Ok(0) => {
-                let last = end_line(alloc, session, line.bytes(), SETTINGS, sink, shelf, steps);
+                let last = end_line(alloc, session, line.bytes(), settings, sink, shelf, steps);
                 return last_status(last);
             }
             Ok(count) => {
                 taken += count;
                 let piece = &piece[..count];
                 match feed(
-                    alloc, session, &mut line, piece, SETTINGS, sink, shelf, steps,
+                    alloc, session, &mut line, piece, settings, sink, shelf, steps,
                 ) {
                     Ok(Flow::On) => {}
                     Ok(Flow::Quit) => return Status::Done,

@@ -10,8 +10,12 @@ pub enum Verb {
     Query,
     Count,
     Rename,
+    Insert,
+    Append,
     Delete,
     Value,
+    Attr,
+    Generate,
 }
 
 impl Verb {
@@ -32,8 +36,12 @@ impl Verb {
             b"query" => Some(Verb::Query),
             b"count" => Some(Verb::Count),
             b"rename" => Some(Verb::Rename),
+            b"insert" => Some(Verb::Insert),
+            b"append" => Some(Verb::Append),
             b"delete" => Some(Verb::Delete),
             b"value" => Some(Verb::Value),
+            b"attr" => Some(Verb::Attr),
+            b"generate" => Some(Verb::Generate),
             _ => None,
         }
     }

@@ -31,3 +31,10 @@ returns-in-Count-clause-reads g c = rw c.in-Count.is c.count.ensures.reads
 pub returns-in-Rename-clause-prints : goal.returns-in-Rename-clause-prints
 returns-in-Rename-clause-prints g c =
     ([], Gets-nil (g.K.Sink.got c.args.sink.now), c.edit.ensures.comes (g.F.Shelf.told c.args.shelf.now) (g.F.Shelf.faults c.args.shelf.now))
+
+pub generate-requires-clause-few : goal.generate-requires-clause-few
+generate-requires-clause-few g c = (rw c.in-Generate.is at c.requires.records).1
+
+pub returns-in-Generate-clause-prints : goal.returns-in-Generate-clause-prints
+returns-in-Generate-clause-prints g c =
+    rw c.in-Generate.is ([], Gets-nil (g.K.Sink.got c.args.sink.now), c.generate.ensures.comes (g.F.Shelf.told c.args.shelf.now) (g.F.Shelf.faults c.args.shelf.now))

@@ -1,4 +1,4 @@
--- A number with bytes behind it: where it is cut, and that it is read in one way.
+-- Words with bytes behind them: where they are cut, and that they are read in one way.
 use Rattle.std.specs.Prelude.{◌≡◌, ◌<◌, ◌≤◌, ◌+◌, ◌-◌, ◌%◌, ◌^◌, ℕ, suc, nat_lt, List, [], ◌∷◌, ◌++◌, length, take, drop, Bool, true, false, cond, Some, None, decimal, get_or, refl}
 use Rattle.std.proofs.Common.{sym, ap, ◌∙◌, inl, inr, arith}
 use Rattle.std.specs.List.{position, position_or_len}
@@ -9,7 +9,7 @@ use Rattle.std.proofs.lemmas.List.{take-append-drop, take_rest, length-take, get
 use Rattle.std.proofs.lemmas.List.Elements.{All-nil, All-cons, All-append, All-from_get_or}
 use Rattle.std.proofs.lemmas.List.Quantifiers.{position-Some}
 use Rattle.std.proofs.lemmas.List.Sums.{fails_before_first}
-use Rattle.store_shell.specs.Numbered.{IsNumbered}
+use Rattle.store_shell.specs.Arguments.{HasNoSpace, IsBegun, IsNamed, IsNumbered}
 use Rattle.store_shell.specs.Verbs.{is_blank}
 use Rattle.store_shell.proofs.Marks.{Lacks, first_mark, no_mark}
 
@@ -62,38 +62,34 @@ digits n small =
     (λ n ds le h. All-append (λ byte. byte ≡ 32 → ⊥) ds ((48 + n % 10) ∷ []) h (one_digit (n % 10) (omega arith))) n small
 
 -- ---- reading
--- a number up to the space, and what stands behind it
-pub read_spaced : (arguments : List ℕ) (at n : ℕ) → position is_blank arguments ≡ Some at → n < 2 ^ 64 → take at arguments ≡ decimal n → IsNumbered arguments n (from_behind arguments at)
-read_spaced arguments at n found small e = (small, inl (spaced arguments at found ∙ ap (λ z. z ++ 32 ∷ from_behind arguments at) e))
-
--- there is none where no number stands before the space
-pub none_spaced : (arguments : List ℕ) (at : ℕ) → position is_blank arguments ≡ Some at → ((n : ℕ) → n < 2 ^ 64 → take at arguments ≡ decimal n → ⊥) → (n : ℕ) (bytes : List ℕ) → IsNumbered arguments n bytes → ⊥
-none_spaced arguments at found none n bytes h =
-    elim h.1 [
-      | inl e ↦ none n h.0 (first_mark (take at arguments) (decimal n) (from_behind arguments at) bytes (unspaced_front arguments at found) (digits n h.0) (sym (spaced arguments at found) ∙ e)).0
-      | inr e ↦ no_mark (decimal n) (take at arguments) (from_behind arguments at) (digits n h.0) (sym e.1 ∙ spaced arguments at found)
+-- a word and what stands behind it are told by the whole
+pub begun-one : (arguments v w xs ys : List ℕ) → HasNoSpace v → HasNoSpace w → IsBegun arguments v xs → IsBegun arguments w ys → (v ≡ w) × (xs ≡ ys)
+begun-one arguments v w xs ys lv lw h k =
+    elim h [
+      | inl e ↦ elim k [
+        | inl d ↦ first_mark v w xs ys lv lw (sym e ∙ d)
+        | inr d ↦ absurd (no_mark w v xs lw (sym d.1 ∙ e))
+      ]
+      | inr e ↦ elim k [
+        | inl d ↦ absurd (no_mark v w ys lv (sym e.1 ∙ d))
+        | inr d ↦ (sym e.1 ∙ d.1, e.0 ∙ sym d.0)
+      ]
     ]
 
--- nor where there is no space and no number
-pub none_unspaced : (arguments : List ℕ) → position is_blank arguments ≡ None → ((n : ℕ) → n < 2 ^ 64 → arguments ≡ decimal n → ⊥) → (n : ℕ) (bytes : List ℕ) → IsNumbered arguments n bytes → ⊥
-none_unspaced arguments unfound none n bytes h =
-    elim h.1 [
-      | inl e ↦ no_mark arguments (decimal n) bytes (unspaced arguments unfound) e
-      | inr e ↦ none n h.0 e.1
-    ]
-
--- it is read in one way
+-- so are a number and what stands behind it
 pub numbered-one : (arguments : List ℕ) (m n : ℕ) (xs ys : List ℕ) → IsNumbered arguments m xs → IsNumbered arguments n ys → (m ≡ n) × (xs ≡ ys)
 numbered-one arguments m n xs ys h k =
-    elim h.1 [
-      | inl e ↦ elim k.1 [
-        | inl d ↦
-            let r = first_mark (decimal m) (decimal n) xs ys (digits m h.0) (digits n k.0) (sym e ∙ d) in
-            (decimal_injective m n h.0 k.0 r.0, r.1)
-        | inr d ↦ absurd (no_mark (decimal n) (decimal m) xs (digits n k.0) (sym d.1 ∙ e))
-      ]
-      | inr e ↦ elim k.1 [
-        | inl d ↦ absurd (no_mark (decimal m) (decimal n) ys (digits m h.0) (sym e.1 ∙ d))
-        | inr d ↦ (decimal_injective m n h.0 k.0 (sym e.1 ∙ d.1), e.0 ∙ sym d.0)
-      ]
-    ]
+    let r = begun-one arguments (decimal m) (decimal n) xs ys (digits m h.0) (digits n k.0) h.1 k.1 in
+    (decimal_injective m n h.0 k.0 r.0, r.1)
+
+-- and a name
+pub named-one : (arguments v w xs ys : List ℕ) → IsNamed arguments v xs → IsNamed arguments w ys → (v ≡ w) × (xs ≡ ys)
+named-one arguments v w xs ys h k = begun-one arguments v w xs ys h.1 k.1 h.2 k.2
+
+-- where a word is cut off that is no number, none stands there
+pub none-numbered : (arguments word rest : List ℕ) → HasNoSpace word → IsBegun arguments word rest → ((n : ℕ) → n < 2 ^ 64 → word ≡ decimal n → ⊥) → (n : ℕ) (bytes : List ℕ) → IsNumbered arguments n bytes → ⊥
+none-numbered arguments word rest lacks begun none n bytes h = none n h.0 (begun-one arguments word (decimal n) rest bytes lacks (digits n h.0) begun h.1).0
+
+-- nor a name where it is empty
+pub none-named : (arguments word rest : List ℕ) → HasNoSpace word → IsBegun arguments word rest → word ≡ [] → (name bytes : List ℕ) → IsNamed arguments name bytes → ⊥
+none-named arguments word rest lacks begun empty name bytes h = h.0 (sym (begun-one arguments word name rest bytes lacks h.1 begun h.2).0 ∙ empty)

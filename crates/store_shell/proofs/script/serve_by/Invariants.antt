@@ -4,9 +4,8 @@ use Rattle.tree_outside.specs.Shelf.{Keeps}
 use Rattle.store_core.specs.Worlds.{world}
 use Rattle.store_core.specs.declared.session.SinkFailed.{SinkFailed}
 use Rattle.store_shell.specs.Feeding.{Feeds}
-use Rattle.store_shell.specs.Serving.{default_settings}
 use Rattle.store_shell.specs.declared.script.Flow.TheVariants as flow
-use Rattle.store_shell.proofs.script.serve.Given as goal
+use Rattle.store_shell.proofs.script.serve_by.Given as goal
 
 abbrev pub invariant-loop-taken : goal.invariant-loop-taken
 invariant-loop-taken g l = record {
@@ -14,7 +13,7 @@ invariant-loop-taken g l = record {
   bytes : List ℕ;
   taken : Takes (g.S.Source.left l.fn.source) (g.S.Source.left l.source) bytes;
   count : length bytes ≡ l.taken;
-  fed : Feeds {E = SinkFailed} default_settings [] bytes (Ok flow.On)
+  fed : Feeds {E = SinkFailed} l.fn.settings [] bytes (Ok flow.On)
       (world l.fn.session (g.F.Shelf.told l.fn.shelf) (g.F.Shelf.faults l.fn.shelf)) (world l.session (g.F.Shelf.told l.shelf) (g.F.Shelf.faults l.shelf))
       (g.K.Sink.got l.fn.sink) (g.K.Sink.got l.sink) l.line;
   source : g.S.Source.faults l.fn.source ≤ g.S.Source.faults l.source;

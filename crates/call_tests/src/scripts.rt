@@ -17,11 +17,12 @@ mod limits;
 mod long_files;
 pub(crate) mod memory;
 mod rows;
-mod sessions;
 mod statuses;
+mod words;
 
 fn serve_in<S: Source, F: Shelf, L: Ledger>(
     alloc: Global,
+    words: &[String],
     session: &mut Session,
     source: &mut S,
     sink: &mut MemorySink,
@@ -33,7 +34,19 @@ fn serve_in<S: Source, F: Shelf, L: Ledger>(
     requires some { 0 < blank.parts }
 {
     let mut steps: Steps<L> = Steps::new(blank);
-    serve(alloc, &[], session, source, sink, shelf, &mut steps)
+    serve(alloc, words, session, source, sink, shelf, &mut steps)
+}
+
+// Serves a script by these words.
+fn served_by<S: Source, F: Shelf>(
+    alloc: Global,
+    words: &[String],
+    session: &mut Session,
+    source: &mut S,
+    sink: &mut MemorySink,
+    shelf: &mut F,
+) -> Status {
+    serve_in::<S, F, Brand>(alloc, words, session, source, sink, shelf, Blank::new(1))
 }
 
 // Serves a script without words.
@@ -44,7 +57,7 @@ fn served<S: Source, F: Shelf>(
     sink: &mut MemorySink,
     shelf: &mut F,
 ) -> Status {
-    serve_in::<S, F, Brand>(alloc, session, source, sink, shelf, Blank::new(1))
+    served_by(alloc, &[], session, source, sink, shelf)
 }
 
 // Serves a script from an empty session, and asserts how it ends and what it prints.

@@ -1,6 +1,6 @@
 //! Tests of the public calls of the crates that hold a grammar, change it, count and find its nodes, and write it: worked rows over small
 //! grammars, one whose values no memory holds, and each call that takes memory and that the program doesn't use once with enough of it.
-//! They stand apart from `call_tests` and `query_tests` so that all are proved side by side.
+//! They stand apart from the other test crates so that all are proved side by side.
 #![tactic(auto)]
 
 #[cfg(test)]

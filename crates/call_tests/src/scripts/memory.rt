@@ -1,7 +1,7 @@
 // Scripts over objects in memory, as rows of tables.
 ghost use Rattle.std.specs.Prelude.{◌≤◌};
 
-use super::served;
+use super::served_by;
 use std::alloc::{AllocError, Global};
 use std::collections::BTreeMap;
 use std::process::Abort;
@@ -92,15 +92,31 @@ pub(super) struct Objects {
 }
 
 impl Objects {
-    // Serves the script of the source.
+    // Serves the script of the source, without words.
     pub(super) fn serve(&mut self, alloc: Global, session: &mut Session) -> Status {
-        served(
+        self.serve_by(alloc, &[], session)
+    }
+
+    // Serves it by these words.
+    pub(super) fn serve_by(
+        &mut self,
+        alloc: Global,
+        words: &[String],
+        session: &mut Session,
+    ) -> Status {
+        served_by(
             alloc,
+            words,
             session,
             &mut self.source,
             &mut self.sink,
             &mut self.shelf,
         )
+    }
+
+    // What was printed.
+    pub(super) fn printed(&self) -> &[u8] {
+        self.sink.bytes()
     }
 }
 

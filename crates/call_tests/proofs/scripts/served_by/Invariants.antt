@@ -1,4 +1,4 @@
-use Rattle.call_tests.proofs.scripts.served.Given as goal
+use Rattle.call_tests.proofs.scripts.served_by.Given as goal
 
 abbrev pub ghosts-serve_in : goal.ghosts-serve_in
 ghosts-serve_in g a = record { name = a.blank.name; parts = a.blank.parts }

@@ -1,6 +1,6 @@
 -- Whether an attribute may get a name, by the symbols of its element's attributes.
-use Rattle.std.proofs.Common.{◌≡◌, ◌≢◌, ℕ, ◌<◌, List, Bool, false, ap, sym, ◌∙◌, subst, arith, append-nil, Some, Option}
-use Rattle.std.specs.Prelude.{slice_get}
+use Rattle.std.proofs.Common.{◌≡◌, ◌≢◌, ℕ, ◌<◌, List, Bool, false, ap, sym, ◌∙◌, subst, arith, append-nil, None, Some, Option}
+use Rattle.std.specs.Prelude.{slice_get, unwrap_or}
 use Rattle.std.proofs.lemmas.Option.{some_pair_parts}
 use Rattle.plain_tree.specs.declared.kind.Kind.{Kind}
 use Rattle.plain_tree.specs.declared.kind.Kind.TheVariants.{Attribute}
@@ -115,3 +115,12 @@ module _ (s : Store) (t : Tree) (i : IsStoreFor s t) (n : ℕ) (told : Some Attr
         allowed-free h =
             let r = allowed-name t n Attribute told x h in
             tells-kids ∙ there-free t i.stand.document n at.place.before own.name own.value own.kids at.place.behind kid x own-apart r.0 r.1
+
+-- the inner number that is told
+pub unwrap-some : (o : Option (Option ℕ)) (m : ℕ) → unwrap_or o None ≡ Some m → o ≡ Some (Some m)
+unwrap-some None m e = absurd cc
+unwrap-some (Some x) m e = ap Some e
+
+pub unwrap-none : (o : Option (Option ℕ)) → unwrap_or o None ≡ None → (m : ℕ) → o ≡ Some (Some m) → ⊥
+unwrap-none None e m f = absurd cc
+unwrap-none (Some x) e m f = let g : Some x ≡ Some None = ap Some e in let h : Some None ≡ Some (Some m) = sym g ∙ f in absurd cc

@@ -1,8 +1,6 @@
 -- A fragment of which the first text becomes one with the text behind which it comes.
-use Rattle.std.proofs.Common.{◌≡◌, ◌≢◌, ℕ, zero, suc, ◌+◌, ◌-◌, ◌<◌, ◌≤◌, ◌^◌, List, [], ◌∷◌, ◌++◌, length, take, drop, get_or, true, false, refl, ap, sym, ◌∙◌, subst, arith, Option, Some, None, inl}
-use Rattle.std.specs.Option.{option_eq}
-use Rattle.std.specs.Prelude.{eqb, slice_set, unwrap_or}
-use Rattle.std.proofs.lemmas.Bool.{eq-eqb, eqb-true}
+use Rattle.std.proofs.Common.{◌≡◌, ◌≢◌, ℕ, zero, suc, ◌+◌, ◌-◌, ◌*◌, ◌<◌, ◌≤◌, ◌^◌, List, [], ◌∷◌, ◌++◌, length, take, drop, get_or, true, false, refl, ap, sym, ◌∙◌, subst, arith, Option, Some, inl}
+use Rattle.std.specs.Prelude.{slice_set}
 use Rattle.std.proofs.lemmas.List.{take_all}
 use Rattle.std.proofs.Math.Bool.{true≢false}
 use Rattle.plain_tree.specs.declared.edit.Edit.TheVariants.{Append, Value}
@@ -31,7 +29,8 @@ use Rattle.plain_tree.proofs.Seams.{leaf-texts}
 use Rattle.plain_tree.proofs.TextsAt.{from-end, lawful-from}
 use Rattle.slt_grammar.specs.Coding.{Codes}
 use Rattle.fcns_encoding.specs.Interning.{Interns, IsIn}
-use Rattle.preorder_address.specs.TreeNumbers.{extent_at, kind_at, parent_at, text_rank_at}
+use Rattle.preorder_address.specs.Spots.{place_at}
+use Rattle.preorder_address.specs.TreeNumbers.{extent_at, kind_at, text_rank_at}
 use Rattle.tree_updates.specs.CallAnswers.{is_text}
 use Rattle.tree_updates.specs.FragmentGrowths.{IsEndSite, IsFragmentGrowth, MeetsAtEnd}
 use Rattle.tree_updates.specs.Growths.{GetsText, GrowsInto}
@@ -47,7 +46,6 @@ use Rattle.tree_updates.proofs.MeetingTexts.{text-told}
 use Rattle.tree_updates.proofs.NodePlaces.{placed as place-of-node, allowed-there}
 use Rattle.tree_updates.proofs.NodesThere.{allowed-low, node-there}
 use Rattle.tree_updates.proofs.Numbers.{told-text}
-use Rattle.tree_updates.proofs.SpareNodes.{unwrap-some}
 use Rattle.tree_updates.proofs.SpotExtents.{IsMeasured, measured}
 use Rattle.tree_updates.proofs.StoreSteps.{low-at}
 use Rattle.tree_updates.proofs.ValuedStores.{rank-within, stands-after}
@@ -101,21 +99,6 @@ none-of : (ks : Trees) → node_count_all ks ≡ 0 → ks ≡ none
 none-of none e = refl
 none-of (more (node k m v js) us) e = absurd (omega (arith, e))
 
-some-kind : (k l : Kind) → Some k ≡ Some l → k ≡ l
-some-kind k l e = cc
-
--- an answer that is a number is told by comparing
-pub told-same : (o : Option ℕ) (m : ℕ) → option_eq eqb o (Some m) ≡ true → o ≡ Some m
-told-same None m e = absurd (true≢false (sym e))
-told-same (Some k) m e = ap (λ (j : ℕ). Some j) (eqb-true k m e)
-
-pub same-told : (o : Option ℕ) (m : ℕ) → o ≡ Some m → option_eq eqb o (Some m) ≡ true
-same-told o m e = ap (λ (x : Option ℕ). option_eq eqb x (Some m)) e ∙ eq-eqb m m refl
-
--- the same number told
-told-again : (o : Option (Option ℕ)) (m : ℕ) → o ≡ Some (Some m) → unwrap_or o None ≡ Some m
-told-again o m e = ap (λ (x : Option (Option ℕ)). unwrap_or x None) e
-
 module _ (t : Tree) (n : ℕ) (F : List Tree) (edit : IsEditOf t (Append n F)) where
   low : n < node_count t
   low = allowed-low t (Append n F) edit.allowed
@@ -153,13 +136,6 @@ module _ (t : Tree) (n : ℕ) (F : List Tree) (edit : IsEditOf t (Append n F)) w
     lawful-kids : AreLawfulTrees K.kids
     lawful-kids = let l : AreLawfulTrees (more (node K.kind K.name K.value K.kids) K.behind) = subst AreLawfulTrees K.from_is (lawful-from n (more t none) all-low lawful-all) in l.0.2
 
-    -- what is told of the last node below is not that it is a text and a kid
-    told-apart : (c : ℕ) → below ≡ suc c → ((kind_at t (n + below) ≡ Some Text) × (parent_at (more t none) (n + below) ≡ Some (Some n)) → ⊥) → edited t (Append n F) ≡ placed t (Append n F)
-    told-apart c e h =
-        let is : n + suc c ≡ n + below = omega (arith, e) in
-        no-end (told-no-end t n all-low c (omega (arith, e, size)) (leaf-texts K.kids lawful-kids)
-        (λ x. h (ap (kind_at t) (sym is) ∙ x.0, ap (parent_at (more t none)) (sym is) ∙ x.1)))
-
     one-less : below ≢ 0 → (c : ℕ) × (below ≡ suc c)
     one-less h = by_cases below refl
       where
@@ -167,44 +143,54 @@ module _ (t : Tree) (n : ℕ) (F : List Tree) (edit : IsEditOf t (Append n F)) w
         by_cases zero e = absurd (h e)
         by_cases (suc c) e = (c, e)
 
-    module _ (some : below ≢ 0) (kind : Option Kind) (kind-is : kind ≡ kind_at t (n + below)) where
+    -- what is told of the last node below: its kind, its place, and that of node n
+    module _ (some : below ≢ 0) (kind : Option Kind) (kind-is : kind ≡ kind_at t (n + below)) (p q : ℕ) (place : Some p ≡ place_at t n) (last : Some q ≡ place_at t (n + below)) where
+      abbrev c : ℕ
+      c = (one-less some).0
+
+      is : n + below ≡ n + suc c
+      is = ap (λ (j : ℕ). n + j) (one-less some).1
+
+      counted : suc c ≡ node_count_all K.kids
+      counted = omega (arith, (one-less some).1, size)
+
+      -- it is not a text and a kid
+      told-apart : ((kind_at t (n + below) ≡ Some Text) × (q + 1 ≡ p + 2 * below) → ⊥) → edited t (Append n F) ≡ placed t (Append n F)
+      told-apart h =
+          no-end (told-no-end t n all-low c counted p q place (last ∙ ap (place_at t) is) (leaf-texts K.kids lawful-kids) (λ x. h (ap (kind_at t) is ∙ x.0, omega (arith, x.1, (one-less some).1))))
+
       pub no-text : is_text kind ≡ false → edited t (Append n F) ≡ placed t (Append n F)
-      no-text e = let c = one-less some in told-apart c.0 c.1 (λ x. true≢false (sym (ap is_text (kind-is ∙ x.0)) ∙ e))
+      no-text e = told-apart (λ x. true≢false (sym (ap is_text (kind-is ∙ x.0)) ∙ e))
 
-      module _ (o : Option (Option ℕ)) (parent : o ≡ parent_at (more t none) (n + below)) where
-        pub no-kid : (unwrap_or o None ≡ Some n → ⊥) → edited t (Append n F) ≡ placed t (Append n F)
-        no-kid h = let c = one-less some in told-apart c.0 c.1 (λ x. h (told-again o n (parent ∙ x.1)))
+      pub no-kid : q + 1 ≢ p + 2 * below → edited t (Append n F) ≡ placed t (Append n F)
+      no-kid h = told-apart (λ x. h x.1)
 
-        -- the last node below is a text, and a kid
-        pub kid-meets : begins_text (trees F) ≡ true → is_text kind ≡ true → unwrap_or o None ≡ Some n → MeetsAtEnd t n (n + below) F
-        kid-meets first is-text is-kid =
-            let c = one-less some in
-            let is : n + below ≡ n + suc c.0 = omega (arith, c.1) in
-            let up = ap (parent_at (more t none)) (sym is) ∙ sym parent ∙ unwrap-some o n is-kid in
-            let W = last-kid-told t n all-low c.0 (omega (arith, c.1, size)) up in
-            let B = begins F edit.parts.1.1 first in
-            let X = told-text t edit.document_is.lawful (n + below) last-low (sym kind-is ∙ text-told kind is-text) in
-            let last : Tree = node W.kind W.name W.value none in
-            let here : from_node n (more t none) ≡ more (node K.kind K.name K.value (chained more W.front (more (node W.kind W.name W.value none) none))) K.behind =
-            K.from_is ∙ ap (λ ks. more (node K.kind K.name K.value ks) K.behind) W.is in
-            let there = kid-there n (more t none) all-low K.kind K.name K.value W.front (more (node W.kind W.name W.value none) none) K.behind here (omega arith) in
-            let number : n + below ≡ n + suc (node_count_all W.front) = omega (arith, c.1, W.number) in
-            let same : node W.kind W.name W.value none ≡ text X.0 = first-same (node W.kind W.name W.value none) (text X.0) none _ (sym there ∙ ap (λ (j : ℕ). from_node j (more t none)) (sym number) ∙ X.1) in
-            record {
-              before = X.0;
-              first = B.value;
-              others = B.others;
-              ends = record {
-                kind = K.kind;
-                name = K.name;
-                content = K.value;
-                front = W.front;
-                behind = K.behind;
-                from_is = here ∙ ap (λ (r : Tree). more (node K.kind K.name K.value (chained more W.front (more r none))) K.behind) same;
-                last_is = number;
-              };
-              begins = B.is;
-            }
+      -- it is a text, and a kid
+      pub kid-meets : begins_text (trees F) ≡ true → is_text kind ≡ true → q + 1 ≡ p + 2 * below → MeetsAtEnd t n (n + below) F
+      kid-meets first is-text is-kid =
+          let W = last-kid-told t n all-low c counted p q place (last ∙ ap (place_at t) is) (omega (arith, is-kid, (one-less some).1)) in
+          let B = begins F edit.parts.1.1 first in
+          let X = told-text t edit.document_is.lawful (n + below) last-low (sym kind-is ∙ text-told kind is-text) in
+          let here : from_node n (more t none) ≡ more (node K.kind K.name K.value (chained more W.front (more (node W.kind W.name W.value none) none))) K.behind =
+          K.from_is ∙ ap (λ ks. more (node K.kind K.name K.value ks) K.behind) W.is in
+          let there = kid-there n (more t none) all-low K.kind K.name K.value W.front (more (node W.kind W.name W.value none) none) K.behind here (omega arith) in
+          let number : n + below ≡ n + suc (node_count_all W.front) = omega (arith, (one-less some).1, W.number) in
+          let same : node W.kind W.name W.value none ≡ text X.0 = first-same (node W.kind W.name W.value none) (text X.0) none _ (sym there ∙ ap (λ (j : ℕ). from_node j (more t none)) (sym number) ∙ X.1) in
+          record {
+            before = X.0;
+            first = B.value;
+            others = B.others;
+            ends = record {
+              kind = K.kind;
+              name = K.name;
+              content = K.value;
+              front = W.front;
+              behind = K.behind;
+              from_is = here ∙ ap (λ (r : Tree). more (node K.kind K.name K.value (chained more W.front (more r none))) K.behind) same;
+              last_is = number;
+            };
+            begins = B.is;
+          }
 
 some-and : (x y : List ℕ) → x ≢ [] → (x ++ y) ≢ []
 some-and [] y h = absurd (h refl)

@@ -1,5 +1,5 @@
 -- A node that goes from between two texts: the left one gets the value of both, the right one goes, and then the node.
-use Rattle.std.proofs.Common.{◌≡◌, ◌≢◌, ℕ, zero, suc, ◌+◌, ◌-◌, ◌<◌, List, [], ◌∷◌, ◌++◌, refl, ap, sym, ◌∙◌, subst, arith, None}
+use Rattle.std.proofs.Common.{◌≡◌, ◌≢◌, ℕ, zero, suc, ◌+◌, ◌-◌, ◌<◌, List, [], ◌∷◌, ◌++◌, refl, ap, sym, ◌∙◌, subst, arith, None, Some}
 use Rattle.std.specs.Prelude.{slice_set}
 use Rattle.plain_tree.specs.declared.kind.Kind.{Kind}
 use Rattle.plain_tree.specs.declared.kind.Kind.TheVariants.{Text}
@@ -18,8 +18,12 @@ use Rattle.plain_tree.proofs.SeamTexts.{text}
 use Rattle.plain_tree.proofs.TextsAt.{lawful-from}
 use Rattle.slt_grammar.specs.Standing.{StandsFor}
 use Rattle.slt_grammar.specs.declared.rules.Rule.{Rule}
-use Rattle.tree_updates.specs.Extents.{LeavesDocument, StandsBetween}
-use Rattle.tree_updates.proofs.DeletedStore.{first-stands, node-here}
+use Rattle.preorder_address.specs.TreeNumbers.{text_rank_at}
+use Rattle.tree_updates.specs.Extents.{IsExtentOf, LeavesDocument, StandsBetween}
+use Rattle.tree_updates.specs.declared.node_extent.Extent.{Extent}
+use Rattle.tree_updates.proofs.DeletedStore.{first-stands, node-here, node-rank}
+use Rattle.tree_updates.proofs.RankedValues.{rank-valued}
+use Rattle.tree_updates.proofs.Ranks.{rank-told}
 use Rattle.tree_updates.proofs.StoreSteps.{low-at}
 use Rattle.tree_updates.proofs.Texts.{rank_in}
 
@@ -67,10 +71,15 @@ pub record AreSteps (G : List Rule) (names : List (Kind × List ℕ)) (values : 
   pub left_count : node_count (valued_left t a w) ≡ node_count t
   pub right_leaves : LeavesDocument (valued_left t a w) (Delete right)
   pub right_low : right < node_count (valued_left t a w)
+  pub right_extent : (rank : ℕ) → Some rank ≡ text_rank_at t right → IsExtentOf (valued_left t a w) right (record { nodes = 1; rank = rank; texts = 1 })
   pub node_leaves : LeavesDocument (without_right t a right w) (Delete n)
   pub node_low : n < node_count (without_right t a right w)
+  pub node_extent : (e : Extent) → IsExtentOf t n e → IsExtentOf (without_right t a right w) n e
   pub edited_is : edited t (Delete n) ≡ placed (without_right t a right w) (Delete n)
   pub one_merged : merged t (Delete n) ≡ 1
+
+first-same : (s r : Tree) (us vs : Trees) → more s us ≡ more r vs → s ≡ r
+first-same s r us vs e = cc
 
 some-and : (x y : List ℕ) → x ≢ [] → (x ++ y) ≢ []
 some-and [] y h = absurd (h refl)
@@ -132,7 +141,7 @@ module _ (G : List Rule) (names : List (Kind × List ℕ)) (values : List (List 
       )
 
   node-there : from_node (suc (suc i)) (more (t2 t s.document i x y k m v ks us here low chars some allowed) none) ≡ more (node k m v ks) us
-  node-there = node-here G G G names values t s i x y k m v ks us here low chars some allowed
+  node-there = node-here G names values t s i x y k m v ks us here low chars some allowed
 
   last : LeavesDocument (t2 t s.document i x y k m v ks us here low chars some allowed) (Delete (suc (suc i)))
   last =
@@ -158,20 +167,57 @@ module _ (G : List Rule) (names : List (Kind × List ℕ)) (values : List (List 
         two-count,
       )
 
+  two-low : suc (suc i) < node_count (t2 t s.document i x y k m v ks us here low chars some allowed)
+  two-low = let r = right-here in let c = two-count in omega (arith, c, left-count, r.0)
+
+  -- the right text keeps its rank, and node n all
+  right-extent : (rank : ℕ) → Some rank ≡ text_rank_at t (suc (suc i) + suc (node_count_all ks))
+      → IsExtentOf (t1 t s.document i x y k m v ks us here low chars some allowed) (suc (suc i) + suc (node_count_all ks)) (record { nodes = 1; rank = rank; texts = 1 })
+  right-extent rank e =
+      let one : Tree = t1 t s.document i x y k m v ks us here low chars some allowed in
+      let n : ℕ = suc (suc i) + suc (node_count_all ks) in
+      let r = right-here in
+      let h = low in
+      let same : rank_in n (more one none) ≡ rank_in n (more t none) = ap (rank_in n) (sym one-alone) ∙ rank-valued (x ++ y) (suc i) (more t none) (omega (arith, h)) n in
+      record {
+        here = text y;
+        behind = us;
+        from_is = r.1;
+        nodes = refl;
+        rank = rank-told one n r.0 ∙ ap (λ (j : ℕ). Some j) same ∙ sym (rank-told t n (omega (arith, r.0, left-count))) ∙ sym e;
+        texts_are = refl;
+      }
+
+  node-extent : (e : Extent) → IsExtentOf t (suc (suc i)) e → IsExtentOf (t2 t s.document i x y k m v ks us here low chars some allowed) (suc (suc i)) e
+  node-extent e X =
+      let two : Tree = t2 t s.document i x y k m v ks us here low chars some allowed in
+      let n : ℕ = suc (suc i) in
+      let same : X.here ≡ node k m v ks = first-same X.here (node k m v ks) X.behind (more (text y) us) (sym X.from_is ∙ there) in
+      record {
+        here = X.here;
+        behind = us;
+        from_is = node-there ∙ ap (λ r. more r us) (sym same);
+        nodes = X.nodes;
+        rank = rank-told two n two-low ∙ ap (λ (j : ℕ). Some j) (node-rank G names values t s i x y k m v ks us here low chars some allowed) ∙ sym (rank-told t n low) ∙ X.rank;
+        texts_are = X.texts_are;
+      }
+
   steps-are : AreSteps G names values t (suc i) (suc (suc i)) (suc (suc i) + suc (node_count_all ks)) (x ++ y)
   steps-are =
       let r = right-here in
       let c = two-count in
       let b = second-alone t s.document i x y k m v ks us here low chars some allowed in
       record {
-        left_stands = first-stands G G G names values t s i x y k m v ks us here low chars some allowed;
+        left_stands = first-stands G names values t s i x y k m v ks us here low chars some allowed;
         left_low = (let h = low in omega (arith, h));
         low = low;
         left_count = left-count;
         right_leaves = record { alone = b.0; document = b.1 };
         right_low = r.0;
+        right_extent = right-extent;
         node_leaves = last;
-        node_low = omega (arith, c, left-count, r.0);
+        node_low = two-low;
+        node_extent = node-extent;
         edited_is = (delete-by-steps t s.document i x y k m v ks us here low chars some allowed).1;
         one_merged = merges;
       }

@@ -1,5 +1,5 @@
 -- Bodies that are the code of trees, with a parameter at its end.
-use Rattle.std.proofs.Common.{◌≡◌, ◌+◌, ◌-◌, ◌*◌, List, [], ◌∷◌, ◌++◌, length, ap, sym, ◌∙◌, subst, arith, append_assoc, length-append}
+use Rattle.std.proofs.Common.{◌≡◌, ◌+◌, ◌-◌, ◌*◌, List, [], ◌∷◌, ◌++◌, length, ap, sym, ◌∙◌, subst, arith, length-append}
 use Rattle.rule_arena.specs.declared.label.Label.{Label}
 use Rattle.rule_arena.specs.declared.label.Label.TheVariants.{Bottom, Symbol, Call, Param}
 use Rattle.plain_tree.specs.NodePairs.{Pair}
@@ -14,8 +14,7 @@ use Rattle.fcns_encoding.specs.Labels.{term_labels}
 use Rattle.fcns_encoding.proofs.LabelLemmas.{labels-calls, labels-params, labels-term}
 use Rattle.linked_edits.specs.Endings.{EndsInParam}
 use Rattle.tree_updates.specs.Fragments.{IsCodeOf}
-use Rattle.tree_updates.proofs.CodeEdits.{codes-whole}
-use Rattle.tree_updates.proofs.FragmentBodies.{fragment-means, fragment-own}
+use Rattle.tree_updates.proofs.FragmentBodies.{fragment-hole, fragment-last, fragment-means, fragment-own}
 
 real-append : (xs ys : List Label) → real_nodes (xs ++ ys) ≡ real_nodes xs + real_nodes ys
 real-append [] ys = omega arith
@@ -31,11 +30,6 @@ labels-real (Node f a b) =
 labels-real (Hole i) = omega arith
 
 module _ (names : List Pair) where
-  -- its one hole is its last term
-  pub code-hole : (F : Trees) (front : Term) → CodesTo names (Hole 0) F front → holes_of front ≡ Hole 0 ∷ []
-  code-hole none front c = ap holes_of c
-  code-hole (more (node k m v ks) F) front c = ap holes_of c.6 ∙ ap (λ hs. hs ++ holes_of c.2) (codes-whole names ks c.1 c.4) ∙ code-hole F c.2 c.5
-
   -- each node has its symbol, and a bottom behind its kids
   code-labels : (last : Term) → length (term_labels last) ≡ 1 → (F : Trees) (term : Term) → CodesTo names last F term → length (term_labels term) ≡ 2 * node_count_all F + 1
   code-labels last one none term c = omega (arith, ap (λ t. length (term_labels t)) c, one)
@@ -44,30 +38,21 @@ module _ (names : List Pair) where
       let rest = code-labels last one F c.2 c.5 in
       omega (arith, ap (λ t. length (term_labels t)) c.6, length-append (term_labels c.1) (term_labels c.2), kids, rest)
 
-  code-ends : (F : Trees) (front : Term) → CodesTo names (Hole 0) F front → EndsInParam (term_labels front)
-  code-ends none front c = record { front = []; is = ap term_labels c }
-  code-ends (more (node k m v ks) F) front c =
-      let E = code-ends F c.2 c.5 in
-      record {
-        front = Symbol c.0 ∷ (term_labels c.1 ++ E.front);
-        is = ap term_labels c.6 ∙ ap (λ ls. Symbol c.0 ∷ ls) (ap (λ xs. term_labels c.1 ++ xs) E.is ∙ sym (append_assoc (term_labels c.1) E.front (Param ∷ [])));
-      }
-
   module _ (F : List Tree) (body : List Label) (C : IsCodeOf names F body) where
     pub code-length : length body ≡ 2 * node_count_all (trees F) + 1
     code-length = ap length C.is ∙ code-labels (Hole 0) (omega arith) (trees F) C.front C.codes
 
     pub code-real : real_nodes body ≡ 2 * node_count_all (trees F)
-    code-real = omega (arith, code-length, ap length C.is, ap real_nodes C.is, labels-real C.front, ap length (code-hole (trees F) C.front C.codes))
+    code-real = omega (arith, code-length, ap length C.is, ap real_nodes C.is, labels-real C.front, ap length (fragment-hole names (trees F) C.front C.codes))
 
     pub code-last : EndsInParam body
-    code-last = subst EndsInParam (sym C.is) (code-ends (trees F) C.front C.codes)
+    code-last = subst EndsInParam (sym C.is) (fragment-last names (trees F) C.front C.codes)
 
     -- it is a body that can be put around a node
     pub code-wrapper : (G : List Rule) → IsWrapper G body
     code-wrapper G =
         subst (IsWrapper G) (sym C.is)
-        (record { earlier = labels-calls (length G - 1) C.front; term = labels-term (ranks_of G) C.front; linear = labels-params C.front ∙ ap length (code-hole (trees F) C.front C.codes) })
+        (record { earlier = labels-calls (length G - 1) C.front; term = labels-term (ranks_of G) C.front; linear = labels-params C.front ∙ ap length (fragment-hole names (trees F) C.front C.codes) })
 
     -- and means the code
     pub code-means : (G : List Rule) → meaning term_algebra (ranks_of G) (all_meanings term_algebra G) body (holes 0 1) ≡ C.front

@@ -1,5 +1,5 @@
 -- Texts that meet, by what calls tell.
-use Rattle.std.proofs.Common.{◌≡◌, ℕ, zero, suc, ◌-◌, ◌<◌, Bool, List, [], ◌∷◌, length, refl, ap, sym, ◌∙◌, arith, Option, Some, None}
+use Rattle.std.proofs.Common.{◌≡◌, ℕ, zero, suc, ◌-◌, ◌<◌, Bool, true, false, List, [], ◌∷◌, length, refl, ap, sym, ◌∙◌, arith, Option, Some, None}
 use Rattle.std.specs.Prelude.{◌&&◌, if◌then◌else◌, is_some, option_map, slice_get}
 use Rattle.plain_tree.specs.declared.kind.Kind.{Kind}
 use Rattle.plain_tree.specs.declared.kind.Kind.TheVariants.{Document, Element, Attribute, Text, Comment, Instruction}
@@ -51,15 +51,30 @@ joined-some None p = refl
 joined-some (Some x) None = refl
 joined-some (Some x) (Some y) = refl
 
+and-false : (b : Bool) → (b && false) ≡ false
+and-false true = refl
+and-false false = refl
+
+and-true : (b : Bool) → (b && true) ≡ b
+and-true true = refl
+and-true false = refl
+
 module _ (t : Tree) (d : IsDocument t) (n : ℕ) (low : n < node_count t) (F : List Tree) where
   here-kind : is_text (kind_at t n) ≡ is_some (first_text (from_node n (more t none)))
   here-kind =
       let A = at t d.lawful n low in
       ap (λ o. is_text (option_map kind_of o)) (in-tree t d.lawful n low) ∙ one-kind A.here A.behind ∙ ap (λ us. is_some (first_text us)) (sym A.from_is)
 
-  pub front-found : 0 < n → (before first : Bool) (k : Option Kind) → before ≡ text_before (from_node (n - 1) (more t none)) → first ≡ is_text k → k ≡ option_map kind_of (slice_get F 0) → (r : Bool) → r ≡ before && first → r ≡ is_some (front_value t n F)
-  front-found some before first k b f e r is =
-      is ∙ ap (λ (x : Bool). x && first) (b ∙ before-there n (more t none) some) ∙ ap (λ (x : Bool). is_some (text_before_node n (more t none)) && x) (f ∙ ap is_text e ∙ first-kind F)
+  -- the fragment begins with no text
+  pub no-front : (k : Option Kind) → k ≡ option_map kind_of (slice_get F 0) → is_text k ≡ false → false ≡ is_some (front_value t n F)
+  no-front k e f =
+      let none-first : is_some (first_text (trees F)) ≡ false = sym (first-kind F) ∙ ap is_text (sym e) ∙ f in
+      sym (joined-some (text_before_node n (more t none)) (first_text (trees F)) ∙ ap (λ (b : Bool). is_some (text_before_node n (more t none)) && b) none-first ∙ and-false (is_some (text_before_node n (more t none))))
+
+  pub front-found : 0 < n → (before : Bool) (k : Option Kind) → k ≡ option_map kind_of (slice_get F 0) → is_text k ≡ true → before ≡ text_before (from_node (n - 1) (more t none)) → before ≡ is_some (front_value t n F)
+  front-found some before k e f b =
+      let first : is_some (first_text (trees F)) ≡ true = sym (first-kind F) ∙ ap is_text (sym e) ∙ f in
+      b ∙ before-there n (more t none) some ∙ sym (and-true (is_some (text_before_node n (more t none)))) ∙ ap (λ (x : Bool). is_some (text_before_node n (more t none)) && x) (sym first)
       ∙ sym (joined-some (text_before_node n (more t none)) (first_text (trees F)))
 
   pub back-found : (last here : Bool) (k m : Option Kind) (place : ℕ) → place ≡ length F - 1 → last ≡ is_text k → k ≡ option_map kind_of (slice_get F place) → here ≡ is_text m → m ≡ kind_at t n → (r : Bool) → r ≡ last && here → r ≡ is_some (back_value t n F)

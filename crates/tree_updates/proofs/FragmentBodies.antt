@@ -43,12 +43,12 @@ fragment-own names (more (node k m v ks) F) front c =
     ap (λ t. substitute t (holes 0 1)) c.6 ∙ ap (λ x. Node c.0 x (substitute c.2 (holes 0 1))) (whole-stays c.1 (holes 0 1) (codes-whole names ks c.1 c.4))
     ∙ ap (λ x. Node c.0 c.1 x) (fragment-own names F c.2 c.5) ∙ sym c.6
 
-fragment-hole : (names : List (Kind × List ℕ)) (F : Trees) (front : Term) → CodesTo names (Hole 0) F front → holes_of front ≡ Hole 0 ∷ []
+pub fragment-hole : (names : List (Kind × List ℕ)) (F : Trees) (front : Term) → CodesTo names (Hole 0) F front → holes_of front ≡ Hole 0 ∷ []
 fragment-hole names none front c = ap holes_of c
 fragment-hole names (more (node k m v ks) F) front c = ap holes_of c.6 ∙ ap (λ hs. hs ++ holes_of c.2) (codes-whole names ks c.1 c.4) ∙ fragment-hole names F c.2 c.5
 
 -- and is the last of its labels
-fragment-last : (names : List (Kind × List ℕ)) (F : Trees) (front : Term) → CodesTo names (Hole 0) F front → EndsInParam (term_labels front)
+pub fragment-last : (names : List (Kind × List ℕ)) (F : Trees) (front : Term) → CodesTo names (Hole 0) F front → EndsInParam (term_labels front)
 fragment-last names none front c = record { front = []; is = ap term_labels c }
 fragment-last names (more (node k m v ks) F) front c =
     let r = fragment-last names F c.2 c.5 in

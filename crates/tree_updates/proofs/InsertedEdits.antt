@@ -1,12 +1,11 @@
 -- Insertions that are made, or refused.
-use Rattle.std.proofs.Common.{◌≡◌, ◌↔◌, ◌⊎◌, inl, inr, ℕ, ◌+◌, ◌-◌, ◌*◌, ◌<◌, ◌≤◌, ◌^◌, Bool, true, false, IsTrue, Result, Ok, Err, List, length, sym, ◌∙◌, subst, arith, Some}
-use Rattle.std.specs.Prelude.{IfOk}
-use Rattle.std.specs.declared.alloc.AllocError.{AllocError}
+use Rattle.std.proofs.Common.{◌≡◌, ◌↔◌, ◌⊎◌, inl, inr, ℕ, ◌+◌, ◌-◌, ◌*◌, ◌<◌, ◌≤◌, ◌^◌, Bool, true, false, IsTrue, List, length, min, sym, ◌∙◌, subst, arith, Some}
 use Rattle.std.proofs.Math.Bool.{true≢false}
 use Rattle.slt_grammar.specs.Grammars.{IsGrammar}
 use Rattle.segment_counts.specs.Counting.{told}
 use Rattle.segment_counts.specs.declared.counts.Measure.TheVariants.{Nodes}
-use Rattle.std.proofs.lemmas.Bool.{cases_lt}
+use Rattle.std.proofs.lemmas.Bool.{cases_lt, le-leb, leb-true}
+use Rattle.std.proofs.Math.Dec.{leb}
 use Rattle.std.proofs.lemmas.List.{take_all}
 use Rattle.std.proofs.lemmas.Nat.{mul-le}
 use Rattle.plain_tree.specs.declared.edit.Edit.{Edit}
@@ -83,12 +82,16 @@ module _ (s : Store) (t : Tree) (i : IsStoreFor s t) (n : ℕ) (F : List Tree) (
 pub doubled-more : (x y m k : ℕ) → y ≤ 2 * x + k → y ≤ (2 + m) * x + k
 doubled-more x y m k h = let l : 2 * x ≤ (2 + m) * x = mul-le 2 x (2 + m) x (omega arith) (omega arith) in omega (arith, h, l)
 
--- whether so many nodes may come
-pub fits-told : (s : Store) (F : List Tree) (z : Seams) → IsGrammar (rules_of s.grammar.rules) → (total : ℕ) → total ≡ told Nodes s.counts.rows (s.counts.rules - 1) 0 → (f b : ℕ) → f ≡ ends z.front 1 → b ≡ ends z.back 1 → (r : Result Bool AllocError)
-    → IfOk r (λ few. IsTrue few ↔ node_count_all (trees F) ≤ 2 ^ 63 - 1 - total + (f + b)) → IfOk r (λ fits. (t : Tree) → IsStoreFor s t → (IsTrue fits ↔ node_count t + node_count_all (trees F) < 2 ^ 63 + (ends z.front 1 + ends z.back 1)))
-fits-told s F z g total kept f b e h (Err x) w = w
-fits-told s F z g total kept f b e h (Ok x) w = λ t i.
+ends-few : (meet : Bool) → ends meet 1 ≤ 1
+ends-few true = omega arith
+ends-few false = omega arith
+
+-- whether so many nodes may come, of which no more than 2^64 - 1 are counted
+pub fits-told : (s : Store) (F : List Tree) (z : Seams) → IsGrammar (rules_of s.grammar.rules) → (total : ℕ) → total ≡ told Nodes s.counts.rows (s.counts.rules - 1) 0 → (f b : ℕ) → f ≡ ends z.front 1 → b ≡ ends z.back 1 → (count : ℕ)
+    → count ≡ min (node_count_all (trees F)) (2 ^ 64 - 1) → (t : Tree) → IsStoreFor s t
+    → (IsTrue (leb count (2 ^ 63 - 1 - total + (f + b))) ↔ node_count t + node_count_all (trees F) < 2 ^ 63 + (ends z.front 1 + ends z.back 1))
+fits-told s F z g total kept f b e h count is t i =
     let c = total-is s t i g in (
-      λ k. let l = w.0 k in omega (arith, l, e, h, kept, c, i.small),
-      λ l. w.1 (omega (arith, l, e, h, kept, c, i.small)),
+      λ k. let l = leb-true count (2 ^ 63 - 1 - total + (f + b)) k in omega (arith, l, e, h, is, kept, c, i.small, ends-few z.front, ends-few z.back),
+      λ l. le-leb count (2 ^ 63 - 1 - total + (f + b)) (omega (arith, l, e, h, is, kept, c, i.small)),
     )

@@ -19,12 +19,12 @@ use Rattle.plain_tree.proofs.EditCounts.{count-deleted}
 use Rattle.plain_tree.proofs.PlainEdits.{valued_at}
 use Rattle.plain_tree.proofs.SeamTexts.{text, valued-from}
 use Rattle.plain_tree.proofs.TextsAt.{first-text-is, lawful-from}
-use Rattle.tree_updates.specs.Extents.{IsUnsweptFor, LeavesDocument}
+use Rattle.tree_updates.specs.Extents.{IsExtentOf, IsUnsweptFor, LeavesDocument}
 use Rattle.tree_updates.specs.Joinings.{HasTextBefore, MayInsertBetween}
 use Rattle.tree_updates.specs.Stores.{IsStoreFor}
 use Rattle.tree_updates.specs.declared.store.Store.{Store}
 use Rattle.tree_updates.proofs.JoinedInsertions.{before-is, before-told, here-told, rank-some}
-use Rattle.tree_updates.proofs.JoinedStores.{ranked-low, same-count, valued-store, with_texts}
+use Rattle.tree_updates.proofs.JoinedStores.{ranked-low, same-count, same-ranks, valued-store, with_texts}
 use Rattle.tree_updates.proofs.Ranks.{rank-behind, rank-told}
 use Rattle.tree_updates.proofs.StoreSteps.{low-at}
 use Rattle.tree_updates.proofs.Texts.{rank_in}
@@ -134,6 +134,19 @@ module _ (a : Store) (t : Tree) (i : IsStoreFor a t) (n rank : ℕ) (F : List Tr
     where
       some-tree : (s : Tree) → 0 < node_count s
       some-tree (node k m v ks) = omega arith
+
+  pub here-extent : IsExtentOf valued n (record { nodes = 1; rank = rank; texts = 1 })
+  here-extent =
+      let h = here-stays in
+      let same : rank_in n (more valued none) ≡ rank_in n (more t none) = same-ranks t (n - 1) H.value (more H.next H.behind) before-here joined value-leaves n in
+      record {
+        here = text M.here;
+        behind = h.0;
+        from_is = h.1;
+        nodes = refl;
+        rank = rank-told valued n low-valued ∙ ap (λ (k : ℕ). Some k) same ∙ sym (rank-told t n (ranked-low t n rank M.rank_is)) ∙ sym M.rank_is;
+        texts_are = refl;
+      }
 
   pub count-three : node_count (edited t (Insert n F)) + 1 ≡ node_count t
   count-three =

@@ -6,9 +6,9 @@ pub mod Texts
 pub mod Ranks
 pub mod Attributes
 pub mod Numbers
-pub mod Above
 pub mod LastKids
 pub mod SpareNodes
+pub mod SpotPlaces
 pub mod SpotExtents
 pub mod Stands
 pub mod DeletedStore
@@ -50,9 +50,7 @@ pub mod NodesThere
 pub mod AppendedStores
 pub mod FragmentLists
 pub mod AppendedTexts
-pub mod BesideNodes
 pub mod CodeBodies
-pub mod FragmentNodes
 pub mod InsertedStores
 pub mod WrappedNodes
 pub mod FragmentNames
@@ -65,3 +63,11 @@ pub mod FoundSeams
 pub mod JoinedInsertions
 pub mod JoinedThrees
 pub mod InsertedCounts
+pub mod PlaceNumbers
+pub mod CalledBelow
+pub mod SharedBelow
+pub mod CopiedEdits
+pub mod CopiedTexts
+pub mod CopiedStores
+pub mod CopiedCodes
+pub mod CopiedNodes

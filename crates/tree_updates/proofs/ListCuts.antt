@@ -1,5 +1,6 @@
 -- Lists that are cut at an item, or taken from the front.
-use Rattle.std.proofs.Common.{◌≡◌, ℕ, zero, suc, List, [], ◌∷◌, ◌++◌, get_or, take, drop, refl, ap, sym, ◌∙◌}
+use Rattle.std.proofs.Common.{◌≡◌, ℕ, zero, suc, List, [], ◌∷◌, ◌++◌, Some, get_or, take, drop, refl, ap, sym, ◌∙◌}
+use Rattle.std.specs.Prelude.{slice_get}
 use Rattle.slt_grammar.specs.Terms.{Term, Leaf}
 
 pub head-is : {X : Type 0} (x y : X) (xs ys : List X) → x ∷ xs ≡ y ∷ ys → (x ≡ y) × (xs ≡ ys)
@@ -24,6 +25,12 @@ cut {X} (x ∷ u) v (f ∷ front) m rest e =
     up : Cut u v front m rest → x ≡ f → Cut (x ∷ u) v (f ∷ front) m rest
     up (within late q) z = within late (ap (λ ys. x ∷ ys) q ∙ ap (λ y. y ∷ (front ++ m ∷ late)) z)
     up (behind more q v') z = behind more (ap (λ ys. f ∷ ys) q ∙ ap (λ y. y ∷ (u ++ more)) (sym z)) v'
+
+-- an item of a list stays where others come behind
+pub get-front : {X : Type 0} (xs ys : List X) (n : ℕ) (x : X) → slice_get xs n ≡ Some x → slice_get (xs ++ ys) n ≡ Some x
+get-front [] ys n x e = cc
+get-front (y ∷ xs) ys zero x e = e
+get-front (y ∷ xs) ys (suc n) x e = get-front xs ys n x e
 
 pub first-taken : (r : ℕ) (ts : List Term) → get_or (take (suc r) ts) 0 Leaf ≡ get_or ts 0 Leaf
 first-taken r [] = refl

@@ -40,6 +40,7 @@ use Rattle.tree_updates.specs.declared.node_extent.Extent.{Extent}
 use Rattle.tree_updates.proofs.CodeChanges.{params-listed}
 use Rattle.tree_updates.proofs.Ranks.{rank-behind, rank-told}
 use Rattle.tree_updates.proofs.Stands.{stands-deleted}
+use Rattle.tree_updates.proofs.StoreSteps.{low-at}
 use Rattle.tree_updates.proofs.Texts.{rank_in, texts-around}
 
 mapped : (o : Option Tree) (x rank : ℕ) → Some rank ≡ option_map (λ s. x) o → rank ≡ x
@@ -61,6 +62,17 @@ pub spot-low : (names : List (Kind × List ℕ)) (G : List KeyedRule) (t : Tree)
 spot-low names G t n s c S =
     let x = spot-node names G t c n s.levels.items s.symbol s.before S in
     omega (arith, slice_get_within (nodes t) n (node x.place.kind x.place.name x.place.value x.place.kids) x.node_is, length-nodes t)
+
+-- what has an extent is a node
+pub extent-low : (t : Tree) (n : ℕ) (e : Extent) → IsExtentOf t n e → n < node_count t
+extent-low t n e x = low-there x.here x.from_is
+  where
+    low-there : (s : Tree) → from_node n (more t none) ≡ more s x.behind → n < node_count t
+    low-there (node k m v ks) f = let h = low-at n (more t none) k m v ks x.behind f in omega (arith, h)
+
+-- equal extents are those of one node
+pub extent-is : {t : Tree} {n : ℕ} {e : Extent} (x : Extent) → x ≡ e → IsExtentOf t n e → IsExtentOf t n x
+extent-is {t} {n} x same h = subst (IsExtentOf t n) (sym same) h
 
 its-texts : (k : Kind) (m v : List ℕ) (ks : Trees) → length (texts (node k m v ks)) ≡ length (own k v ++ texts_all ks)
 its-texts k m v ks = ap length (sym (texts-one (node k m v ks)) ∙ texts_all-more k m v ks none ∙ ap (λ xs. own k v ++ xs) (append-nil (texts_all ks)))

@@ -16,7 +16,7 @@ use Rattle.plain_tree.proofs.LawfulDocuments.{stands}
 use Rattle.preorder_address.specs.TreeNumbers.{kind_at}
 use Rattle.tree_updates.proofs.Numbers.{node-at}
 
-some-place : (above : Option Kind) (before : Trees) (n : ℕ) (ts : Trees) → n < node_count_all ts → (p : Place) × (place_in above before n ts ≡ Some p)
+pub some-place : (above : Option Kind) (before : Trees) (n : ℕ) (ts : Trees) → n < node_count_all ts → (p : Place) × (place_in above before n ts ≡ Some p)
 some-place above before n none h = absurd (omega arith)
 some-place above before zero (more t ts) h = (record { above = above; before = before; here = t; behind = ts }, refl)
 some-place above before (suc n) (more (node k m v ks) ts) h =

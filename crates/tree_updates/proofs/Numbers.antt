@@ -1,19 +1,16 @@
--- What calls by numbers tell of the siblings from a node on.
-use Rattle.std.proofs.Common.{◌≡◌, ℕ, zero, suc, ◌+◌, ◌<◌, List, [], ◌∷◌, get_or, false, refl, ap, sym, ◌∙◌, arith, append-nil, Option, Some, None}
+-- What numbers tell of the siblings from a node on.
+use Rattle.std.proofs.Common.{◌≡◌, ◌≢◌, ℕ, suc, ◌+◌, ◌<◌, List, [], true, false, refl, ap, sym, ◌∙◌, arith, append-nil, Some}
 use Rattle.std.specs.Prelude.{slice_get, option_map}
-use Rattle.std.proofs.lemmas.Option.{same_Some}
 use Rattle.plain_tree.specs.declared.kind.Kind.{Kind}
 use Rattle.plain_tree.specs.declared.kind.Kind.TheVariants.{Document, Element, Attribute, Text, Comment, Instruction}
 use Rattle.plain_tree.specs.Lawful.{IsLawfulTree, AreLawfulTrees}
 use Rattle.plain_tree.specs.Numbers.{nodes, nodes_all, kind_of}
 use Rattle.plain_tree.specs.Tree.{Tree, node, Trees, none, more, node_count, node_count_all}
 use Rattle.plain_tree.proofs.NodeCounts.{length-nodes_all}
-use Rattle.preorder_address.specs.TreeNumbers.{kind_at, siblings_behind, number_of_first, next_sibling_at}
-use Rattle.plain_tree.proofs.Changing.{each-node, some-from, from_node, from-inside, from-later, from-deeper}
+use Rattle.preorder_address.specs.TreeNumbers.{kind_at}
+use Rattle.plain_tree.proofs.Changing.{each-node, some-from, some-node, from_node, from-inside, from-later, from-deeper}
 use Rattle.rule_arena.proofs.PreorderLemmas.{slice_get-left}
-use Rattle.preorder_address.proofs.TreePlaces.{get-right, length-siblings}
-use Rattle.std.specs.Prelude.{◌&&◌}
-use Rattle.tree_updates.specs.CallAnswers.{is_text, has_next}
+use Rattle.preorder_address.proofs.TreePlaces.{get-right}
 use Rattle.plain_tree.proofs.SeamTexts.{text, begins_text, text_before}
 
 -- node n, with the siblings behind it
@@ -21,12 +18,11 @@ pub record NodeAt (n : ℕ) (ts : Trees) : Type 0 where
   pub here : Tree
   pub behind : Trees
   pub node_is : slice_get (nodes_all ts) n ≡ Some here
-  pub behind_is : slice_get (siblings_behind ts) n ≡ Some behind
   pub from_is : from_node n ts ≡ more here behind
   pub lawful : AreLawfulTrees ts → IsLawfulTree here × AreLawfulTrees behind
 
 node-first : (t : Tree) (ts : Trees) → NodeAt 0 (more t ts)
-node-first (node k m v ks) ts = record { here = node k m v ks; behind = ts; node_is = refl; behind_is = refl; from_is = refl; lawful = λ l. (l.0, l.1) }
+node-first (node k m v ks) ts = record { here = node k m v ks; behind = ts; node_is = refl; from_is = refl; lawful = λ l. (l.0, l.1) }
 
 pub node-at : (n : ℕ) (ts : Trees) → n < node_count_all ts → NodeAt n ts
 node-at = each-node NodeAt node-first
@@ -34,7 +30,6 @@ node-at = each-node NodeAt node-first
       here = r.here;
       behind = r.behind;
       node_is = slice_get-left (nodes_all ks) (nodes_all ts) n (omega (arith, length-nodes_all ks)) ∙ r.node_is;
-      behind_is = slice_get-left (siblings_behind ks) (siblings_behind ts) n (omega (arith, length-siblings ks)) ∙ r.behind_is;
       from_is = from-inside k m v ks ts n h ∙ r.from_is;
       lawful = λ l. r.lawful l.0.2;
     })
@@ -42,15 +37,9 @@ node-at = each-node NodeAt node-first
       here = r.here;
       behind = r.behind;
       node_is = get-right (nodes_all ks) (nodes_all ts) (node_count_all ks) d (sym (length-nodes_all ks)) ∙ r.node_is;
-      behind_is = get-right (siblings_behind ks) (siblings_behind ts) (node_count_all ks) d (sym (length-siblings ks)) ∙ r.behind_is;
       from_is = from-later k m v ks ts d ∙ r.from_is;
       lawful = λ l. r.lawful l.1;
     })
-
-get_or-at : {X : Type 0} (xs : List X) (n : ℕ) (x d : X) → slice_get xs n ≡ Some x → get_or xs n d ≡ x
-get_or-at [] n x d e = cc
-get_or-at (y ∷ xs) zero x d e = cc
-get_or-at (y ∷ xs) (suc n) x d e = get_or-at xs n x d e
 
 -- a lawful text has no name and no kids
 text-is : (m v : List ℕ) (ks : Trees) → IsLawfulTree (node Text m v ks) → node Text m v ks ≡ text v
@@ -91,9 +80,6 @@ alone-before (node Attribute m v ks) = refl
 alone-before (node Comment m v ks) = refl
 alone-before (node Instruction m v ks) = refl
 
-some-inner : (a b : Option ℕ) → Some a ≡ Some b → a ≡ b
-some-inner a b e = cc
-
 module _ (t : Tree) (l : IsLawfulTree t) (n : ℕ) (low : n < node_count t) where
   abbrev ts : Trees
   ts = more t none
@@ -106,11 +92,6 @@ module _ (t : Tree) (l : IsLawfulTree t) (n : ℕ) (low : n < node_count t) wher
 
   kind-told : kind_at t n ≡ Some (kind_of at.here)
   kind-told = ap (option_map kind_of) in-tree
-
-  next-told : next_sibling_at t n ≡ Some (number_of_first (n + node_count at.here) at.behind)
-  next-told =
-      ap (option_map (λ s. number_of_first (n + node_count s) (get_or (siblings_behind (more t none)) n none))) in-tree
-      ∙ ap (λ us. Some (number_of_first (n + node_count at.here) us)) (get_or-at (siblings_behind (more t none)) n at.behind none at.behind_is)
 
   pub all-lawful : IsLawfulTree at.here × AreLawfulTrees at.behind
   all-lawful = at.lawful (l, tt)
@@ -126,50 +107,27 @@ module _ (t : Tree) (l : IsLawfulTree t) (n : ℕ) (low : n < node_count t) wher
   told-no-text h = ap text_before at.from_is ∙ no-text-before at.here at.behind (λ e. h (kind-told ∙ ap Some e))
 
   -- or has no sibling behind it
-  pub told-last : next_sibling_at t n ≡ Some None → at.behind ≡ none
-  told-last e = by_behind at.behind (some-inner (number_of_first (n + node_count at.here) at.behind) None (sym next-told ∙ e))
+  pub told-alone : at.behind ≡ none → text_before (from_node n (more t none)) ≡ false
+  told-alone e = ap text_before (at.from_is ∙ ap (more at.here) e) ∙ alone-before at.here
+
+  -- a text with a sibling behind it stands before another node
+  pub told-before : kind_at t n ≡ Some Text → at.behind ≢ none → text_before (from_node n (more t none)) ≡ true
+  told-before e h = let r = told-text e in ap text_before r.1 ∙ by_behind r.0 at.behind h
     where
-      by_behind : (us : Trees) → number_of_first (n + node_count at.here) us ≡ None → us ≡ none
-      by_behind none e = refl
-      by_behind (more s us) e = cc
+      by_behind : (v : List ℕ) (us : Trees) → us ≢ none → text_before (more (text v) us) ≡ true
+      by_behind v none h = absurd (h refl)
+      by_behind v (more s us) h = refl
 
-  pub told-alone : next_sibling_at t n ≡ Some None → text_before (from_node n (more t none)) ≡ false
-  told-alone e = ap text_before (at.from_is ∙ ap (more at.here) (told-last e)) ∙ alone-before at.here
-
-  -- the number that is told is that of the siblings behind node n
-  pub told-next : (m : ℕ) → next_sibling_at t n ≡ Some (Some m) → (m ≡ n + node_count at.here) × (m < node_count t) × (from_node m (more t none) ≡ at.behind)
-  told-next m e = by_here at.here at.behind at.from_is (some-inner (number_of_first (n + node_count at.here) at.behind) (Some m) (sym next-told ∙ e))
-    where
-      some-count : (s : Tree) → 0 < node_count s
-      some-count (node k m v ks) = omega arith
-
-      by_here : (s : Tree) (us : Trees) → from_node n (more t none) ≡ more s us → number_of_first (n + node_count s) us ≡ Some m → (m ≡ n + node_count s) × (m < node_count t) × (from_node m (more t none) ≡ us)
-      by_here s none f e = cc
-      by_here (node k x v ks) (more r us) f e =
-          let c : ℕ = node_count_all ks in
-          let is : m ≡ n + (c + 1) = sym (same_Some (n + (c + 1)) m e) in
-          let size : suc c < node_count_all (from_node n (more t none)) = rw f (omega (arith, some-count r)) in
-          let i : m ≡ n + suc c = omega arith in
-          let z : suc c ≡ suc (c + 0) = omega arith in
-          let deep = from-deeper n (more t none) (omega arith) c size in
-          let there : from_node m (more t none) ≡ more r us =
-          ap (λ (j : ℕ). from_node j (more t none)) i ∙ deep ∙ ap (from_node (suc c)) f ∙ ap (λ (j : ℕ). from_node j (more (node k x v ks) (more r us))) z ∙ from-later k x v ks (more r us) 0 in
-          (is, low-next is size, there)
-        where
-          low-next : m ≡ n + (node_count_all ks + 1) → suc (node_count_all ks) < node_count_all (from_node n (more t none)) → m < node_count t
-          low-next is size = omega (arith, (some-from n (more t none) (omega arith)).1)
-
-  -- whether a text stands at number n before a sibling
-  pub before-told : (is_text (kind_at t n) && has_next (next_sibling_at t n)) ≡ text_before (from_node n (more t none))
-  before-told =
-      ap (λ k. is_text k && has_next (next_sibling_at t n)) kind-told ∙ ap (λ o. is_text (Some (kind_of at.here)) && has_next o) next-told
-      ∙ by_here at.here at.behind (n + node_count at.here) ∙ ap text_before (sym at.from_is)
-    where
-      by_here : (s : Tree) (us : Trees) (m : ℕ) → (is_text (Some (kind_of s)) && has_next (Some (number_of_first m us))) ≡ text_before (more s us)
-      by_here (node Text x v ks) none m = refl
-      by_here (node Text x v ks) (more s us) m = refl
-      by_here (node Document x v ks) us m = refl
-      by_here (node Element x v ks) us m = refl
-      by_here (node Attribute x v ks) us m = refl
-      by_here (node Comment x v ks) us m = refl
-      by_here (node Instruction x v ks) us m = refl
+-- the siblings behind a node begin behind all that is below it
+pub from-behind : (t : Tree) (n : ℕ) → n < node_count t → (here : Tree) (behind : Trees) → from_node n (more t none) ≡ more here behind → behind ≢ none
+    → (n + node_count here < node_count t) × (from_node (n + node_count here) (more t none) ≡ behind)
+from-behind t n low here none f h = absurd (h refl)
+from-behind t n low (node k x v ks) (more r us) f h =
+    let c : ℕ = node_count_all ks in
+    let size : suc c < node_count_all (from_node n (more t none)) = rw f (omega (arith, some-node r)) in
+    let i : n + (c + 1) ≡ n + suc c = omega arith in
+    let z : suc c ≡ suc (c + 0) = omega arith in (
+      omega (arith, (some-from n (more t none) (omega (arith, low))).1, size),
+      ap (λ (j : ℕ). from_node j (more t none)) i ∙ from-deeper n (more t none) (omega (arith, low)) c size ∙ ap (from_node (suc c)) f
+          ∙ ap (λ (j : ℕ). from_node j (more (node k x v ks) (more r us))) z ∙ from-later k x v ks (more r us) 0,
+    )

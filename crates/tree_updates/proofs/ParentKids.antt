@@ -1,5 +1,5 @@
 -- The parent of a node, which has it among its kids.
-use Rattle.std.proofs.Common.{◌≡◌, ℕ, suc, ◌+◌, ◌<◌, List, refl, ap, sym, ◌∙◌, arith, Option, Some, None}
+use Rattle.std.proofs.Common.{◌≡◌, ℕ, suc, ◌+◌, ◌<◌, List, length, length-append, refl, ap, sym, ◌∙◌, arith, Option, Some, None}
 use Rattle.std.specs.Prelude.{slice_get}
 use Rattle.plain_tree.specs.declared.kind.Kind.{Kind}
 use Rattle.plain_tree.specs.declared.kind.Kind.TheVariants.{Document, Attribute}
@@ -14,7 +14,16 @@ use Rattle.plain_tree.proofs.LawfulEdits.{place-inside, place-later}
 use Rattle.preorder_address.specs.TreeNumbers.{parents, parent_at}
 use Rattle.preorder_address.proofs.TreePlaces.{get-right}
 use Rattle.rule_arena.proofs.PreorderLemmas.{slice_get-left}
-use Rattle.tree_updates.proofs.Above.{length-parents}
+
+length-parents : (up : Option ℕ) (first : ℕ) (ts : Trees) → length (parents up first ts) ≡ node_count_all ts
+length-parents up first none = refl
+length-parents up first (more (node k m v ks) ts) =
+    omega (
+      arith,
+      length-append (parents (Some first) (first + 1) ks) (parents up (first + 1 + node_count_all ks) ts),
+      length-parents (Some first) (first + 1) ks,
+      length-parents up (first + 1 + node_count_all ks) ts,
+    )
 
 -- node n stands in the list itself, or among the kids of node m, which is told as its parent
 data IsKid (before : Trees) (up : Option ℕ) (first : ℕ) (ts : Trees) (n : ℕ) (p : Place) : Type 0 where

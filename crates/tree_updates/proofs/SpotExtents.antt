@@ -1,5 +1,5 @@
 -- The extent of a spot's node.
-use Rattle.std.proofs.Common.{◌≡◌, ℕ, ◌+◌, ◌-◌, ◌<◌, ◌≤◌, List, length, take, ap, ◌∙◌, arith, Some}
+use Rattle.std.proofs.Common.{◌≡◌, ℕ, ◌+◌, ◌-◌, ◌<◌, ◌≤◌, List, length, take, ap, sym, ◌∙◌, arith, Some}
 use Rattle.std.specs.Prelude.{option_map}
 use Rattle.std.proofs.lemmas.Option.{same_Some}
 use Rattle.plain_tree.specs.declared.kind.Kind.{Kind}
@@ -14,6 +14,8 @@ use Rattle.slt_grammar.specs.Keyed.{KeyedRule, rules_of}
 use Rattle.preorder_address.specs.Spots.{IsSpot}
 use Rattle.preorder_address.specs.TreeNumbers.{extent_at, text_rank_at}
 use Rattle.preorder_address.specs.declared.spot.Spot.{Spot}
+use Rattle.tree_updates.specs.Extents.{IsExtentOf}
+use Rattle.tree_updates.specs.declared.node_extent.Extent.{Extent}
 use Rattle.tree_updates.proofs.NodeExtents.{extent-fits, extent-texts, spot-low, texts-before}
 use Rattle.tree_updates.proofs.Numbers.{at, in-tree}
 
@@ -40,3 +42,15 @@ spot-measured names G t n below s d c S e = measured t n below d (spot-low names
 -- its texts are those between the ranks
 pub texts-between : (t : Tree) (n below rank end : ℕ) (m : IsMeasured t n below) → Some rank ≡ text_rank_at t n → end ≡ length (values_of (take (n + (below + 1)) (nodes t))) → end ≡ rank + length (texts m.here)
 texts-between t n below rank end m r e = extent-texts t n m.low m.here m.behind m.from_is rank end (texts-before t n rank r) (e ∙ ap (λ (i : ℕ). length (values_of (take (n + i) (nodes t)))) m.many)
+
+-- so that is its extent
+pub extent-between : (t : Tree) (n below rank end : ℕ) (m : IsMeasured t n below) → Some rank ≡ text_rank_at t n → end ≡ length (values_of (take (n + (below + 1)) (nodes t))) → (x : Extent) → x.nodes ≡ below + 1 → x.rank ≡ rank → x.texts ≡ end - rank
+    → IsExtentOf t n x
+extent-between t n below rank end m r e x nodes-are rank-is texts-are = record {
+  here = m.here;
+  behind = m.behind;
+  from_is = m.from_is;
+  nodes = nodes-are ∙ m.many;
+  rank = sym r ∙ ap (λ (i : ℕ). Some i) (sym rank-is);
+  texts_are = omega (arith, texts-are, texts-between t n below rank end m r e);
+}

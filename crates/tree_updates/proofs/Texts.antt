@@ -1,5 +1,5 @@
 -- The texts of trees that change from a node on.
-use Rattle.std.proofs.Common.{◌≡◌, ℕ, suc, ◌+◌, ◌<◌, List, [], ◌∷◌, ◌++◌, length, take, drop, true, refl, ap, sym, ◌∙◌, arith, append-nil, append_assoc, length-append}
+use Rattle.std.proofs.Common.{◌≡◌, ℕ, suc, ◌+◌, ◌<◌, ◌≤◌, List, [], ◌∷◌, ◌++◌, length, take, drop, true, refl, ap, sym, ◌∙◌, arith, append-nil, append_assoc, length-append}
 use Rattle.std.specs.Prelude.{slice_set}
 use Rattle.std.specs.List.{insert_slice, remove_range}
 use Rattle.std.proofs.Math.Seq.{take-append_seam, drop-append_seam, take-append-add, drop-append-add}
@@ -13,7 +13,7 @@ use Rattle.slt_grammar.proofs.Standing.{own, values_of-append, texts_all-more}
 use Rattle.plain_tree.specs.Edits.{changed, chained, with_first, with_kids, with_name, with_value, others, made}
 use Rattle.plain_tree.specs.declared.edit.Edit.TheVariants.{Rename}
 use Rattle.preorder_address.proofs.TreePlaces.{own-first}
-use Rattle.plain_tree.proofs.Changing.{each-node, changed-inside, more-later, from_node, from-inside, from-later, chained-more}
+use Rattle.plain_tree.proofs.Changing.{before-stays, each-node, changed-inside, more-later, from_node, from-inside, from-later, chained-more}
 use Rattle.plain_tree.proofs.PlainEdits.{inserted, appended, valued_at, deleted}
 
 -- how many texts belong to the nodes before node n
@@ -24,9 +24,9 @@ rank-more : (k : Kind) (m v : List ℕ) (ks : Trees) (xs : List Tree) → length
 rank-more k m v ks xs =
     omega (arith, ap length (values_of-append (node k m v ks ∷ []) xs), length-append (values_of (node k m v ks ∷ [])) (values_of xs), own-first k m v ks)
 
-rank-inside : (k : Kind) (m v : List ℕ) (ks ts : Trees) (n : ℕ) → n < node_count_all ks → rank_in (suc n) (more (node k m v ks) ts) ≡ length (own k v) + rank_in n ks
+rank-inside : (k : Kind) (m v : List ℕ) (ks ts : Trees) (n : ℕ) → n ≤ node_count_all ks → rank_in (suc n) (more (node k m v ks) ts) ≡ length (own k v) + rank_in n ks
 rank-inside k m v ks ts n h =
-    ap (λ xs. length (values_of (node k m v ks ∷ xs))) (take-append-le n (nodes_all ks) (nodes_all ts) (omega (arith, length-nodes_all ks))) ∙ rank-more k m v ks (take n (nodes_all ks))
+    ap (λ xs. length (values_of (node k m v ks ∷ xs))) (take-append-le n (nodes_all ks) (nodes_all ts) (omega (arith, h, length-nodes_all ks))) ∙ rank-more k m v ks (take n (nodes_all ks))
 
 rank-later : (k : Kind) (m v : List ℕ) (ks ts : Trees) (d : ℕ) → rank_in (suc (node_count_all ks + d)) (more (node k m v ks) ts) ≡ length (own k v) + (length (texts_all ks) + rank_in d ts)
 rank-later k m v ks ts d =
@@ -55,7 +55,7 @@ texts-around = each-node TextsAround
     (λ k m v ks ts n h r. record {
       front = own k v ++ r.front;
       back = r.back ++ texts_all ts;
-      rank = omega (arith, rank-inside k m v ks ts n h, r.rank, length-append (own k v) r.front);
+      rank = omega (arith, rank-inside k m v ks ts n (omega (arith, h)), r.rank, length-append (own k v) r.front);
       were = inside-is (own k v) r.front (texts_all (from_node (suc n) (more (node k m v ks) ts))) r.back (texts_all ts) (texts_all (more (node k m v ks) ts))
           (texts_all-more k m v ks ts ∙ ap (λ xs. own k v ++ (xs ++ texts_all ts)) (r.were ∙ ap (λ us. r.front ++ (texts_all us ++ r.back)) (sym (from-inside k m v ks ts n h))));
       are = λ f.
@@ -74,6 +74,17 @@ texts-around = each-node TextsAround
           (ap texts_all (more-later f k m v ks ts d) ∙ texts_all-more k m v ks (changed more f d ts)
           ∙ ap (λ xs. own k v ++ (texts_all ks ++ xs)) (r.are f ∙ ap (λ us. r.front ++ (texts_all (f us) ++ r.back)) (sym (from-later k m v ks ts d))));
     })
+
+-- a change from a node on leaves its rank
+pub rank-stays : (f : Trees → Trees) (n : ℕ) (ts : Trees) → n < node_count_all ts → rank_in n (changed more f n ts) ≡ rank_in n ts
+rank-stays f = each-node (λ n ts. rank_in n (changed more f n ts) ≡ rank_in n ts)
+    (λ t ts. refl)
+    (λ k m v ks ts n h r.
+    ap (rank_in (suc n)) (changed-inside more f k m v ks ts n h) ∙ rank-inside k m v (changed more f n ks) ts n (omega (arith, before-stays f n ks h)) ∙ ap (λ (i : ℕ). length (own k v) + i) r
+    ∙ sym (rank-inside k m v ks ts n (omega (arith, h))))
+    (λ k m v ks ts d h r.
+    ap (rank_in (suc (node_count_all ks + d))) (more-later f k m v ks ts d) ∙ rank-later k m v ks (changed more f d ts) d ∙ ap (λ (i : ℕ). length (own k v) + (length (texts_all ks) + i)) r
+    ∙ sym (rank-later k m v ks ts d))
 
 -- lists that are changed behind a front
 set-at : (front rest : List (List ℕ)) (v w : List ℕ) (r : ℕ) → length front ≡ r → slice_set (front ++ v ∷ rest) r w ≡ front ++ w ∷ rest

@@ -1,5 +1,5 @@
 -- A node with all below it, and what is left where it goes.
-use Rattle.std.specs.Prelude.{◌≡◌, ℕ, ◌+◌, ◌-◌, ◌<◌, ◌^◌, List, [], Some, length}
+use Rattle.std.specs.Prelude.{◌≡◌, ℕ, ◌+◌, ◌-◌, ◌<◌, ◌≤◌, ◌^◌, List, [], Option, None, Some, length}
 use Rattle.plain_tree.specs.declared.edit.Edit.{Edit}
 use Rattle.plain_tree.specs.declared.kind.Kind.TheVariants.{Text}
 use Rattle.plain_tree.specs.Edits.{made, placed}
@@ -13,8 +13,12 @@ use Rattle.slt_grammar.specs.Keyed.{rules_of}
 use Rattle.slt_grammar.specs.Standing.{StandsFor}
 use Rattle.digram_index.specs.Linked.{IsIndexOf}
 use Rattle.segment_counts.specs.Counting.{AreCounts}
+use Rattle.preorder_address.specs.Spots.{IsSpot}
 use Rattle.preorder_address.specs.TreeNumbers.{text_rank_at}
+use Rattle.preorder_address.specs.declared.spot.Spot.{Spot}
+use Rattle.tree_updates.specs.declared.meeting_text.Neighbours.{Neighbours}
 use Rattle.tree_updates.specs.declared.node_extent.Extent.{Extent}
+use Rattle.tree_updates.specs.declared.node_extent.Span.{Span}
 use Rattle.tree_updates.specs.declared.store.Store.{Store}
 
 -- node n of the document and all below it: so many nodes, and so many texts from this one of the document's on
@@ -52,3 +56,19 @@ pub record StandsBetween (t : Tree) (n right : ℕ) : Type 0 where
   pub behind : Trees
   pub from_is : from_node (n - 1) (more t none) ≡ more (node Text [] before none) (more here (more (node Text [] after none) behind))
   pub right_is : right ≡ n + node_count here
+
+-- the spot of node n of the store's document, and none where the document has no such node
+abbrev pub IsSpotOrEnd : Store → Tree → ℕ → Option Spot → Type 0
+IsSpotOrEnd s t n None = node_count t ≤ n
+IsSpotOrEnd s t n (Some spot) = IsSpot s.names s.grammar.rules n spot
+
+-- node n of the store's document with all below it, and the spot of the node behind them
+pub record IsSpanOf (s : Store) (t : Tree) (n : ℕ) (span : Span) : Type 0 where
+  pub extent : IsExtentOf t n span.extent
+  pub behind : IsSpotOrEnd s t (n + span.extent.nodes) span.behind
+
+-- the spots of the two texts between which node n of the store's document stands
+pub record AreBeside (s : Store) (t : Tree) (n : ℕ) (beside : Neighbours) : Type 0 where
+  pub between : StandsBetween t n beside.number
+  pub left : IsSpot s.names s.grammar.rules (n - 1) beside.left
+  pub right : IsSpot s.names s.grammar.rules beside.number beside.right

@@ -1,5 +1,6 @@
 pub mod CallAnswers
 pub mod CodePlaces
+pub mod Copies
 pub mod Differences
 pub mod ElementAttributes
 pub mod Extents

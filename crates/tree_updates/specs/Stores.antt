@@ -1,7 +1,6 @@
 -- Stores of documents, and what an edit makes of one.
 use Rattle.std.specs.Prelude.{◌≡◌, ℕ, ◌+◌, ◌*◌, ◌<◌, ◌≤◌, ◌^◌, List, take, Some, Result, MatchResult}
 use Rattle.plain_tree.specs.declared.edit.Edit.{Edit}
-use Rattle.plain_tree.specs.declared.edit.Edit.TheVariants.{Copy}
 use Rattle.plain_tree.specs.Additions.{added, new_pairs}
 use Rattle.plain_tree.specs.Allowed.{IsAllowed}
 use Rattle.plain_tree.specs.Edits.{edited, merged, number_of}
@@ -58,8 +57,3 @@ pub record IsRefused (t : Tree) (e : Edit) (error : EditError) (old new : Store)
 -- an edit of the document was made, or it is refused
 abbrev pub Applies : Tree → Edit → Store → Result (Unit {0}) EditError → Store → Type 0
 Applies t e old result new = MatchResult result (λ _. IsEdited t e old new) (λ error. IsRefused t e error old new)
-
--- the edit is no copy
-abbrev pub IsNoCopy : Edit → Type 0
-IsNoCopy (Copy number) = ⊥
-IsNoCopy e = Unit {0}

@@ -38,9 +38,9 @@ pub(crate) fn append<L: Ledger>(
     ensures applies { (t : Tree) → IsStoreFor store.old t → Applies t (Append number fragment.now) store.old result store.new }
 {
     let spot = host_spot(alloc, store, number, fragment, steps)?;
-    match meeting_kid(store, number, &spot, fragment, steps)? {
+    match meeting_kid(alloc, store, number, &spot, fragment, steps)? {
         None => append_apart(alloc, store, number, &spot, fragment, steps),
-        Some(last) => append_joined(alloc, store, number, last, &spot, fragment, steps),
+        Some(last) => append_joined(alloc, store, number, &last, &spot, fragment, steps),
     }
 }
 

@@ -10,32 +10,42 @@ ghost use Rattle.preorder_address.specs.TreeNumbers.{text_rank_at};
 ghost use Rattle.tree_updates.specs.FragmentGrowths.{MeetsAtEnd};
 ghost use Rattle.tree_updates.specs.Stores.{Applies, IsStoreFor};
 
-use crate::deleting_between::{JoinedText, joined_bytes, text_of};
+use crate::deleting_between::{JoinedText, joined_bytes, text_at};
 use crate::fragment_growing::{end_site, fragment_growth};
 use crate::fragment_nodes::count_nodes;
 use crate::growing::{TOO_MANY, grow_joined};
 use crate::meeting::is_text;
+use crate::node_spots::spot_there;
 use crate::store::{EditError, Store};
 use plain_tree::{Node, Nodes};
-use preorder_address::{Spot, kind_of, parent_of};
+use preorder_address::Spot;
 use read_steps::Steps;
 use std::alloc::{AllocError, Global};
 use std::sync::ledger::Ledger;
 
-// The number of the last kid of the spot's node, where it is a text and the first of the fragment is one too.
+// A text that is the last kid of a node: its number and its spot.
+#[derive(Drop)]
+pub(crate) struct LastText {
+    pub(crate) number: u64,
+    pub(crate) spot: Spot,
+}
+
+// The last kid of the spot's node, where it is a text and the first of the fragment is one too.
 pub(crate) fn meeting_kid<L: Ledger>(
+    alloc: Global,
     store: &Store,
     number: u64,
     spot: &Spot,
     fragment: &Nodes,
     steps: &mut Steps<L>,
-) -> Result<Option<u64>, AllocError>
+) -> Result<Option<LastText>, AllocError>
     requires store { (t : Tree) × IsStoreFor store.now t × IsEditOf t (Append number fragment.now) }
     requires spot { IsSpot store.now.names store.now.grammar.rules number spot.now }
     ensures apart { IfOk result (λ kid. IfNone kid ((t : Tree) → IsStoreFor store.now t → IsEditOf t (Append number fragment.now)
         → edited t (Append number fragment.now) ≡ placed t (Append number fragment.now))) }
     ensures meets { IfOk result (λ kid. IfSome kid (λ last. (t : Tree) → IsStoreFor store.now t → IsEditOf t (Append number fragment.now)
-        → MeetsAtEnd t number last fragment.now)) }
+        → MeetsAtEnd t number last.number fragment.now)) }
+    ensures spot { IfOk result (λ kid. IfSome kid (λ last. IsSpot store.now.names store.now.grammar.rules last.number last.spot)) }
 {
     if !begins_with_text(fragment) {
         return Ok(None);
@@ -45,17 +55,18 @@ pub(crate) fn meeting_kid<L: Ledger>(
         return Ok(None);
     }
     let last = number + below;
-    let kind = kind_of(&store.grammar, &store.counts, &store.names, last, steps);
-    if !is_text(kind) {
+    let kid = spot_there(alloc, store, last, steps)?;
+    if !is_text(kid.kind(&store.names)) {
         return Ok(None);
     }
-    let told = parent_of(&store.grammar, &store.counts, last, steps)?;
-    let parent = told.unwrap_or(None);
-    if parent == Some(number) {
-        Ok(Some(last))
-    } else {
-        Ok(None)
+    // The bottom of a last kid stands just before that of all kids.
+    if kid.place() + 1 != spot.place() + 2 * below {
+        return Ok(None);
     }
+    Ok(Some(LastText {
+        number: last,
+        spot: kid,
+    }))
 }
 
 // Whether the first node of a fragment is a text.
@@ -68,20 +79,21 @@ fn begins_with_text(fragment: &Nodes) -> bool
     is_text(Some(first.kind))
 }
 
-// Puts the fragment behind the text with the number `last`, which is the last kid of the spot's node: that text and the first of the fragment
-// become one, and the others come behind it. All memory is taken first; in this order no document on the way has more nodes than the last.
+// Puts the fragment behind a text, which is the last kid of the spot's node: that text and the first of the fragment become one, and the others
+// come behind it. All memory is taken first; in this order no document on the way has more nodes than the last.
 pub(crate) fn append_joined<L: Ledger>(
     alloc: Global,
     store: &mut Store,
     number: u64,
-    last: u64,
+    last: &LastText,
     spot: &Spot,
     fragment: &Nodes,
     steps: &mut Steps<L>,
 ) -> Result<(), EditError>
-    requires store { (t : Tree) × IsStoreFor store.old t × IsEditOf t (Append number fragment.now) × MeetsAtEnd t number last fragment.now }
+    requires store { (t : Tree) × IsStoreFor store.old t × IsEditOf t (Append number fragment.now) × MeetsAtEnd t number last.now.number fragment.now }
     requires spot { IsSpot store.old.names store.old.grammar.rules number spot.now }
-    ensures applies { (t : Tree) → IsStoreFor store.old t → IsEditOf t (Append number fragment.now) → MeetsAtEnd t number last fragment.now
+    requires last { IsSpot store.old.names store.old.grammar.rules last.now.number last.now.spot }
+    ensures applies { (t : Tree) → IsStoreFor store.old t → IsEditOf t (Append number fragment.now) → MeetsAtEnd t number last.now.number fragment.now
         → Applies t (Append number fragment.now) store.old result store.new }
 {
     // The call tells what is true of every grammar.
@@ -93,30 +105,31 @@ pub(crate) fn append_joined<L: Ledger>(
     if count >= TOO_MANY - store.counts.total() {
         return Err(EditError::TooMany);
     }
-    let joined = join_end(alloc, store, last, first, steps)?;
+    let joined = join_end(alloc, store, last, first)?;
     let site = end_site(store, number, spot, steps);
     let growth = fragment_growth(alloc, &mut store.names, site, count, others)?;
     grow_joined(store, joined, growth, steps)?;
     Ok(())
 }
 
-// What is to be of the text with this number and another, which is to come behind it. Memory is asked for the bytes.
-fn join_end<L: Ledger>(
+// What is to be of a text that is a last kid and another, which is to come behind it. Memory is asked for the bytes.
+fn join_end(
     alloc: Global,
     store: &Store,
-    last: u64,
+    last: &LastText,
     other: &Node,
-    steps: &mut Steps<L>,
 ) -> Result<JoinedText, AllocError>
-    requires store { (t : Tree) × (n : ℕ) × (F : List Tree) × IsStoreFor store.now t × MeetsAtEnd t n last F }
-    ensures rank { IfOk result (λ joined. (t : Tree) (n : ℕ) (F : List Tree) → IsStoreFor store.now t → MeetsAtEnd t n last F → Some joined.rank ≡ text_rank_at t last) }
-    ensures value { IfOk result (λ joined. (t : Tree) (n : ℕ) (F : List Tree) (m : MeetsAtEnd t n last F) → IsStoreFor store.now t
+    requires store { (t : Tree) × (n : ℕ) × (F : List Tree) × IsStoreFor store.now t × MeetsAtEnd t n last.now.number F }
+    requires last { IsSpot store.now.names store.now.grammar.rules last.now.number last.now.spot }
+    ensures rank { IfOk result (λ joined. (t : Tree) (n : ℕ) (F : List Tree) → IsStoreFor store.now t → MeetsAtEnd t n last.now.number F
+        → Some joined.rank ≡ text_rank_at t last.now.number) }
+    ensures value { IfOk result (λ joined. (t : Tree) (n : ℕ) (F : List Tree) (m : MeetsAtEnd t n last.now.number F) → IsStoreFor store.now t
         → joined.value ≡ m.before ++ other.now.value) }
 {
-    let before = text_of(store, last, steps);
-    let value = joined_bytes(alloc, before.text, other.value.as_slice())?;
+    let before = text_at(store, &last.spot);
+    let value = joined_bytes(alloc, before, other.value.as_slice())?;
     Ok(JoinedText {
-        rank: before.rank,
+        rank: last.spot.text_rank(),
         value,
     })
 }

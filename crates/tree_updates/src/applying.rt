@@ -2,10 +2,11 @@
 ghost use Rattle.std.specs.Prelude.{ℕ};
 ghost use Rattle.plain_tree.specs.Allowed.{AreLawfulParts};
 ghost use Rattle.plain_tree.specs.Tree.{Tree};
-ghost use Rattle.tree_updates.specs.Stores.{Applies, IsNoCopy, IsStoreFor};
+ghost use Rattle.tree_updates.specs.Stores.{Applies, IsStoreFor};
 
 use crate::appending::append;
 use crate::attribute_setting::set_attribute;
+use crate::copying::copy;
 use crate::deleting::delete;
 use crate::inserting::insert;
 use crate::renaming::rename;
@@ -16,7 +17,7 @@ use read_steps::Steps;
 use std::alloc::Global;
 use std::sync::ledger::Ledger;
 
-/// Makes an edit of the store's document that is no copy. What it gives is lawful: a name is a Name, a value consists of characters, a
+/// Makes an edit of the store's document. What it gives is lawful: a name is a Name, a value consists of characters, a
 /// fragment is one. `EditError` says when it is refused; nothing changes then, but that for want of memory
 /// names may stay in the table. All memory is asked for before the first change of the grammar.
 pub fn apply<L: Ledger>(
@@ -26,7 +27,6 @@ pub fn apply<L: Ledger>(
     steps: &mut Steps<L>,
 ) -> Result<(), EditError>
     requires store { (t : Tree) × IsStoreFor store.old t }
-    requires edit { IsNoCopy edit.now }
     requires parts { AreLawfulParts edit.now }
     ensures applies { (t : Tree) → IsStoreFor store.old t → Applies t edit.now store.old result store.new }
 {
@@ -48,6 +48,6 @@ pub fn apply<L: Ledger>(
             value.as_slice(),
             steps,
         ),
-        Edit::Copy { .. } => unreachable!(),
+        Edit::Copy { number } => copy(alloc, store, *number, steps),
     }
 }

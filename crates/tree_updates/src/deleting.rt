@@ -8,17 +8,17 @@ ghost use Rattle.slt_grammar.specs.Grammars.{size};
 ghost use Rattle.slt_grammar.specs.Keyed.{rules_of};
 ghost use Rattle.path_isolation.specs.Isolations.{room_along};
 ghost use Rattle.preorder_address.specs.Spots.{IsSpot};
-ghost use Rattle.tree_updates.specs.Extents.{IsUnsweptFor, LeavesDocument};
+ghost use Rattle.tree_updates.specs.Extents.{IsExtentOf, IsUnsweptFor, LeavesDocument};
 ghost use Rattle.tree_updates.specs.Stores.{Applies, IsStoreFor};
 
 use crate::deleting_between::delete_between;
-use crate::isolating::lift_node;
-use crate::meeting_text::meeting_text;
-use crate::node_extent::extent_of;
+use crate::meeting_text::meeting_texts;
+use crate::node_extent::{Extent, span_of};
 use crate::room::reserve_room;
 use crate::spare_node::spare_spot;
 use crate::store::{EditError, Store};
 use crate::sweeping::sweep;
+use crate::taking_out::take_out;
 use path_isolation::nodes_along;
 use preorder_address::Spot;
 use read_steps::Steps;
@@ -38,63 +38,54 @@ pub(crate) fn delete<L: Ledger>(
     ensures applies { (t : Tree) → IsStoreFor store.old t → Applies t (Delete number) store.old result store.new }
 {
     let spot = spare_spot(alloc, store, number, steps)?;
-    match meeting_text(store, number, steps) {
-        None => delete_apart(store, number, &spot, steps),
-        Some(right) => delete_between(alloc, store, number, right, steps),
+    let span = span_of(alloc, store, number, &spot, steps)?;
+    let extent = span.extent;
+    let found = meeting_texts(alloc, store, number, &spot, span, steps)?;
+    match found {
+        None => delete_apart(store, number, &spot, extent, steps),
+        Some(beside) => delete_between(alloc, store, number, extent, &beside, steps),
     }
 }
 
-// Deletes the spot's node, at which no texts meet. All memory is taken first.
+// Deletes the spot's node, which has this extent, and at which no texts meet. All memory is taken first.
 fn delete_apart<L: Ledger>(
     store: &mut Store,
     number: u64,
     spot: &Spot,
+    extent: Extent,
     steps: &mut Steps<L>,
 ) -> Result<(), EditError>
-    requires store { (t : Tree) × IsStoreFor store.old t × IsAllowed t (Delete number) }
+    requires store { (t : Tree) × IsStoreFor store.old t × IsAllowed t (Delete number) × IsExtentOf t number extent }
     requires spot { IsSpot store.old.names store.old.grammar.rules number spot.now }
-    ensures applies { (t : Tree) → IsStoreFor store.old t → IsAllowed t (Delete number) → edited t (Delete number) ≡ placed t (Delete number)
+    ensures applies { (t : Tree) → IsStoreFor store.old t → IsAllowed t (Delete number) → IsExtentOf t number extent → edited t (Delete number) ≡ placed t (Delete number)
         → Applies t (Delete number) store.old result store.new }
 {
     // The call tells what is true of every grammar.
     let _limit = store.grammar.limit();
     let nodes = nodes_along(&store.grammar, spot.way(), steps);
     reserve_room(store, nodes)?;
-    delete_plain(store, number, spot, steps);
+    delete_plain(store, number, spot, extent, steps);
     Ok(())
 }
 
-// Takes the spot's node out, with all below it. Texts that meet by it stay two. There is room for the nodes of the bodies of the spot's
-// levels behind the first, for as many links and one more, so it takes no memory.
-fn delete_plain<L: Ledger>(store: &mut Store, number: u64, spot: &Spot, steps: &mut Steps<L>)
-    requires store { (t : Tree) × IsUnsweptFor store.old t × LeavesDocument t (Delete number) }
+// Takes the spot's node out, which has this extent, with all below it. Texts that meet by it stay two. There is room for the nodes of the bodies
+// of the spot's levels behind the first, for as many links and one more, so it takes no memory.
+fn delete_plain<L: Ledger>(
+    store: &mut Store,
+    number: u64,
+    spot: &Spot,
+    extent: Extent,
+    steps: &mut Steps<L>,
+)
+    requires store { (t : Tree) × IsUnsweptFor store.old t × IsExtentOf t number extent × LeavesDocument t (Delete number) }
     requires spot { IsSpot store.old.names store.old.grammar.rules number spot.now }
     requires room { room_along store.old.grammar.rules spot.now.levels.items ≤ store.old.grammar.spare_nodes }
     requires links { room_along store.old.grammar.rules spot.now.levels.items + 1 ≤ store.old.index.spare_links }
     requires cells { store.old.grammar.limit ≤ length store.old.index.cells }
-    ensures store { (t : Tree) → IsUnsweptFor store.old t → LeavesDocument t (Delete number) → IsStoreFor store.new (placed t (Delete number)) }
+    ensures store { (t : Tree) → IsUnsweptFor store.old t → IsExtentOf t number extent → LeavesDocument t (Delete number) → IsStoreFor store.new (placed t (Delete number)) }
     ensures names { store.new.names ≡ store.old.names }
     ensures size { size (rules_of store.new.grammar.rules) ≤ 2 * size (rules_of store.old.grammar.rules) }
 {
-    take_out(store, number, spot, steps);
+    take_out(store, number, spot, extent, steps);
     sweep(store);
-}
-
-// The same, but rules that nobody calls any more stay.
-fn take_out<L: Ledger>(store: &mut Store, number: u64, spot: &Spot, steps: &mut Steps<L>)
-    requires store { (t : Tree) × IsUnsweptFor store.old t × LeavesDocument t (Delete number) }
-    requires spot { IsSpot store.old.names store.old.grammar.rules number spot.now }
-    requires room { room_along store.old.grammar.rules spot.now.levels.items ≤ store.old.grammar.spare_nodes }
-    requires links { room_along store.old.grammar.rules spot.now.levels.items + 1 ≤ store.old.index.spare_links }
-    requires cells { store.old.grammar.limit ≤ length store.old.index.cells }
-    ensures store { (t : Tree) → IsUnsweptFor store.old t → LeavesDocument t (Delete number) → IsUnsweptFor store.new (placed t (Delete number)) }
-    ensures names { store.new.names ≡ store.old.names }
-    ensures size { size (rules_of store.new.grammar.rules) ≤ 2 * size (rules_of store.old.grammar.rules) }
-{
-    // The call tells what is true of every grammar.
-    let _limit = store.grammar.limit();
-    let extent = extent_of(store, number, spot, steps);
-    lift_node(&mut store.grammar, &mut store.index, spot, steps);
-    store.texts.remove_range(extent.rank, extent.texts);
-    store.counts.lower_start(extent.nodes, extent.texts);
 }

@@ -1,19 +1,22 @@
 // Nodes before which a fragment may come.
-ghost use Rattle.std.specs.Prelude.{◌≡◌, ◌↔◌, ◌⊎◌, IsTrue, IfOk, MatchOption, MatchResult, Some};
-ghost use Rattle.plain_tree.specs.Allowed.{AreAside, IsAllowed, MayStandUnder};
-ghost use Rattle.plain_tree.specs.Tree.{Tree, trees};
+ghost use Rattle.std.specs.Prelude.{◌≡◌, ◌↔◌, ◌<◌, ◌^◌, IsTrue, IfOk, MatchResult, Some};
+ghost use Rattle.plain_tree.specs.Allowed.{IsAllowed};
+ghost use Rattle.plain_tree.specs.Lawful.{IsDocument};
+ghost use Rattle.plain_tree.specs.Tree.{Tree, node_count};
 ghost use Rattle.plain_tree.specs.declared.edit.Edit.TheVariants.{Insert};
-ghost use Rattle.plain_tree.specs.declared.kind.Kind.TheVariants.{Attribute, Comment, Instruction};
-ghost use Rattle.preorder_address.specs.Spots.{IsSpot};
+ghost use Rattle.plain_tree.specs.declared.kind.Kind.TheVariants.{Attribute};
+ghost use Rattle.preorder_address.specs.Spots.{IsSpot, place_at};
 ghost use Rattle.preorder_address.specs.TreeNumbers.{kind_at};
 ghost use Rattle.tree_updates.specs.Stores.{IsRefusedFor, IsStoreFor};
 
+use crate::fragment_kinds::may_stand_under;
 use crate::node_spots::spot_at;
+use crate::spot_places::kind_above;
 use crate::store::{EditError, Store};
 use plain_tree::{Kind, Nodes};
-use preorder_address::{Spot, kind_of, parent_of};
+use preorder_address::Spot;
 use read_steps::Steps;
-use std::alloc::{AllocError, Global};
+use std::alloc::Global;
 use std::sync::ledger::Ledger;
 
 // The spot of the node with this number, where the fragment may come before it. It is refused where there is no such node, where the node is
@@ -33,66 +36,29 @@ pub(crate) fn spot_beside<L: Ledger>(
     let Some(kind) = spot.kind(&store.names) else {
         unreachable!()
     };
-    if !may_stand_beside(store, number, kind, fragment, steps)? {
+    if !may_stand_beside(number, kind, spot.place(), fragment) {
         return Err(EditError::NotAllowed { kind });
     }
     Ok(spot)
 }
 
-// Whether the fragment may come before the node, which has this kind.
-fn may_stand_beside<L: Ledger>(
-    store: &Store,
-    number: u64,
-    kind: Kind,
-    fragment: &Nodes,
-    steps: &mut Steps<L>,
-) -> Result<bool, AllocError>
-    requires store { (t : Tree) × IsStoreFor store.now t × (kind_at t number ≡ Some kind) }
-    ensures may { IfOk result (λ may. (t : Tree) → IsStoreFor store.now t → kind_at t number ≡ Some kind → (IsTrue may ↔ IsAllowed t (Insert number fragment.now))) }
+// Whether the fragment may come before a node of this kind at this place.
+fn may_stand_beside(number: u64, kind: Kind, place: u64, fragment: &Nodes) -> bool
+    requires few { number < 2 ^ 63 }
+    ensures may { (t : Tree) → IsDocument t → number < node_count t → kind_at t number ≡ Some kind → Some place ≡ place_at t number
+        → (IsTrue result ↔ IsAllowed t (Insert number fragment.now)) }
 {
-    if is_attribute(kind) {
-        return Ok(false);
+    if number == 0 {
+        return false;
     }
-    let told = parent_of(&store.grammar, &store.counts, number, steps)?;
-    let parent = told.unwrap_or(None);
-    let Some(up) = parent else {
-        return Ok(false);
-    };
-    let above = kind_of(&store.grammar, &store.counts, &store.names, up, steps);
-    Ok(may_stand_under(above, fragment))
+    if is_attribute(kind) {
+        return false;
+    }
+    may_stand_under(kind_above(number, place), fragment)
 }
 
 fn is_attribute(kind: Kind) -> bool
     ensures { IsTrue result ↔ kind ≡ Attribute }
 {
     matches!(kind, Kind::Attribute)
-}
-
-// Whether a fragment may come to stand under a node of this kind, if there is one.
-pub(crate) fn may_stand_under(kind: Option<Kind>, fragment: &Nodes) -> bool
-    ensures { IsTrue result ↔ MatchOption kind ⊥ (λ kind. MayStandUnder kind (trees fragment.now)) }
-{
-    match kind {
-        Some(Kind::Document) => are_aside(fragment),
-        Some(Kind::Element) => true,
-        _ => false,
-    }
-}
-
-// Whether the fragment has comments and instructions alone.
-fn are_aside(fragment: &Nodes) -> bool
-    ensures { IsTrue result ↔ AreAside (trees fragment.now) }
-{
-    for node in fragment.as_slice() {
-        if !is_aside(node.kind) {
-            return false;
-        }
-    }
-    true
-}
-
-fn is_aside(kind: Kind) -> bool
-    ensures { IsTrue result ↔ ((kind ≡ Comment) ⊎ (kind ≡ Instruction)) }
-{
-    matches!(kind, Kind::Comment | Kind::Instruction)
 }

@@ -19,7 +19,7 @@ ghost use Rattle.tree_updates.specs.Stores.{Applies, IsStoreFor};
 
 use crate::finding_seams::find_seams;
 use crate::fragment_code::encode_in;
-use crate::fragment_counts::are_few;
+use crate::fragment_nodes::count_nodes;
 use crate::fragment_spots::spot_beside;
 use crate::isolating::wrap_node;
 use crate::joining::{Joined, Seams, ends, join_ends};
@@ -58,7 +58,7 @@ pub(crate) fn insert<L: Ledger>(
     // The call tells what is true of every grammar.
     let _limit = store.grammar.limit();
     let spot = spot_beside(alloc, store, number, fragment, steps)?;
-    let seams = find_seams(store, number, &spot, fragment, steps);
+    let seams = find_seams(alloc, store, number, &spot, fragment, steps)?;
     if !fits(alloc, store, fragment, seams)? {
         return Err(EditError::TooMany);
     }
@@ -78,7 +78,8 @@ fn fits(alloc: Global, store: &Store, fragment: &Nodes, seams: Seams) -> Result<
     let _limit = store.grammar.limit();
     let merged = ends(seams.front, 1) + ends(seams.back, 1);
     let most = MOST_NODES - store.counts.total() + merged as u64;
-    are_few(alloc, fragment, most)
+    let count = count_nodes(alloc, fragment.as_slice())?;
+    Ok(count <= most)
 }
 
 // Puts a code with its texts before the spot's node, where texts that meet become one. All memory is taken before the first change of the grammar.
@@ -102,7 +103,7 @@ fn put_fragment<L: Ledger>(
     ensures size { OnOk result (size (rules_of store.new.grammar.rules) ≤ 2 * size (rules_of store.old.grammar.rules) + real_nodes coded.body) }
 {
     if is_one_between(seams, coded.body.len()) {
-        return join_three(alloc, store, number, rank, &coded.texts, steps);
+        return join_three(alloc, store, number, spot, rank, &coded.texts, steps);
     }
     place_coded(alloc, store, number, spot, rank, seams, coded, steps)
 }

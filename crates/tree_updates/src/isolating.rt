@@ -148,7 +148,7 @@ pub fn wrap_node<L: Ledger>(
 }
 
 // Makes the spot's node a node of the start's body, and answers it. It takes no memory.
-fn isolate_node<L: Ledger>(
+pub(crate) fn isolate_node<L: Ledger>(
     grammar: &mut Grammar,
     index: &mut Index,
     spot: &Spot,

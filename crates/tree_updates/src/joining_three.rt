@@ -1,34 +1,41 @@
 // A text that comes between two texts.
-ghost use Rattle.std.specs.Prelude.{◌≡◌, ◌≤◌, ◌*◌, ◌++◌, List, IfOk, OnErr, OnOk};
+ghost use Rattle.std.specs.Prelude.{◌≡◌, ◌≤◌, ◌*◌, ◌++◌, ℕ, List, IfOk, OnErr, OnOk};
 ghost use Rattle.plain_tree.specs.Edits.{edited};
 ghost use Rattle.plain_tree.specs.Tree.{Tree};
 ghost use Rattle.plain_tree.specs.declared.edit.Edit.TheVariants.{Insert};
+ghost use Rattle.plain_tree.specs.declared.kind.Kind.{Kind};
 ghost use Rattle.slt_grammar.specs.Grammars.{size};
 ghost use Rattle.slt_grammar.specs.Keyed.{rules_of};
+ghost use Rattle.preorder_address.specs.Spots.{IsSpot};
 ghost use Rattle.tree_updates.specs.Joinings.{MayInsertBetween};
 ghost use Rattle.tree_updates.specs.Stores.{IsStoreFor};
 
 use crate::joining::value_at;
-use crate::located::{nodes_to, take_out_located};
+use crate::node_extent::text_extent;
 use crate::room::reserve_room;
 use crate::store::Store;
 use crate::sweeping::sweep;
+use crate::taking_out::take_out;
+use path_isolation::nodes_along;
 use plain_tree::{Bytes, Texts};
+use preorder_address::Spot;
 use read_steps::Steps;
 use std::alloc::{AllocError, Global};
 use std::sync::ledger::Ledger;
 
-// Inserts a text, which is the only one of these, between two texts: the one before gets the value of all three, and the node with this number
-// goes. All memory is taken before the first change.
+// Inserts a text, which is the only one of these, between two texts: the one before gets the value of all three, and the spot's
+// node goes. All memory is taken before the first change.
 pub(crate) fn join_three<L: Ledger>(
     alloc: Global,
     store: &mut Store,
     number: u64,
+    spot: &Spot,
     rank: u64,
     added: &Texts,
     steps: &mut Steps<L>,
 ) -> Result<(), AllocError>
     requires between { (t : Tree) × (F : List Tree) × IsStoreFor store.old t × MayInsertBetween t number rank F added.now }
+    requires spot { (names : List (Kind × List ℕ)) × IsSpot names store.old.grammar.rules number spot.now }
     ensures store { OnOk result ((t : Tree) (F : List Tree) → IsStoreFor store.old t → MayInsertBetween t number rank F added.now → IsStoreFor store.new (edited t (Insert number F))) }
     ensures kept { OnErr result ((t : Tree) → IsStoreFor store.old t → IsStoreFor store.new t) }
     ensures rules { OnErr result (store.new.grammar.rules ≡ store.old.grammar.rules) }
@@ -42,11 +49,11 @@ pub(crate) fn join_three<L: Ledger>(
     let text = value_at(added, 0).unwrap();
     let here = store.texts.get(rank).unwrap();
     let value = three_bytes(alloc, before, text, here)?;
-    let nodes = nodes_to(store, number, steps);
+    let nodes = nodes_along(&store.grammar, spot.way(), steps);
     reserve_room(store, nodes)?;
     store.texts.reserve(1)?;
     store.texts.set(rank - 1, value);
-    take_out_located(store, number, steps);
+    take_out(store, number, spot, text_extent(rank), steps);
     sweep(store);
     Ok(())
 }

@@ -1,48 +1,45 @@
 // Where texts meet by an edit.
-ghost use Rattle.std.specs.Prelude.{◌≡◌, ℕ, ◌+◌, ◌-◌, ◌*◌, ◌<◌, ◌≤◌, List};
+ghost use Rattle.std.specs.Prelude.{◌≡◌, ◌-◌, ◌<◌, IfOk, IfSome, is_some};
 ghost use Rattle.plain_tree.specs.Siblings.{from_node, text_before};
-ghost use Rattle.plain_tree.specs.Tree.{Tree, none, more, node_count};
-ghost use Rattle.slt_grammar.specs.Grammars.{whole};
-ghost use Rattle.slt_grammar.specs.Keyed.{rules_of};
-ghost use Rattle.slt_grammar.specs.Standing.{StandsFor};
-ghost use Rattle.preorder_address.specs.Numberings.{AreCountsOf};
-ghost use Rattle.tree_updates.specs.CallAnswers.{is_text, has_next};
+ghost use Rattle.plain_tree.specs.Tree.{Tree, none, more};
+ghost use Rattle.preorder_address.specs.Spots.{IsSpot};
+ghost use Rattle.tree_updates.specs.CallAnswers.{is_text};
+ghost use Rattle.tree_updates.specs.Stores.{IsStoreFor};
 
-use plain_tree::{Kind, Names};
-use preorder_address::{kind_of, next_sibling};
+use crate::node_spots::spot_there;
+use crate::store::Store;
+use plain_tree::Kind;
+use preorder_address::Spot;
 use read_steps::Steps;
-use segment_counts::Counts;
-use slt_grammar::Grammar;
+use std::alloc::{AllocError, Global};
 use std::sync::ledger::Ledger;
 
-/// Whether the sibling just before the node with this number is a text. A text has no kids, so it has the number before.
-pub fn text_stands_before<L: Ledger>(
-    grammar: &Grammar,
-    counts: &Counts,
-    names: &Names,
+// The spot of the sibling just before the spot's node, where that is a text. A text has no kids, so it has the number before and two labels.
+pub(crate) fn text_before<L: Ledger>(
+    alloc: Global,
+    store: &Store,
     number: u64,
+    spot: &Spot,
     steps: &mut Steps<L>,
-) -> bool
-    requires counts { AreCountsOf (rules_of grammar.now.rules) counts.now }
+) -> Result<Option<Spot>, AllocError>
+    requires store { (t : Tree) × IsStoreFor store.now t }
     requires behind { 0 < number }
-    ensures before { (values : List (List ℕ)) (t : Tree) → StandsFor (rules_of grammar.now.rules) names.now values t → number < node_count t
-        → result ≡ text_before (from_node (number - 1) (more t none)) }
-    ensures steps { steps.new ≤ steps.old + 18 * whole (rules_of grammar.now.rules) + 2 }
+    requires spot { IsSpot store.now.names store.now.grammar.rules number spot.now }
+    ensures spot { IfOk result (λ left. IfSome left (IsSpot store.now.names store.now.grammar.rules (number - 1))) }
+    ensures before { IfOk result (λ left. (t : Tree) → IsStoreFor store.now t → is_some left ≡ text_before (from_node (number - 1) (more t none))) }
 {
-    let before = number - 1;
-    let kind = kind_of(grammar, counts, names, before, steps);
-    let next = next_sibling(grammar, counts, before, steps);
-    is_text(kind) && has_next(next)
+    let left = spot_there(alloc, store, number - 1, steps)?;
+    if !is_text(left.kind(&store.names)) {
+        return Ok(None);
+    }
+    if left.place() + 2 != spot.place() {
+        return Ok(None);
+    }
+    Ok(Some(left))
 }
 
 pub(crate) fn is_text(kind: Option<Kind>) -> bool
     ensures { result ≡ is_text kind }
 {
     matches!(kind, Some(Kind::Text))
-}
-
-fn has_next(next: Option<Option<u64>>) -> bool
-    ensures { result ≡ has_next next }
-{
-    matches!(next, Some(Some(_)))
 }

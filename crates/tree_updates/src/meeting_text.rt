@@ -1,37 +1,62 @@
 // The texts that meet where a node goes.
-ghost use Rattle.std.specs.Prelude.{◌≡◌, ◌<◌, IfNone, IfSome};
+ghost use Rattle.std.specs.Prelude.{◌≡◌, ◌<◌, IfNone, IfOk, IfSome};
 ghost use Rattle.plain_tree.specs.Edits.{edited, placed};
-ghost use Rattle.plain_tree.specs.Tree.{Tree, node_count};
+ghost use Rattle.plain_tree.specs.Tree.{Tree};
 ghost use Rattle.plain_tree.specs.declared.edit.Edit.TheVariants.{Delete};
-ghost use Rattle.tree_updates.specs.Extents.{StandsBetween};
+ghost use Rattle.preorder_address.specs.Spots.{IsSpot};
 ghost use Rattle.tree_updates.specs.CallAnswers.{is_text};
+ghost use Rattle.tree_updates.specs.Extents.{AreBeside, IsSpanOf};
 ghost use Rattle.tree_updates.specs.Stores.{IsStoreFor};
 
-use crate::meeting::{is_text, text_stands_before};
+use crate::meeting::{is_text, text_before};
+use crate::node_extent::Span;
 use crate::store::Store;
-use preorder_address::{kind_of, next_sibling};
+use preorder_address::Spot;
 use read_steps::Steps;
+use std::alloc::{AllocError, Global};
 use std::sync::ledger::Ledger;
 
-// The number of the text that meets the one before a node where the node goes, and None where no texts meet then.
-pub(crate) fn meeting_text<L: Ledger>(
+// The spots of the two texts between which a node stands, and the number of the one behind it.
+#[derive(Drop)]
+pub(crate) struct Neighbours {
+    pub(crate) left: Spot,
+    pub(crate) number: u64,
+    pub(crate) right: Spot,
+}
+
+// The texts that meet where the spot's node goes, and None where none do.
+pub(crate) fn meeting_texts<L: Ledger>(
+    alloc: Global,
     store: &Store,
     number: u64,
+    spot: &Spot,
+    span: Span,
     steps: &mut Steps<L>,
-) -> Option<u64>
-    requires store { (t : Tree) × IsStoreFor store.now t × (number < node_count t) }
+) -> Result<Option<Neighbours>, AllocError>
+    requires store { (t : Tree) × IsStoreFor store.now t × IsSpanOf store.now t number span }
     requires behind { 0 < number }
-    ensures apart { IfNone result ((t : Tree) → IsStoreFor store.now t → edited t (Delete number) ≡ placed t (Delete number)) }
-    ensures meets { IfSome result (λ right. (t : Tree) → IsStoreFor store.now t → StandsBetween t number right) }
+    requires spot { IsSpot store.now.names store.now.grammar.rules number spot.now }
+    ensures apart { IfOk result (λ found. IfNone found ((t : Tree) → IsStoreFor store.now t → IsSpanOf store.now t number span
+        → edited t (Delete number) ≡ placed t (Delete number))) }
+    ensures meets { IfOk result (λ found. IfSome found (λ beside. (t : Tree) → IsStoreFor store.now t → IsSpanOf store.now t number span
+        → AreBeside store.now t number beside)) }
 {
-    if !text_stands_before(&store.grammar, &store.counts, &store.names, number, steps) {
-        return None;
-    }
-    let told = next_sibling(&store.grammar, &store.counts, number, steps);
-    let next = told.unwrap_or(None);
-    let Some(right) = next else {
-        return None;
+    let Span { extent, behind } = span;
+    let Some(right) = behind else {
+        return Ok(None);
     };
-    let kind = kind_of(&store.grammar, &store.counts, &store.names, right, steps);
-    if is_text(kind) { Some(right) } else { None }
+    if !is_text(right.kind(&store.names)) {
+        return Ok(None);
+    }
+    if spot.place() + 2 * extent.nodes != right.place() {
+        return Ok(None);
+    }
+    let Some(left) = text_before(alloc, store, number, spot, steps)? else {
+        return Ok(None);
+    };
+    Ok(Some(Neighbours {
+        left,
+        number: number + extent.nodes,
+        right,
+    }))
 }

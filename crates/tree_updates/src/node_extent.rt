@@ -1,13 +1,14 @@
 // Which nodes and texts of a document a node has with all below it.
-ghost use Rattle.std.specs.Prelude.{◌≡◌, ◌<◌, ◌≤◌, length, take};
+ghost use Rattle.std.specs.Prelude.{◌≡◌, ◌≤◌, length, take, IfOk};
 ghost use Rattle.plain_tree.specs.Numbers.{nodes, values_of};
 ghost use Rattle.plain_tree.specs.Tree.{Tree, node_count};
 ghost use Rattle.preorder_address.specs.Spots.{IsSpot};
-ghost use Rattle.tree_updates.specs.Extents.{IsCodedBy, IsExtentOf, IsUnsweptFor};
+ghost use Rattle.tree_updates.specs.Extents.{IsCodedBy, IsExtentOf, IsSpanOf, IsUnsweptFor};
 
 use crate::store::Store;
-use preorder_address::{Spot, extent, text_rank};
+use preorder_address::{Spot, find, text_rank};
 use read_steps::Steps;
+use std::alloc::{AllocError, Global};
 use std::sync::ledger::Ledger;
 
 // A node and all below it: how many nodes these are, the rank of their first text among the document's, and how many texts they have.
@@ -16,6 +17,62 @@ pub(crate) struct Extent {
     pub(crate) nodes: u64,
     pub(crate) rank: u64,
     pub(crate) texts: u64,
+}
+
+// The extent of a node, and the spot of the node behind them, if there is one.
+#[derive(Drop)]
+pub(crate) struct Span {
+    pub(crate) extent: Extent,
+    pub(crate) behind: Option<Spot>,
+}
+
+// The extent of the spot's node, by the node behind it. Memory is asked for that node's levels alone.
+pub(crate) fn span_of<L: Ledger>(
+    alloc: Global,
+    store: &Store,
+    number: u64,
+    spot: &Spot,
+    steps: &mut Steps<L>,
+) -> Result<Span, AllocError>
+    requires store { (t : Tree) × IsUnsweptFor store.now t }
+    requires spot { IsSpot store.now.names store.now.grammar.rules number spot.now }
+    ensures span { IfOk result (λ span. (t : Tree) → IsCodedBy store.now t → IsSpanOf store.now t number span) }
+{
+    // The call tells what is true of every grammar.
+    let _limit = store.grammar.limit();
+    let rank = spot.text_rank();
+    let nodes = spot.extent(&store.grammar, &store.counts, steps) + 1;
+    let found = find(
+        alloc,
+        &store.grammar,
+        &store.counts,
+        &store.names,
+        number + nodes,
+        steps,
+    )?;
+    let Some(behind) = found else {
+        let texts = store.counts.total_texts() - rank;
+        return Ok(Span {
+            extent: Extent { nodes, rank, texts },
+            behind: None,
+        });
+    };
+    let texts = behind.text_rank() - rank;
+    Ok(Span {
+        extent: Extent { nodes, rank, texts },
+        behind: Some(behind),
+    })
+}
+
+// The extent of a text of this rank.
+pub(crate) fn text_extent(rank: u64) -> Extent
+    ensures { result ≡ record { nodes = 1; rank = rank; texts = 1 } }
+{
+    Extent {
+        nodes: 1,
+        rank,
+        texts: 1,
+    }
 }
 
 // The extent of the spot's node.
@@ -31,24 +88,6 @@ pub(crate) fn extent_of<L: Ledger>(
 {
     let rank = spot.text_rank();
     let nodes = spot.extent(&store.grammar, &store.counts, steps) + 1;
-    let end = texts_before(store, number + nodes, steps);
-    Extent {
-        nodes,
-        rank,
-        texts: end - rank,
-    }
-}
-
-// The extent of the node with this number.
-pub(crate) fn located_extent<L: Ledger>(store: &Store, number: u64, steps: &mut Steps<L>) -> Extent
-    requires store { (t : Tree) × IsUnsweptFor store.now t × (number < node_count t) }
-    ensures extent { (t : Tree) → IsUnsweptFor store.now t → IsExtentOf t number result }
-{
-    // The call tells what is true of every grammar.
-    let _limit = store.grammar.limit();
-    let told = extent(&store.grammar, &store.counts, number, steps);
-    let nodes = told.unwrap() + 1;
-    let rank = texts_before(store, number, steps);
     let end = texts_before(store, number + nodes, steps);
     Extent {
         nodes,

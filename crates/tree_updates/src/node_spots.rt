@@ -1,4 +1,4 @@
-// Where the node stands at which an edit is to be made.
+// Where nodes stand by their numbers.
 ghost use Rattle.std.specs.Prelude.{◌≡◌, ◌<◌, ℕ, IfOk, IfErr};
 ghost use Rattle.plain_tree.specs.Edits.{number_of};
 ghost use Rattle.plain_tree.specs.Tree.{Tree, node_count};
@@ -9,7 +9,7 @@ ghost use Rattle.tree_updates.specs.Stores.{IsRefusedFor, IsStoreFor};
 use crate::store::{EditError, Store};
 use preorder_address::{Spot, find};
 use read_steps::Steps;
-use std::alloc::Global;
+use std::alloc::{AllocError, Global};
 use std::sync::ledger::Ledger;
 
 // The spot of the node with this number. Memory is asked for its levels alone.
@@ -39,4 +39,28 @@ pub(crate) fn spot_at<L: Ledger>(
         Some(spot) => Ok(spot),
         None => Err(EditError::NoNode { count }),
     }
+}
+
+// The spot of a node that is there.
+pub(crate) fn spot_there<L: Ledger>(
+    alloc: Global,
+    store: &Store,
+    number: u64,
+    steps: &mut Steps<L>,
+) -> Result<Spot, AllocError>
+    requires store { (t : Tree) × IsStoreFor store.now t × (number < node_count t) }
+    ensures spot { IfOk result (IsSpot store.now.names store.now.grammar.rules number) }
+{
+    // The call tells what is true of every grammar.
+    let _limit = store.grammar.limit();
+    let found = find(
+        alloc,
+        &store.grammar,
+        &store.counts,
+        &store.names,
+        number,
+        steps,
+    )?;
+    let Some(spot) = found else { unreachable!() };
+    Ok(spot)
 }

@@ -1,18 +1,21 @@
 // Nodes that may go.
-ghost use Rattle.std.specs.Prelude.{◌≡◌, ◌↔◌, IsTrue, IfOk, MatchResult, Some, Option};
+ghost use Rattle.std.specs.Prelude.{◌≡◌, ◌↔◌, ◌<◌, ◌^◌, IsTrue, IfOk, MatchResult, Some};
 ghost use Rattle.plain_tree.specs.Allowed.{IsAllowed};
-ghost use Rattle.plain_tree.specs.Tree.{Tree};
+ghost use Rattle.plain_tree.specs.Lawful.{IsDocument};
+ghost use Rattle.plain_tree.specs.Tree.{Tree, node_count};
 ghost use Rattle.plain_tree.specs.declared.edit.Edit.TheVariants.{Delete};
 ghost use Rattle.plain_tree.specs.declared.kind.Kind.TheVariants.{Document, Element};
-ghost use Rattle.preorder_address.specs.Spots.{IsSpot};
+ghost use Rattle.preorder_address.specs.Spots.{IsSpot, place_at};
 ghost use Rattle.preorder_address.specs.TreeNumbers.{kind_at};
 ghost use Rattle.tree_updates.specs.Stores.{IsRefusedFor, IsStoreFor};
 
+use crate::node_spots::spot_at;
+use crate::spot_places::kind_above;
 use crate::store::{EditError, Store};
 use plain_tree::Kind;
-use preorder_address::{Spot, find, kind_of, parent_of};
+use preorder_address::Spot;
 use read_steps::Steps;
-use std::alloc::{AllocError, Global};
+use std::alloc::Global;
 use std::sync::ledger::Ledger;
 
 // The spot of the node with this number, where it may go. It is refused where there is no such node, where the node is the document or the
@@ -27,56 +30,29 @@ pub(crate) fn spare_spot<L: Ledger>(
     ensures spot { IfOk result (IsSpot store.now.names store.now.grammar.rules number) }
     ensures answer { (t : Tree) → IsStoreFor store.now t → MatchResult result (λ _. IsAllowed t (Delete number)) (λ error. IsRefusedFor error t (Delete number)) }
 {
-    // The call tells what is true of every grammar.
-    let _limit = store.grammar.limit();
-    let found = find(
-        alloc,
-        &store.grammar,
-        &store.counts,
-        &store.names,
-        number,
-        steps,
-    )?;
-    let Some(spot) = found else {
-        return Err(EditError::NoNode {
-            count: store.counts.total(),
-        });
-    };
+    let spot = spot_at(alloc, store, number, steps)?;
     let Some(kind) = spot.kind(&store.names) else {
         unreachable!()
     };
-    if !is_spare(store, number, kind, steps)? {
+    if !is_spare(number, kind, spot.place()) {
         return Err(EditError::NotAllowed { kind });
     }
     Ok(spot)
 }
 
-// Whether a node of this kind is neither the document nor the root element.
-fn is_spare<L: Ledger>(
-    store: &Store,
-    number: u64,
-    kind: Kind,
-    steps: &mut Steps<L>,
-) -> Result<bool, AllocError>
-    requires store { (t : Tree) × IsStoreFor store.now t × (kind_at t number ≡ Some kind) }
-    ensures spare { IfOk result (λ spare. (t : Tree) → IsStoreFor store.now t → kind_at t number ≡ Some kind → (IsTrue spare ↔ IsAllowed t (Delete number))) }
+// Whether a node of this kind at this place is neither the document nor the root element.
+fn is_spare(number: u64, kind: Kind, place: u64) -> bool
+    requires few { number < 2 ^ 63 }
+    ensures spare { (t : Tree) → IsDocument t → number < node_count t → kind_at t number ≡ Some kind → Some place ≡ place_at t number
+        → (IsTrue result ↔ IsAllowed t (Delete number)) }
 {
     if number == 0 {
-        return Ok(false);
+        return false;
     }
-    if !is_element(kind) {
-        return Ok(true);
+    if !is_document(kind_above(number, place)) {
+        return true;
     }
-    let told = parent_of(&store.grammar, &store.counts, number, steps)?;
-    let parent = told.unwrap_or(None);
-    let Some(up) = parent else {
-        return Ok(false);
-    };
-    let above = kind_of(&store.grammar, &store.counts, &store.names, up, steps);
-    if is_document(above) {
-        return Ok(false);
-    }
-    Ok(true)
+    !is_element(kind)
 }
 
 pub(crate) fn is_element(kind: Kind) -> bool
@@ -85,8 +61,8 @@ pub(crate) fn is_element(kind: Kind) -> bool
     matches!(kind, Kind::Element)
 }
 
-fn is_document(kind: Option<Kind>) -> bool
-    ensures { IsTrue result ↔ kind ≡ Some Document }
+fn is_document(kind: Kind) -> bool
+    ensures { IsTrue result ↔ kind ≡ Document }
 {
-    matches!(kind, Some(Kind::Document))
+    matches!(kind, Kind::Document)
 }

@@ -37,7 +37,7 @@ returns-then-count-total g c = record {
       let total = total-is s t i c.limit-limit.ensures.keyed.grammar in
       let o = others-behind c.as_slice.result.now F M.first M.others c.in-len1-up.len_at_least c.as_slice.ensures M.begins in
       refused-there t (Append c.args.number F) TooMany s
-      (edit.allowed, omega (arith, c.if-count-total.true, c.in_ok-count.ensures, ap list_count o, c.total.ensures.kept, total, joined-count s t i c.args.number c.args.last F edit M)) i;
+      (edit.allowed, omega (arith, c.if-count-total.true, c.in_ok-count.ensures, ap list_count o, c.total.ensures.kept, total, joined-count s t i c.args.number c.args.last.now.number F edit M)) i;
 }
 
 pub returns-in_err-growth : goal.returns-in_err-growth
@@ -51,14 +51,14 @@ returns-in_err-growth g c =
       applies = λ t i edit M.
           let o = others-behind c.as_slice.result.now F M.first M.others c.in-len1-up.len_at_least c.as_slice.ensures M.begins in
           let some = subst (λ (ts : List Tree). Interns s.names (take k.0 (pairs_of_trees (trees ts))) names) o k.1 in
-          refused-named s t i (Append c.args.number F) edit c.limit-limit.ensures.keyed.grammar (suc k.0) names (some-named s t i c.args.number c.args.last F edit M k.0 names some);
+          refused-named s t i (Append c.args.number F) edit c.limit-limit.ensures.keyed.grammar (suc k.0) names (some-named s t i c.args.number c.args.last.now.number F edit M k.0 names some);
     })
 
 pub grow_joined-requires : goal.grow_joined-requires
 grow_joined-requires g c =
     let s = c.args.store.now in
     let n = c.args.number in
-    let last = c.args.last in
+    let last = c.args.last.now.number in
     let F = c.args.fragment.now in
     let G = c.limit-limit.ensures.keyed.grammar in
     let names = c.fragment_growth.new.names in
@@ -86,7 +86,7 @@ pub returns-in_err-grow_joined : goal.returns-in_err-grow_joined
 returns-in_err-grow_joined g c =
     let s = c.args.store.now in
     let n = c.args.number in
-    let last = c.args.last in
+    let last = c.args.last.now.number in
     let F = c.args.fragment.now in
     let G = c.limit-limit.ensures.keyed.grammar in
     let names = c.fragment_growth.new.names in
@@ -106,7 +106,7 @@ pub returns : goal.returns
 returns g c =
     let s = c.args.store.now in
     let n = c.args.number in
-    let last = c.args.last in
+    let last = c.args.last.now.number in
     let F = c.args.fragment.now in
     let G = c.limit-limit.ensures.keyed.grammar in
     let names = c.fragment_growth.new.names in

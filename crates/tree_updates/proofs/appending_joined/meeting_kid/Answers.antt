@@ -1,7 +1,9 @@
-use Rattle.std.proofs.Common.{arith, sym, ◌∙◌}
-use Rattle.std.proofs.Math.Bool.{true≢false}
-use Rattle.plain_tree.specs.Tree.{none, more}
-use Rattle.tree_updates.proofs.AppendedTexts.{kid-meets, last-low, no-first, no-kid, no-kids, no-text, same-told, told-same}
+use Rattle.std.proofs.Common.{◌+◌, ℕ, arith, sym, ◌∙◌}
+use Rattle.preorder_address.proofs.TreeSpots.{spot-place}
+use Rattle.tree_updates.proofs.AppendedTexts.{kid-meets, last-low, no-first, no-kid, no-kids, no-text}
+use Rattle.tree_updates.proofs.NodeExtents.{spot-low}
+use Rattle.tree_updates.proofs.SpotExtents.{spot-measured}
+use Rattle.tree_updates.proofs.SpotPlaces.{place-fits, place-small}
 use Rattle.tree_updates.proofs.appending_joined.meeting_kid.Goals as goal
 
 pub returns-then-not-begins_with_text-clause-apart : goal.returns-then-not-begins_with_text-clause-apart
@@ -21,25 +23,65 @@ overflow_add-last g c =
     let r = c.requires.store in
     omega (arith, last-low r.0 n c.args.fragment.now r.2 c.extent-below.result (c.extent-below.ensures.extent s.names n r.0 c.requires.spot r.1.stand.code), r.1.small)
 
+pub spot_there-requires : goal.spot_there-requires
+spot_there-requires g c =
+    let s = c.args.store.now in
+    let n = c.args.number in
+    let r = c.requires.store in
+    record { store = (r.0, r.1, last-low r.0 n c.args.fragment.now r.2 c.extent-below.result (c.extent-below.ensures.extent s.names n r.0 c.requires.spot r.1.stand.code)) }
+
 pub returns-then-not-is_text-clause-apart : goal.returns-then-not-is_text-clause-apart
 returns-then-not-is_text-clause-apart g c = λ t i edit.
     let s = c.args.store.now in
-    let n = c.args.number in
-    no-text t n c.args.fragment.now edit c.extent-below.result (c.extent-below.ensures.extent s.names n t c.requires.spot i.stand.code) c.if-below-eq0.false
-    c.kind_of-kind.result (c.kind_of-kind.ensures.kind t i.stand.code) (sym c.is_text.ensures ∙ c.if-not-is_text.true)
+    let n : ℕ = c.args.number in
+    let m : ℕ = c.args.number + c.extent-below.result in
+    let code = i.stand.code in
+    let S = c.in_ok-kid.ensures.spot in
+    no-text t n c.args.fragment.now edit c.extent-below.result (c.extent-below.ensures.extent s.names n t c.requires.spot code) c.if-below-eq0.false c.kind.result (c.kind.ensures s.grammar.rules m t S code)
+    c.args.spot.now.before.all c.in_ok-kid.kid.before.all (spot-place s.names s.grammar.rules t code n _ _ _ c.requires.spot) (spot-place s.names s.grammar.rules t code m _ _ _ S) (sym c.is_text.ensures ∙ c.if-not-is_text.true)
 
-pub returns-then-eq-clause-meets : goal.returns-then-eq-clause-meets
-returns-then-eq-clause-meets g c = λ t i edit.
+pub overflow_add-place : goal.overflow_add-place
+overflow_add-place g c =
+    let s = c.args.store.now in
+    let m : ℕ = c.args.number + c.extent-below.result in
+    let r = c.requires.store in
+    let code = r.1.stand.code in
+    let S = c.in_ok-kid.ensures.spot in
+    omega (arith, place-small r.0 m c.place.result (spot-low s.names s.grammar.rules r.0 m c.in_ok-kid.kid code S) (c.place.ensures s.names s.grammar.rules m r.0 S code), r.1.small)
+
+pub overflow_mul-below : goal.overflow_mul-below
+overflow_mul-below g c =
     let s = c.args.store.now in
     let n = c.args.number in
-    kid-meets t n c.args.fragment.now edit c.extent-below.result (c.extent-below.ensures.extent s.names n t c.requires.spot i.stand.code) c.if-below-eq0.false
-    c.kind_of-kind.result (c.kind_of-kind.ensures.kind t i.stand.code) c.in_ok-told.told (c.in_ok-told.ensures.parent s.names (more t none) i.stand.code)
-    (sym c.begins_with_text.ensures ∙ c.if-not-begins_with_text.false) (sym c.is_text.ensures ∙ c.if-not-is_text.false) (sym c.unwrap_or-parent.ensures ∙ told-same c.unwrap_or-parent.result n (sym c.if-eq.ensures))
+    let r = c.requires.store in
+    omega (arith, last-low r.0 n c.args.fragment.now r.2 c.extent-below.result (c.extent-below.ensures.extent s.names n r.0 c.requires.spot r.1.stand.code), r.1.small)
 
-pub returns-else-eq-clause-apart : goal.returns-else-eq-clause-apart
-returns-else-eq-clause-apart g c = λ t i edit.
+pub overflow_add-place-2 : goal.overflow_add-place-2
+overflow_add-place-2 g c =
     let s = c.args.store.now in
     let n = c.args.number in
-    no-kid t n c.args.fragment.now edit c.extent-below.result (c.extent-below.ensures.extent s.names n t c.requires.spot i.stand.code) c.if-below-eq0.false
-    c.kind_of-kind.result (c.kind_of-kind.ensures.kind t i.stand.code) c.in_ok-told.told (c.in_ok-told.ensures.parent s.names (more t none) i.stand.code)
-    (λ e. true≢false (sym (same-told c.unwrap_or-parent.result n (c.unwrap_or-parent.ensures ∙ e)) ∙ sym c.if-eq.ensures))
+    let r = c.requires.store in
+    let code = r.1.stand.code in
+    let m = spot-measured s.names s.grammar.rules r.0 n c.extent-below.result c.args.spot.now r.1.stand.document code c.requires.spot (c.extent-below.ensures.extent s.names n r.0 c.requires.spot code) in
+    omega (arith, place-fits r.0 n m.low m.here m.behind m.from_is c.place-2.result (c.place-2.ensures s.names s.grammar.rules n r.0 c.requires.spot code), m.many, r.1.small)
+
+pub returns-then-place-below-clause-apart : goal.returns-then-place-below-clause-apart
+returns-then-place-below-clause-apart g c = λ t i edit.
+    let s = c.args.store.now in
+    let n : ℕ = c.args.number in
+    let m : ℕ = c.args.number + c.extent-below.result in
+    let code = i.stand.code in
+    let S = c.in_ok-kid.ensures.spot in
+    no-kid t n c.args.fragment.now edit c.extent-below.result (c.extent-below.ensures.extent s.names n t c.requires.spot code) c.if-below-eq0.false c.kind.result (c.kind.ensures s.grammar.rules m t S code)
+    c.place-2.result c.place.result (c.place-2.ensures s.names s.grammar.rules n t c.requires.spot code) (c.place.ensures s.names s.grammar.rules m t S code) c.if-place-below.true
+
+pub returns-clause-meets : goal.returns-clause-meets
+returns-clause-meets g c = λ t i edit.
+    let s = c.args.store.now in
+    let n : ℕ = c.args.number in
+    let m : ℕ = c.args.number + c.extent-below.result in
+    let code = i.stand.code in
+    let S = c.in_ok-kid.ensures.spot in
+    kid-meets t n c.args.fragment.now edit c.extent-below.result (c.extent-below.ensures.extent s.names n t c.requires.spot code) c.if-below-eq0.false c.kind.result (c.kind.ensures s.grammar.rules m t S code)
+    c.place-2.result c.place.result (c.place-2.ensures s.names s.grammar.rules n t c.requires.spot code) (c.place.ensures s.names s.grammar.rules m t S code)
+    (sym c.begins_with_text.ensures ∙ c.if-not-begins_with_text.false) (sym c.is_text.ensures ∙ c.if-not-is_text.false) c.if-place-below.false

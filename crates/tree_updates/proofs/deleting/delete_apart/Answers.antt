@@ -29,15 +29,15 @@ reserve_room-requires g c =
 pub delete_plain-requires-clause-store : goal.delete_plain-requires-clause-store
 delete_plain-requires-clause-store g c =
     let r = c.requires.store in
-    (r.0, unswept c.reserve_room.new.store r.0 (c.reserve_room.ensures.store r.0 r.1), leaves r.0 r.1.stand.document (Delete c.args.number) r.2 tt)
+    (r.0, unswept c.reserve_room.new.store r.0 (c.reserve_room.ensures.store r.0 r.1), r.3, leaves r.0 r.1.stand.document (Delete c.args.number) r.2 tt)
 
 pub returns : goal.returns
 returns g c = record {
-  applies = λ t s allowed same.
+  applies = λ t s allowed x same.
       let kept = unswept c.reserve_room.new.store t (c.reserve_room.ensures.store t s) in
       record {
         allowed = allowed;
-        store = subst (IsStoreFor c.delete_plain.new.store) (sym same) (c.delete_plain.ensures.store t kept (leaves t s.stand.document (Delete c.args.number) allowed tt));
+        store = subst (IsStoreFor c.delete_plain.new.store) (sym same) (c.delete_plain.ensures.store t kept x (leaves t s.stand.document (Delete c.args.number) allowed tt));
         names = c.delete_plain.ensures.names ∙ c.reserve_room.ensures.names;
         size = doubled (size (rules_of c.args.store.now.grammar.rules)) (size (rules_of c.delete_plain.new.store.grammar.rules)) (merged t (Delete c.args.number))
             (omega (arith, c.delete_plain.ensures.size, ap (λ (G : List KeyedRule). size (rules_of G)) c.reserve_room.ensures.rules));

@@ -10,23 +10,22 @@ use Rattle.text_list.specs.RoomyTexts.{RoomyTexts}
 use Rattle.fcns_encoding.specs.Interning.{Interns}
 use Rattle.preorder_address.specs.Spots.{IsSpot}
 use Rattle.tree_updates.specs.declared.store.EditError.TheVariants.{Memory}
-use Rattle.tree_updates.proofs.BesideNodes.{insert-some}
 use Rattle.tree_updates.proofs.CodeBodies.{code-real}
 use Rattle.tree_updates.proofs.InsertedEdits.{doubled-more, may-insert, refused-coded, too-many}
 use Rattle.tree_updates.proofs.NodeExtents.{spot-low}
 use Rattle.tree_updates.proofs.Ranks.{rank-told}
+use Rattle.tree_updates.proofs.SpareNodes.{insert-some}
 use Rattle.tree_updates.proofs.StoreLemmas.{refused-there}
 use Rattle.tree_updates.proofs.Texts.{rank_in}
 use Rattle.tree_updates.proofs.inserting.insert.Goals as goal
 
-pub find_seams-seams-requires-clause-store : goal.find_seams-seams-requires-clause-store
-find_seams-seams-requires-clause-store g c =
-    let s = c.args.store.now in
-    let r = c.requires.store in
-    (r.0, r.1, spot-low s.names s.grammar.rules r.0 c.args.number c.in_ok-spot.spot r.1.stand.code c.in_ok-spot.ensures.spot)
+pub find_seams-requires-clause-behind : goal.find_seams-requires-clause-behind
+find_seams-requires-clause-behind g c = let r = c.requires.store in insert-some r.0 c.args.number c.args.fragment.now (c.in_ok-spot.ensures.answer r.0 r.1)
 
-pub find_seams-seams-requires-clause-behind : goal.find_seams-seams-requires-clause-behind
-find_seams-seams-requires-clause-behind g c = let r = c.requires.store in insert-some r.0 c.args.number c.args.fragment.now (c.in_ok-spot.ensures.answer r.0 r.1)
+pub returns-in_err-seams : goal.returns-in_err-seams
+returns-in_err-seams g c =
+    let p = err_from_is_err_and c.from_residual-in_err-seams.result c.from_residual-in_err-seams.ensures.1 in
+    rw (p.1, p.2) (record { applies = λ t i. refused-there t (Insert c.args.number c.args.fragment.now) Memory c.args.store.now tt i })
 
 pub returns-in_err-fits : goal.returns-in_err-fits
 returns-in_err-fits g c =
@@ -39,7 +38,7 @@ returns-then-not-branch g c = record {
       let s = c.args.store.now in
       let n = c.args.number in
       let low = spot-low s.names s.grammar.rules t n c.in_ok-spot.spot i.stand.code c.in_ok-spot.ensures.spot in
-      too-many s t i n c.args.fragment.now (c.in_ok-spot.ensures.answer t i) c.requires.fragment (rank_in n (more t none)) (sym (rank-told t n low)) c.find_seams-seams.result (c.find_seams-seams.ensures.seams t i) c.in_ok-fits.field-0 (c.in_ok-fits.ensures t i) c.if-not-branch.true;
+      too-many s t i n c.args.fragment.now (c.in_ok-spot.ensures.answer t i) c.requires.fragment (rank_in n (more t none)) (sym (rank-told t n low)) c.in_ok-seams.seams (c.in_ok-seams.ensures.seams t i) c.in_ok-fits.field-0 (c.in_ok-fits.ensures t i) c.if-not-branch.true;
 }
 
 pub put_fragment-requires-clause-comes : goal.put_fragment-requires-clause-comes
@@ -51,7 +50,7 @@ put_fragment-requires-clause-comes g c =
       r.0,
       c.args.fragment.now,
       c.encode_in.ensures.store r.0 r.1,
-      may-insert s r.0 r.1 n c.args.fragment.now (c.in_ok-spot.ensures.answer r.0 r.1) c.requires.fragment c.text_rank-rank.result ranked c.find_seams-seams.result (c.find_seams-seams.ensures.seams r.0 r.1) c.in_ok-fits.field-0 (c.in_ok-fits.ensures r.0 r.1) c.if-not-branch.false
+      may-insert s r.0 r.1 n c.args.fragment.now (c.in_ok-spot.ensures.answer r.0 r.1) c.requires.fragment c.text_rank-rank.result ranked c.in_ok-seams.seams (c.in_ok-seams.ensures.seams r.0 r.1) c.in_ok-fits.field-0 (c.in_ok-fits.ensures r.0 r.1) c.if-not-branch.false
           c.encode_in.new.store c.in_ok-coded.coded c.in_ok-coded.ensures.code c.in_ok-coded.ensures.values,
     )
 
@@ -82,7 +81,7 @@ returns g c = record {
       let coded = c.in_ok-coded.coded in
       let allowed = c.in_ok-spot.ensures.answer t i in
       let ranked = c.text_rank-rank.ensures s.names s.grammar.rules n t c.in_ok-spot.ensures.spot i.stand.code in
-      let come = may-insert s t i n F allowed c.requires.fragment c.text_rank-rank.result ranked c.find_seams-seams.result (c.find_seams-seams.ensures.seams t i) c.in_ok-fits.field-0 (c.in_ok-fits.ensures t i) c.if-not-branch.false
+      let come = may-insert s t i n F allowed c.requires.fragment c.text_rank-rank.result ranked c.in_ok-seams.seams (c.in_ok-seams.ensures.seams t i) c.in_ok-fits.field-0 (c.in_ok-fits.ensures t i) c.if-not-branch.false
       c.encode_in.new.store coded c.in_ok-coded.ensures.code c.in_ok-coded.ensures.values in
       record {
         allowed = allowed;

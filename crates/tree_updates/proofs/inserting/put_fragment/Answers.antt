@@ -12,7 +12,7 @@ join_three-requires g c =
     let a = c.args.store.now in
     let w = c.is_one_between.ensures.0 c.if-is_one_between.true in
     let one : node_count_all (trees r.1) ≡ 1 = omega (arith, c.len.ensures, w.1.1, code-length a.names r.1 c.args.coded.body r.3.code) in
-    record { between = (r.0, r.1, r.2, between a r.0 r.2 c.args.number c.args.rank r.1 r.3.edit_is r.3.rank_is c.args.seams r.3.seams one w.0 w.1.0 c.args.coded.texts r.3.texts_are) }
+    record { spot = c.requires.spot; between = (r.0, r.1, r.2, between a r.0 r.2 c.args.number c.args.rank r.1 r.3.edit_is r.3.rank_is c.args.seams r.3.seams one w.0 w.1.0 c.args.coded.texts r.3.texts_are) }
 
 pub returns-then-is_one_between-clause-store : goal.returns-then-is_one_between-clause-store
 returns-then-is_one_between-clause-store g c =

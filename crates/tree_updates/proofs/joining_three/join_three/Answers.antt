@@ -1,15 +1,17 @@
-use Rattle.std.proofs.Common.{◌-◌, ℕ, List, ap, ◌∙◌, subst, arith, length}
+use Rattle.std.proofs.Common.{◌-◌, ℕ, List, ap, sym, ◌∙◌, subst, arith, length}
 use Rattle.std.specs.Prelude.{slice_set}
 use Rattle.std.proofs.lemmas.Option.{slice_get_within}
 use Rattle.plain_tree.specs.declared.edit.Edit.TheVariants.{Delete}
 use Rattle.plain_tree.specs.Edits.{placed}
+use Rattle.slt_grammar.specs.declared.level.Level.{Level}
+use Rattle.path_isolation.specs.Chains.{IsChain}
+use Rattle.path_isolation.specs.Isolations.{room_along}
 use Rattle.path_isolation.proofs.Walks.{room-few}
 use Rattle.tree_updates.specs.Stores.{IsStoreFor}
-use Rattle.tree_updates.specs.Ways.{levels_to}
-use Rattle.tree_updates.proofs.JoinedStores.{ranked-low}
-use Rattle.tree_updates.proofs.JoinedThrees.{added-there, before-there, comes-to-edited, delete-leaves, here-there, is-there, low-valued, place-some, three-is, valued, valued-three}
+use Rattle.tree_updates.proofs.JoinedThrees.{added-there, before-there, comes-to-edited, delete-leaves, here-extent, here-there, is-there, place-some, three-is, valued, valued-three}
 use Rattle.tree_updates.proofs.LeavingDocuments.{unswept}
-use Rattle.tree_updates.proofs.NodeWays.{chain-to, node-low}
+use Rattle.tree_updates.proofs.NodeExtents.{extent-is}
+use Rattle.tree_updates.proofs.Numbered.{spot-numbered}
 use Rattle.tree_updates.proofs.joining_three.join_three.Goals as goal
 
 pub overflow_sub-rank : goal.overflow_sub-rank
@@ -33,20 +35,21 @@ unwrap-here-requires g c =
     let r = c.requires.between in
     is-there c.get-2.result r.3.here (c.get-2.ensures ∙ here-there c.args.store.now r.0 r.2 c.args.number c.args.rank r.1 c.args.added.now r.3)
 
-pub nodes_to-nodes-requires : goal.nodes_to-nodes-requires
-nodes_to-nodes-requires g c =
-    let r = c.requires.between in
-    record { store = (r.0, unswept c.args.store.now r.0 r.2, ranked-low r.0 c.args.number c.args.rank r.3.rank_is) }
+pub nodes_along-nodes-requires-clause-chain : goal.nodes_along-nodes-requires-clause-chain
+nodes_along-nodes-requires-clause-chain g c =
+    let a = c.args.store.now in
+    let q = c.requires.spot in
+    let N = spot-numbered q.0 a.grammar c.limit-limit.ensures.keyed c.args.number c.args.spot.now q.1 in
+    (N.places, subst (λ (ls : List Level). IsChain a.grammar.rules ls N.places) (sym c.way.ensures) N.chain)
 
 pub reserve_room-requires : goal.reserve_room-requires
 reserve_room-requires g c =
-    let r = c.requires.between in
     let a = c.args.store.now in
     let K = c.limit-limit.ensures.keyed in
-    let n = c.args.number in
-    let ch = chain-to a.grammar K n (node-low a.names a.grammar.rules r.0 n r.2.stand.code (ranked-low r.0 n c.args.rank r.3.rank_is)) in
-    let f = room-few a.grammar.rules (levels_to a.grammar.rules n) ch.0 (record { grammar = K.grammar; arities = K.arities }) ch.1 in
-    record { few = omega (arith, f, K.few, c.nodes_to-nodes.ensures) }
+    let q = c.requires.spot in
+    let N = spot-numbered q.0 a.grammar K c.args.number c.args.spot.now q.1 in
+    let f = room-few a.grammar.rules c.args.spot.now.levels.items N.places (record { grammar = K.grammar; arities = K.arities }) N.chain in
+    record { few = omega (arith, f, K.few, c.nodes_along-nodes.ensures.value, ap (room_along a.grammar.rules) c.way.ensures) }
 
 pub set-requires-clause-place : goal.set-requires-clause-place
 set-requires-clause-place g c =
@@ -55,8 +58,8 @@ set-requires-clause-place g c =
     let w = slice_get_within a.texts.texts (c.args.rank - 1) r.3.before (before-there a r.0 r.2 c.args.number c.args.rank r.1 c.args.added.now r.3) in
     omega (arith, w, ap (λ (xs : List (List ℕ)). length xs) c.reserve.ensures.texts, ap (λ (xs : List (List ℕ)). length xs) c.reserve_room.ensures.texts)
 
-pub take_out_located-requires-clause-store : goal.take_out_located-requires-clause-store
-take_out_located-requires-clause-store g c =
+pub take_out-requires-clause-store : goal.take_out-requires-clause-store
+take_out-requires-clause-store g c =
     let r = c.requires.between in
     let a = c.args.store.now in
     let n = c.args.number in
@@ -66,8 +69,8 @@ take_out_located-requires-clause-store g c =
     let texts = c.set.ensures.texts ∙ ap (λ (xs : List (List ℕ)). slice_set xs (c.args.rank - 1) c.in_ok-value.value) c.reserve.ensures.texts ∙ ap (slice_set s.texts.texts (c.args.rank - 1)) (c.in_ok-value.ensures ∙ v) in (
       valued a r.0 r.2 n c.args.rank r.1 c.args.added.now r.3,
       valued-three a r.0 r.2 n c.args.rank r.1 c.args.added.now r.3 s (unswept s r.0 (c.reserve_room.ensures.store r.0 r.2)) c.set.new.self texts,
+      extent-is c.text_extent.result c.text_extent.ensures (here-extent a r.0 r.2 n c.args.rank r.1 c.args.added.now r.3),
       delete-leaves a r.0 r.2 n c.args.rank r.1 c.args.added.now r.3,
-      low-valued a r.0 r.2 n c.args.rank r.1 c.args.added.now r.3,
     )
 
 pub sweep-requires : goal.sweep-requires
@@ -82,7 +85,7 @@ sweep-requires g c =
     let one = valued a r.0 r.2 n c.args.rank r.1 c.args.added.now r.3 in
     let u = valued-three a r.0 r.2 n c.args.rank r.1 c.args.added.now r.3 s (unswept s r.0 (c.reserve_room.ensures.store r.0 r.2)) c.set.new.self texts in
     record {
-      store = (placed one (Delete n), c.take_out_located.ensures.store one u (delete-leaves a r.0 r.2 n c.args.rank r.1 c.args.added.now r.3) (low-valued a r.0 r.2 n c.args.rank r.1 c.args.added.now r.3));
+      store = (placed one (Delete n), c.take_out.ensures.store one u (extent-is c.text_extent.result c.text_extent.ensures (here-extent a r.0 r.2 n c.args.rank r.1 c.args.added.now r.3)) (delete-leaves a r.0 r.2 n c.args.rank r.1 c.args.added.now r.3));
     }
 
 pub returns-clause-store : goal.returns-clause-store
@@ -96,4 +99,4 @@ returns-clause-store g c = λ t F i M.
     let one = valued a t i n c.args.rank F c.args.added.now M in
     let u = valued-three a t i n c.args.rank F c.args.added.now M s (unswept s t (c.reserve_room.ensures.store t i)) c.set.new.self texts in
     subst (IsStoreFor c.sweep.new.store) (comes-to-edited a t i n c.args.rank F c.args.added.now M)
-    (c.sweep.ensures.store (placed one (Delete n)) (c.take_out_located.ensures.store one u (delete-leaves a t i n c.args.rank F c.args.added.now M) (low-valued a t i n c.args.rank F c.args.added.now M)))
+    (c.sweep.ensures.store (placed one (Delete n)) (c.take_out.ensures.store one u (extent-is c.text_extent.result c.text_extent.ensures (here-extent a t i n c.args.rank F c.args.added.now M)) (delete-leaves a t i n c.args.rank F c.args.added.now M)))

@@ -3,9 +3,8 @@ use Rattle.std.specs.Prelude.{IfNone, not, slice_get}
 use Rattle.plain_tree.specs.Siblings.{first_kids, from_node}
 use Rattle.plain_tree.specs.Tree.{none, more}
 use Rattle.plain_tree.specs.declared.kind.Kind.TheVariants.{Attribute}
-use Rattle.tree_updates.proofs.AloneNames.{allowed-free, free-allowed, own-allowed, parent-low, some-parent, unnamed-allowed}
+use Rattle.tree_updates.proofs.AloneNames.{allowed-free, free-allowed, own-allowed, parent-low, some-parent, unnamed-allowed, unwrap-none, unwrap-some}
 use Rattle.tree_updates.proofs.AttributeTokens.{place-has}
-use Rattle.tree_updates.proofs.SpareNodes.{unwrap-none, unwrap-some}
 use Rattle.tree_updates.proofs.renaming.is_alone.Goals as goal
 
 not-true : (b : Bool) → not b ≡ true → b ≡ false

@@ -1,0 +1,15 @@
+use Rattle.plain_tree.specs.declared.edit.Edit.TheVariants.{Copy}
+use Rattle.plain_tree.specs.Edits.{placed}
+use Rattle.tree_updates.proofs.LeavingDocuments.{unswept}
+use Rattle.tree_updates.proofs.copying.copy_whole.Goals as goal
+
+pub sweep-requires : goal.sweep-requires
+sweep-requires g c =
+    let r = c.requires.store in
+    let s = c.reserve_copy.new.store in
+    record { store = (placed r.0 (Copy c.args.number), c.put_whole.ensures.store r.0 (unswept s r.0 (c.reserve_copy.ensures.store r.0 r.1)) r.2) }
+
+pub returns-clause-store : goal.returns-clause-store
+returns-clause-store g c = λ t i M.
+    let s = c.reserve_copy.new.store in
+    c.sweep.ensures.store (placed t (Copy c.args.number)) (c.put_whole.ensures.store t (unswept s t (c.reserve_copy.ensures.store t i)) M)

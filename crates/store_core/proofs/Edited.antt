@@ -10,13 +10,13 @@ use Rattle.plain_tree.specs.declared.edit.Edit.{Edit}
 use Rattle.slt_grammar.specs.Grammars.{IsGrammar, size}
 use Rattle.slt_grammar.specs.Keyed.{rules_of}
 use Rattle.slt_grammar.specs.declared.rules.Rule.{Rule}
-use Rattle.tree_updates.specs.Stores.{IsEdited, IsRefused, IsStoreFor, IsNoCopy}
+use Rattle.tree_updates.specs.Stores.{IsEdited, IsRefused, IsStoreFor}
 use Rattle.tree_updates.specs.declared.store.EditError.{EditError}
 use Rattle.tree_updates.specs.declared.store.EditError.TheVariants as error
 use Rattle.tree_updates.specs.declared.store.Store.{Store}
 use Rattle.xml_nodes.proofs.Bytes.{spells-fragment}
 use Rattle.xml_profile.proofs.ValueChars.{value_chars}
-use Rattle.store_core.specs.Acts.{Act, Load, LoadGrammar, Save, SaveGrammar, Show, Query, Count, Rename, Insert, Append, Delete, Value, Attr, Repair, file_read, fragment_given, name_given, node_asked, value_given}
+use Rattle.store_core.specs.Acts.{Act, Load, LoadGrammar, Query, Rename, Insert, Append, Delete, Value, Attr, Copy, file_read, fragment_given, name_given, node_asked, value_given}
 use Rattle.store_core.specs.Editing.{AsksEdit, Edits, IsEdit, IsSettledWhereDue, WantsEdit, one_more}
 use Rattle.store_core.specs.Errors.{AsksBelow, GivesNoEdit, IsNoEdit, IsNoFragment, IsNoName, IsNoValue, refusal_of}
 use Rattle.store_core.specs.Machine.{Begins, Does, Refuses}
@@ -48,17 +48,8 @@ asked-parts (Append number bytes) e (fragment, spelled, same) = rw same (spells-
 asked-parts (Delete number) e same = rw same tt
 asked-parts (Value number bytes) e (value, spelled, same) = rw same (value_chars bytes value spelled)
 asked-parts (Attr number name bytes) e (value, is, spelled, same) = rw same (is, value_chars bytes value spelled)
+asked-parts (Copy number) e same = rw same tt
 asked-parts act e asked = absurd asked
-
--- and is no copy
-pub asked-no-copy : (act : Act) (e : Edit) → AsksEdit act e → IsNoCopy e
-asked-no-copy (Rename number name) e (is, same) = rw same tt
-asked-no-copy (Insert number bytes) e (fragment, spelled, same) = rw same tt
-asked-no-copy (Append number bytes) e (fragment, spelled, same) = rw same tt
-asked-no-copy (Delete number) e same = rw same tt
-asked-no-copy (Value number bytes) e (value, spelled, same) = rw same tt
-asked-no-copy (Attr number name bytes) e (value, is, spelled, same) = rw same tt
-asked-no-copy act e asked = absurd asked
 
 -- the node of which it asks
 pub asked-node : (act : Act) (e : Edit) → AsksEdit act e → node_asked act ≡ Some (number_of e)
@@ -68,6 +59,7 @@ asked-node (Append number bytes) e (fragment, spelled, same) = rw same refl
 asked-node (Delete number) e same = rw same refl
 asked-node (Value number bytes) e (value, spelled, same) = rw same refl
 asked-node (Attr number name bytes) e (value, is, spelled, same) = rw same refl
+asked-node (Copy number) e same = rw same refl
 asked-node act e asked = absurd asked
 
 -- what a command gives makes no edit where its name is no Name, and where its bytes spell no fragment, or no value
@@ -99,6 +91,7 @@ does-edit settings (Append number bytes) old new out is edits = edits
 does-edit settings (Delete number) old new out is edits = edits
 does-edit settings (Value number bytes) old new out is edits = edits
 does-edit settings (Attr number name bytes) old new out is edits = edits
+does-edit settings (Copy number) old new out is edits = edits
 does-edit settings act old new out is edits = absurd is
 
 begins-nothing : (act : Act) (refusal : Refusal) (old : World) → IsEdit act → Begins act refusal old []

@@ -28,6 +28,8 @@ pub data Act : Type 0 where
   Value : (number : ℕ) (bytes : List ℕ) → Act
   -- the attribute with this name of the node with this number gets the value that these bytes spell
   Attr : (number : ℕ) (name bytes : List ℕ) → Act
+  -- an equal node comes to stand before the node with this number, with all below it
+  Copy : (number : ℕ) → Act
   -- the grammar is settled
   Repair : Act
   -- the document becomes the one that is made with so many records
@@ -71,6 +73,7 @@ node_asked (Append number bytes) = Some number
 node_asked (Delete number) = Some number
 node_asked (Value number bytes) = Some number
 node_asked (Attr number name bytes) = Some number
+node_asked (Copy number) = Some number
 node_asked act = None
 
 -- the query whose nodes the command asks for

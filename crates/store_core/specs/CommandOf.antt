@@ -1,5 +1,5 @@
 -- The act that a command of the program asks for.
-use Rattle.store_core.specs.Acts.{Act, Load, LoadGrammar, Save, SaveGrammar, Show, Query, Count, Rename, Insert, Append, Delete, Value, Attr, Repair, Generate}
+use Rattle.store_core.specs.Acts.{Act, Load, LoadGrammar, Save, SaveGrammar, Show, Query, Count, Rename, Insert, Append, Delete, Value, Attr, Copy, Repair, Generate}
 use Rattle.store_core.specs.declared.command.Command.{Command}
 use Rattle.store_core.specs.declared.command.Command.TheVariants as c
 
@@ -17,5 +17,6 @@ act_of (c.Append number bytes) = Append number bytes.now
 act_of (c.Delete number) = Delete number
 act_of (c.Value number bytes) = Value number bytes.now
 act_of (c.Attr number name bytes) = Attr number name.now bytes.now
+act_of (c.Copy number) = Copy number
 act_of c.Repair = Repair
 act_of (c.Generate records) = Generate records

@@ -14,7 +14,7 @@ use Rattle.xml_nodes.specs.Spelling.{SpellsList, SpellsValue}
 use Rattle.slt_grammar.specs.Digrams.{IsSettled}
 use Rattle.slt_grammar.specs.Grammars.{size}
 use Rattle.fcns_encoding.specs.Interning.{Interns}
-use Rattle.store_core.specs.Acts.{Act, Rename, Insert, Append, Delete, Value, Attr, name_given, fragment_given, value_given}
+use Rattle.store_core.specs.Acts.{Act, Rename, Insert, Append, Delete, Value, Attr, Copy, name_given, fragment_given, value_given}
 use Rattle.store_core.specs.Texts.{answer_line}
 use Rattle.store_core.specs.Worlds.{Held, with_names, PartsStandFor, World}
 use Rattle.store_core.specs.declared.answer.Answer.{Answer}
@@ -29,6 +29,7 @@ AsksEdit (Append number bytes) e = (fragment : Nodes) × SpellsList bytes (trees
 AsksEdit (Delete number) e = e ≡ edit.Delete number
 AsksEdit (Value number bytes) e = (value : List ℕ) × SpellsValue bytes value × (e ≡ edit.Value number value)
 AsksEdit (Attr number name bytes) e = (value : List ℕ) × IsName name × SpellsValue bytes value × (e ≡ edit.Attr number name value)
+AsksEdit (Copy number) e = e ≡ edit.Copy number
 AsksEdit act e = ⊥
 
 -- it is one that asks for an edit, if what it gives is lawful
@@ -39,6 +40,7 @@ IsEdit (Append number bytes) = Unit {0}
 IsEdit (Delete number) = Unit {0}
 IsEdit (Value number bytes) = Unit {0}
 IsEdit (Attr number name bytes) = Unit {0}
+IsEdit (Copy number) = Unit {0}
 IsEdit act = ⊥
 
 -- the name that it gives is no Name, and its bytes spell no fragment, and no value

@@ -14,7 +14,7 @@ use Rattle.slt_grammar.specs.Ranks.{greatest_rank}
 use Rattle.fcns_encoding.specs.Interning.{Interns, pairs_of_tree}
 use Rattle.record_generator.specs.Records.{generated}
 use Rattle.grammar_file.specs.FileBytes.{file_bytes}
-use Rattle.store_core.specs.Acts.{Act, Load, LoadGrammar, Save, SaveGrammar, Show, Query, Count, Rename, Insert, Append, Delete, Value, Attr, Repair, Generate}
+use Rattle.store_core.specs.Acts.{Act, Load, LoadGrammar, Save, SaveGrammar, Show, Query, Count, Rename, Insert, Append, Delete, Value, Attr, Copy, Repair, Generate}
 use Rattle.store_core.specs.Editing.{Edits, KeepsNames}
 use Rattle.store_core.specs.GrammarFiles.{IsFileOfDocument}
 use Rattle.store_core.specs.Selecting.{Selects}
@@ -156,6 +156,7 @@ Does settings (Append number bytes) old out new = Edits settings (Append number 
 Does settings (Delete number) old out new = Edits settings (Delete number) old out new
 Does settings (Value number bytes) old out new = Edits settings (Value number bytes) old out new
 Does settings (Attr number name bytes) old out new = Edits settings (Attr number name bytes) old out new
+Does settings (Copy number) old out new = Edits settings (Copy number) old out new
 Does settings Repair old out new = Repairs settings.rank old out new
 Does settings (Generate records) old out new = Generates settings.rank records old out new
 

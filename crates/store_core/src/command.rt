@@ -62,6 +62,10 @@ pub enum Command<'a> {
         name: &'a [u8],
         value: &'a [u8],
     },
+    /// An equal node comes to stand before the node with this number, with all below it.
+    Copy {
+        number: u64,
+    },
     /// The grammar is settled.
     Repair,
     /// The document becomes the one that `record_generator` makes with so many records, 1 to 200,000.

@@ -86,7 +86,8 @@ fn node_of(command: Command<'_>) -> u64
         | Command::Append { number, .. }
         | Command::Delete { number }
         | Command::Value { number, .. }
-        | Command::Attr { number, .. } => number,
+        | Command::Attr { number, .. }
+        | Command::Copy { number } => number,
         _ => unreachable!(),
     }
 }
@@ -124,6 +125,7 @@ fn edit_given(alloc: Global, command: Command<'_>) -> Result<Edit, Refusal>
             name: name_of(alloc, name)?,
             value: value_of(alloc, value)?,
         },
+        Command::Copy { number } => Edit::Copy { number },
         _ => unreachable!(),
     })
 }

@@ -153,7 +153,8 @@ impl Session {
             | Command::Append { .. }
             | Command::Delete { .. }
             | Command::Value { .. }
-            | Command::Attr { .. } => { Ok(self.edit(alloc, command, settings, steps)) }
+            | Command::Attr { .. }
+            | Command::Copy { .. } => { Ok(self.edit(alloc, command, settings, steps)) }
             Command::Repair => Ok(self.repair(alloc, settings)),
             Command::Generate { records } => Ok(self.generate(alloc, records, settings)),
         }

@@ -1,6 +1,6 @@
 -- What gives a command with a verb nothing gives no command with it.
 use Rattle.std.specs.Prelude.{◌≡◌, ℕ, List, Some}
-use Rattle.store_core.specs.Acts.{Act, Load, LoadGrammar, Save, SaveGrammar, Show, Query, Count, Rename, Append, Delete, Value, Attr, Repair, Generate}
+use Rattle.store_core.specs.Acts.{Act, Value, Attr}
 use Rattle.store_shell.specs.Arguments.{IsNamed, IsNumbered}
 use Rattle.store_shell.specs.Forms.{Gives}
 use Rattle.store_shell.specs.Verbs.{verb_of}

@@ -10,7 +10,7 @@ use Rattle.store_shell.specs.declared.verb.Verb.TheVariants as verb
 abbrev verbs : List Verb
 verbs =
     verb.Load ∷ verb.LoadGrammar ∷ verb.Save ∷ verb.SaveGrammar ∷ verb.Show ∷ verb.Query ∷ verb.Count
-    ∷ verb.Rename ∷ verb.Insert ∷ verb.Append ∷ verb.Delete ∷ verb.Value ∷ verb.Attr ∷ verb.Generate ∷ []
+    ∷ verb.Rename ∷ verb.Insert ∷ verb.Append ∷ verb.Delete ∷ verb.Value ∷ verb.Attr ∷ verb.Copy ∷ verb.Generate ∷ []
 
 abbrev pub place : Verb → ℕ
 place verb.Load = 0
@@ -26,12 +26,13 @@ place verb.Append = 9
 place verb.Delete = 10
 place verb.Value = 11
 place verb.Attr = 12
-place verb.Generate = 13
+place verb.Copy = 13
+place verb.Generate = 14
 
 abbrev pub all_words : List (List ℕ)
 all_words =
     codes "load" ∷ codes "load-grammar" ∷ codes "save" ∷ codes "save-grammar" ∷ codes "show" ∷ codes "query" ∷ codes "count"
-    ∷ codes "rename" ∷ codes "insert" ∷ codes "append" ∷ codes "delete" ∷ codes "value" ∷ codes "attr" ∷ codes "generate" ∷ []
+    ∷ codes "rename" ∷ codes "insert" ∷ codes "append" ∷ codes "delete" ∷ codes "value" ∷ codes "attr" ∷ codes "copy" ∷ codes "generate" ∷ []
 
 -- words up to the first space, and what stands behind it
 abbrev pub first_word : List ℕ → List ℕ
@@ -55,7 +56,7 @@ record Told (v : Verb) (rest : List ℕ) : Type 0 where
   place_is : place_of (verb_word v ++ 32 ∷ rest) ≡ place v
   rest_is : behind_word (verb_word v ++ 32 ∷ rest) ≡ rest
   verb_is : get_or verbs (place v) verb.Load ≡ v
-  low : nat_lt (place v) 14 ≡ true
+  low : nat_lt (place v) 15 ≡ true
 
 told : (v : Verb) (rest : List ℕ) → Told v rest
 told verb.Load rest = record { place_is = refl; rest_is = refl; verb_is = refl; low = refl }
@@ -71,12 +72,13 @@ told verb.Append rest = record { place_is = refl; rest_is = refl; verb_is = refl
 told verb.Delete rest = record { place_is = refl; rest_is = refl; verb_is = refl; low = refl }
 told verb.Value rest = record { place_is = refl; rest_is = refl; verb_is = refl; low = refl }
 told verb.Attr rest = record { place_is = refl; rest_is = refl; verb_is = refl; low = refl }
+told verb.Copy rest = record { place_is = refl; rest_is = refl; verb_is = refl; low = refl }
 told verb.Generate rest = record { place_is = refl; rest_is = refl; verb_is = refl; low = refl }
 
 pub place-told : (v : Verb) (words rest : List ℕ) → words ≡ verb_word v ++ 32 ∷ rest → place_of words ≡ place v
 place-told v words rest e = ap place_of e ∙ (told v rest).place_is
 
-pub place-low : (v : Verb) → nat_lt (place v) 14 ≡ true
+pub place-low : (v : Verb) → nat_lt (place v) 15 ≡ true
 place-low v = (told v []).low
 
 -- words begin with one verb

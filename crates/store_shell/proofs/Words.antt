@@ -1,11 +1,11 @@
 -- The word of a command, and what follows the space after it.
-use Rattle.std.specs.Prelude.{◌≡◌, ◌<◌, ℕ, nat_lt, List, [], ◌∷◌, ◌++◌, length, take, true, cond, Option, Some, None, MatchOption, codes, refl}
+use Rattle.std.specs.Prelude.{◌≡◌, ◌<◌, ℕ, nat_lt, List, ◌∷◌, ◌++◌, length, take, true, cond, Option, Some, None, MatchOption, codes, refl}
 use Rattle.std.proofs.Common.{sym, ap, ◌∙◌, subst, arith}
 use Rattle.std.specs.List.{position}
 use Rattle.std.proofs.lemmas.Bool.Decides.{nat_tests}
 use Rattle.std.proofs.lemmas.List.{take_at}
 use Rattle.std.proofs.lemmas.Option.{same_Some}
-use Rattle.store_core.specs.Acts.{Act, AsksFewRecords, Load, LoadGrammar, Save, SaveGrammar, Show, Query, Count, Rename, Insert, Append, Delete, Value, Attr, Repair, Generate}
+use Rattle.store_core.specs.Acts.{Act, AsksFewRecords, Generate}
 use Rattle.store_core.specs.CommandOf.{act_of}
 use Rattle.store_core.specs.declared.command.Command.{Command}
 use Rattle.store_shell.specs.Forms.{Asks, Gives}
@@ -35,6 +35,7 @@ verb_at verb.Append rest = position_at 6 (codes "append " ++ rest) (omega arith)
 verb_at verb.Delete rest = position_at 6 (codes "delete " ++ rest) (omega arith)
 verb_at verb.Value rest = position_at 5 (codes "value " ++ rest) (omega arith)
 verb_at verb.Attr rest = position_at 4 (codes "attr " ++ rest) (omega arith)
+verb_at verb.Copy rest = position_at 4 (codes "copy " ++ rest) (omega arith)
 verb_at verb.Generate rest = position_at 8 (codes "generate " ++ rest) (omega arith)
 
 -- a word and a space are cut there

@@ -108,6 +108,7 @@ fn command_of(verb: Verb, arguments: &[u8]) -> Option<Command<'_>>
             name,
             value,
         }),
+        Verb::Copy => number(arguments).map(|number| Command::Copy { number }),
         Verb::Generate => records(arguments).map(|records| Command::Generate { records }),
     }
 }

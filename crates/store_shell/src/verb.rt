@@ -15,6 +15,7 @@ pub enum Verb {
     Delete,
     Value,
     Attr,
+    Copy,
     Generate,
 }
 
@@ -41,6 +42,7 @@ impl Verb {
             b"delete" => Some(Verb::Delete),
             b"value" => Some(Verb::Value),
             b"attr" => Some(Verb::Attr),
+            b"copy" => Some(Verb::Copy),
             b"generate" => Some(Verb::Generate),
             _ => None,
         }

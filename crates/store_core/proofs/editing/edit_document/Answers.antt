@@ -1,7 +1,7 @@
 use Rattle.std.proofs.lemmas.Result.{err_from_is_err_and}
 use Rattle.plain_tree.specs.Edits.{edited}
 use Rattle.store_core.specs.CommandOf.{act_of}
-use Rattle.store_core.proofs.Edited.{asked-parts, asked-no-copy, counted-store, edit-done, edit-not-asked, edit-refused, held-store, store-held}
+use Rattle.store_core.proofs.Edited.{asked-parts, counted-store, edit-done, edit-not-asked, edit-refused, held-store, store-held}
 use Rattle.store_core.proofs.editing.edit_document.Goals as goal
 
 pub returns-in_err-edit-clause-comes : goal.returns-in_err-edit-clause-comes
@@ -11,9 +11,6 @@ returns-in_err-edit-clause-comes g c = λ told count.
     let i = store-held c.args.loaded.now.store h c.requires.counted in
     rw (p.1, p.2)
     (edit-not-asked c.args.settings (act_of c.args.command) c.requires.edit c.args.loaded.now told count h.tree i c.in_err-edit.field-0.0 c.nodes_of-count.result (c.nodes_of-count.ensures h.tree i) c.in_err-edit.ensures.refused)
-
-pub apply-requires-clause-edit : goal.apply-requires-clause-edit
-apply-requires-clause-edit g c = asked-no-copy (act_of c.args.command) c.in_ok-edit.edit c.in_ok-edit.ensures.asked
 
 pub apply-requires-clause-parts : goal.apply-requires-clause-parts
 apply-requires-clause-parts g c = asked-parts (act_of c.args.command) c.in_ok-edit.edit c.in_ok-edit.ensures.asked

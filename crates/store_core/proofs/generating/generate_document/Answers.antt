@@ -1,5 +1,4 @@
-use Rattle.std.proofs.Common.{◌≡◌, ◌<◌, ◌^◌, ap, ◌∙◌, arith}
-use Rattle.plain_tree.specs.Tree.{node_count}
+use Rattle.std.proofs.Common.{◌∙◌, arith}
 use Rattle.slt_grammar.specs.Grammars.{value}
 use Rattle.slt_grammar.specs.Keyed.{rules_of}
 use Rattle.segment_counts.proofs.Coded.{weight-coded}

@@ -1,7 +1,7 @@
 use Rattle.std.proofs.Common.{◌≡◌, length, refl, ap, ◌∙◌, arith}
 use Rattle.std.proofs.lemmas.List.{length-map}
 use Rattle.tree_outside.proofs.Beside.{Stays-refl}
-use Rattle.slt_grammar.specs.Grammars.{size, value}
+use Rattle.slt_grammar.specs.Grammars.{value}
 use Rattle.slt_grammar.specs.Keyed.{rules_of}
 use Rattle.store_core.specs.StoreOf.{parts_of}
 use Rattle.store_core.specs.Texts.{answer_line}

@@ -1,6 +1,4 @@
-use Rattle.std.proofs.Common.{ap, sym, ◌∙◌, Some, None}
-use Rattle.store_core.specs.CommandOf.{act_of}
-use Rattle.store_shell.specs.Verbs.{verb_word}
+use Rattle.std.proofs.Common.{sym}
 use Rattle.store_shell.proofs.Arguments.{from_behind}
 use Rattle.store_shell.proofs.Words.{asks-by-given, no_verb, words_at}
 use Rattle.store_shell.proofs.parse.parse_command.Goals as goal

@@ -1,4 +1,4 @@
-use Rattle.std.proofs.Common.{length, ◌≡◌, sym, ◌∙◌, arith}
+use Rattle.std.proofs.Common.{length, ◌≡◌, ◌∙◌, arith}
 use Rattle.std.proofs.lemmas.List.{nil_from_length}
 use Rattle.store_shell.proofs.Arguments.{numbered-one}
 use Rattle.store_shell.proofs.parse.some_numbered.Goals as goal

@@ -1,17 +1,20 @@
-// Random edits of small documents, each beside its plain list of nodes. After each edit the session's index and counts are compared
+// Random edits of all kinds on small documents, each beside its plain list of nodes. After each edit the session's index and counts are compared
 // with those that are made anew of its grammar.
 ghost use Rattle.store_core.specs.Acts.{AsksFewRecords};
 ghost use Rattle.store_core.specs.CommandOf.{act_of};
 
 use crate::subject::Subject;
 use chance::Chance;
-use plain_list::{Change, Edit, Node, apply, spelled};
+use plain_list::{Change, Edit, Node, apply};
+use spelling::spelled;
 use std::alloc::{AllocError, Global};
 use std::test::Fail;
 use store_core::Command;
 
 mod chance;
+mod fragments;
 mod plain_list;
+mod spelling;
 
 // The command that asks for an edit.
 fn command_of(edit: Edit) -> Command<'static>
@@ -22,6 +25,20 @@ fn command_of(edit: Edit) -> Command<'static>
         Change::Name(name) => Command::Rename { number, name },
         Change::Value(value) => Command::Value { number, value },
         Change::Deletion => Command::Delete { number },
+        Change::Insertion(fragment) => Command::Insert {
+            number,
+            fragment: fragment.bytes,
+        },
+        Change::Addition(fragment) => Command::Append {
+            number,
+            fragment: fragment.bytes,
+        },
+        Change::Setting(name, value) => Command::Attr {
+            number,
+            name,
+            value,
+        },
+        Change::Copy => Command::Copy { number },
     }
 }
 

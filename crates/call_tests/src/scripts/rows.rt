@@ -1,4 +1,4 @@
-// What the program's own stored run can't show of scripts: how they end where a call fails, whatever the pieces in which they are read,
+// What the program's own stored run can't show of scripts: what is refused before anything is loaded, how they end where a call fails, whatever the pieces in which they are read,
 // without a line feed at their end, and which bytes of a grammar file are saved.
 use super::memory::{DONE, Fault, Row, assert_row};
 use std::test::Fail;
@@ -31,7 +31,7 @@ const LISTED: Row<'static> = Row {
     ..DONE
 };
 
-static ROWS: [Row<'static>; 28] = [
+static ROWS: [Row<'static>; 31] = [
     Row {
         pieces: &[1, 2, 7, 1000],
         ..WHOLE
@@ -40,6 +40,22 @@ static ROWS: [Row<'static>; 28] = [
         document: b"<a></b>",
         script: "load a\nsave c\n",
         printed: "! bad-xml 3\n! no-document\n",
+        ..DONE
+    },
+    // Nothing is loaded, and what can't be read loads nothing.
+    Row {
+        script: "save c\nsave-grammar c\nshow 0\nquery a[\ncount /\ncount /*[1]\nrepair\n",
+        printed: "! no-document\n! no-document\n! no-document\n! no-document\n! no-document\n! no-document\n! no-document\n",
+        ..DONE
+    },
+    Row {
+        script: "rename 1 1a\ninsert 1 </b>\nappend 1 t\ndelete 1\nvalue 1 <\nattr 1 k v\ncopy 1\n",
+        printed: "! no-document\n! no-document\n! no-document\n! no-document\n! no-document\n! no-document\n! no-document\n",
+        ..DONE
+    },
+    Row {
+        script: "load z\nload c\nload-grammar a\ncount /\n",
+        printed: "! no-file\n! bad-xml 0\n! bad-grammar\n! no-document\n",
         ..DONE
     },
     DONE,

@@ -1,6 +1,9 @@
 // Documents and edits by numbers of a generator. The same seed gives the same ones.
-use super::plain_list::{Change, Edit, Node, end_of, has_attribute_beside};
-use plain_tree::Kind::{self, Attribute, Element, Text};
+use super::fragments::{FRAGMENTS, Fragment};
+use super::plain_list::{
+    Change, Edit, NO_NAME, NO_VALUE, Node, end_of, has_attribute_beside, twins_of,
+};
+use plain_tree::Kind::{self, Attribute, Comment, Element, Instruction, Text};
 use std::alloc::{AllocError, Global};
 
 // Few, so that much repeats.
@@ -8,9 +11,9 @@ static NAMES: [&[u8]; 3] = [b"a", b"b", b"c"];
 
 static VALUES: [&[u8]; 3] = [b"x", b"y", b"long"];
 
-static EDIT_NAMES: [&[u8]; 4] = [b"a", b"b", b"c", b"d"];
+static EDIT_NAMES: [&[u8]; 8] = [b"a", b"b", b"c", b"d", b"a", b"b", b"c", NO_NAME];
 
-static EDIT_VALUES: [&[u8]; 4] = [b"x", b"y", b"z", b""];
+static EDIT_VALUES: [&[u8]; 8] = [b"x", b"y", b"z", b"", b"-", b"x", b"y", NO_VALUE];
 
 // A generator whose state isn't 0.
 #[derive(Drop)]
@@ -37,16 +40,19 @@ impl Chance {
         words.get(self.below(words.len())).copied().unwrap_or(b"")
     }
 
-    // A document of 20 to 60 nodes.
+    fn fragment(&mut self) -> &'static Fragment {
+        let [first, ..] = &FRAGMENTS;
+        FRAGMENTS.get(self.below(FRAGMENTS.len())).unwrap_or(first)
+    }
+
+    // A document of 20 to 60 nodes, half of them with a comment before the root.
     pub(super) fn document(&mut self, alloc: Global) -> Result<Vec<Node>, AllocError> {
         let count = self.below(41).saturating_add(20);
         let mut nodes = Vec::new(alloc);
-        nodes.push(Node {
-            kind: Element,
-            depth: 0,
-            name: b"a",
-            value: Vec::new(alloc),
-        })?;
+        if self.below(2) == 0 {
+            nodes.push(node_of(alloc, Comment, 0, b"", b"c")?)?;
+        }
+        nodes.push(node_of(alloc, Element, 0, b"a", b"")?)?;
         for _ in 1..count {
             let room = count.saturating_sub(nodes.len());
             if self.below(2) == 0 || !self.repeat(alloc, &mut nodes, room)? {
@@ -70,15 +76,8 @@ impl Chance {
             _ => return Ok(false),
         }
         let end = end_of(nodes, at).min(at.saturating_add(most));
-        for place in at..end {
-            if let Some(node) = nodes.get(place) {
-                let copy = Node {
-                    value: node.value.to_vec(alloc)?,
-                    ..*node
-                };
-                nodes.push(copy)?;
-            }
-        }
+        let twins = twins_of(alloc, nodes, at, end)?;
+        nodes.extend(twins)?;
         Ok(true)
     }
 
@@ -96,44 +95,47 @@ impl Chance {
         let deepest = deepest_next(nodes);
         let depth = self.below(deepest).saturating_add(1);
         let name = self.pick(&NAMES);
-        let value = self.pick(&VALUES).to_vec(alloc)?;
-        let kind = match self.below(6) {
-            0 | 1 if may_be_attribute(nodes, name) => Attribute,
-            2..=4 if may_be_text(nodes, depth) => Text,
-            _ => Element,
-        };
-        Ok(match kind {
-            Attribute => Node {
-                kind,
-                depth: deepest,
-                name,
-                value,
-            },
-            Text => Node {
-                kind,
-                depth,
-                name: b"",
-                value,
-            },
-            _ => Node {
-                kind,
-                depth,
-                name,
-                value: Vec::new(alloc),
-            },
-        })
+        let value = self.pick(&VALUES);
+        match self.below(8) {
+            0 | 1 if may_be_attribute(nodes, name) => {
+                node_of(alloc, Attribute, deepest, name, value)
+            }
+            2..=4 if may_be_text(nodes, depth) => node_of(alloc, Text, depth, b"", value),
+            5 => node_of(alloc, Comment, depth, b"", value),
+            6 => node_of(alloc, Instruction, depth, name, value),
+            _ => node_of(alloc, Element, depth, name, b""),
+        }
     }
 
     // An edit of a document with so many nodes, sometimes with a number that is too great.
     pub(super) fn edit(&mut self, nodes: usize) -> Edit {
         let number = self.below(nodes.saturating_add(3));
-        let change = match self.below(8) {
-            0..=2 => Change::Name(self.pick(&EDIT_NAMES)),
-            3..=5 => Change::Value(self.pick(&EDIT_VALUES)),
+        let change = match self.below(7) {
+            0 => Change::Name(self.pick(&EDIT_NAMES)),
+            1 => Change::Value(self.pick(&EDIT_VALUES)),
+            2 => Change::Insertion(self.fragment()),
+            3 => Change::Addition(self.fragment()),
+            4 => Change::Setting(self.pick(&EDIT_NAMES), self.pick(&EDIT_VALUES)),
+            5 => Change::Copy,
             _ => Change::Deletion,
         };
         Edit { number, change }
     }
+}
+
+fn node_of(
+    alloc: Global,
+    kind: Kind,
+    depth: usize,
+    name: &'static [u8],
+    value: &[u8],
+) -> Result<Node, AllocError> {
+    Ok(Node {
+        kind,
+        depth,
+        name,
+        value: value.to_vec(alloc)?,
+    })
 }
 
 // The greatest depth that the node behind the last one may have.
@@ -146,7 +148,9 @@ fn deepest_next(nodes: &[Node]) -> usize {
 }
 
 fn may_be_attribute(nodes: &[Node], name: &[u8]) -> bool {
-    nodes.last().is_some_and(|last| last.kind != Text)
+    nodes
+        .last()
+        .is_some_and(|last| last.kind == Element || last.kind == Attribute)
         && !has_attribute_beside(nodes, nodes.len(), name)
 }
 

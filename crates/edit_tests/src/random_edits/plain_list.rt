@@ -1,9 +1,9 @@
-// Documents as plain lists of their nodes: what an edit makes of one, and how it is spelled.
-use plain_tree::Kind::{self, Attribute, Element, Text};
+// Documents as plain lists of their nodes, and what an edit makes of one.
+use super::fragments::Fragment;
+use plain_tree::Kind::{self, Attribute, Comment, Element, Instruction, Text};
 use std::alloc::{AllocError, Global};
-use std::mem;
 
-// A node of a list in document order, and how many elements it stands in. An element has no value, and a text no name.
+// A node of a list in document order, and how many elements it stands in. Elements have no value, texts and comments no name.
 #[derive(Drop)]
 pub(super) struct Node {
     pub kind: Kind,
@@ -12,12 +12,54 @@ pub(super) struct Node {
     pub value: Vec<u8>,
 }
 
+impl Node {
+    // The node once more.
+    pub(super) fn twin(&self, alloc: Global) -> Result<Node, AllocError> {
+        Ok(Node {
+            value: self.value.to_vec(alloc)?,
+            ..*self
+        })
+    }
+
+    fn is_root(&self) -> bool {
+        self.kind == Element && self.depth == 0
+    }
+}
+
 // What becomes of a node.
 #[derive(Clone, Copy, Debug)]
 pub(super) enum Change {
     Name(&'static [u8]),
     Value(&'static [u8]),
     Deletion,
+    // The fragment comes before the node.
+    Insertion(&'static Fragment),
+    // The fragment comes behind its last kid.
+    Addition(&'static Fragment),
+    // The attribute with this name gets this value.
+    Setting(&'static [u8], &'static [u8]),
+    // A twin comes before it, with all below it.
+    Copy,
+}
+
+// What is no Name, and what spells no value.
+pub(super) const NO_NAME: &[u8] = b"1a";
+
+pub(super) const NO_VALUE: &[u8] = b"<";
+
+impl Change {
+    // What is wrong with the name, the value or the fragment that it gives, in whatever document.
+    fn fault(self) -> Option<&'static str> {
+        match self {
+            Change::Name(name) if name == NO_NAME => Some("! bad-name\n"),
+            Change::Setting(name, _) if name == NO_NAME => Some("! bad-name\n"),
+            Change::Value(value) if value == NO_VALUE => Some("! bad-value\n"),
+            Change::Setting(_, value) if value == NO_VALUE => Some("! bad-value\n"),
+            Change::Insertion(fragment) if fragment.is_none() => Some("! bad-fragment\n"),
+            Change::Addition(fragment) if fragment.is_none() => Some("! bad-fragment\n"),
+            _ => None,
+        }
+    }
 }
 
 // A change of the node with a number. Number 0 is the document, which isn't in the list, and the nodes of the list count from 1 on.
@@ -33,10 +75,15 @@ pub(super) fn apply(
     nodes: &mut Vec<Node>,
     edit: Edit,
 ) -> Result<String, AllocError> {
+    if nodes.len() < edit.number {
+        return String::from_str(alloc, "! no-node\n");
+    }
+    if let Some(line) = edit.change.fault() {
+        return String::from_str(alloc, line);
+    }
     let is_made = match edit.number.checked_sub(1) {
-        None => false,
-        Some(at) if at < nodes.len() => make(alloc, nodes, at, edit.change)?,
-        Some(_) => return String::from_str(alloc, "! no-node\n"),
+        None => make_of_document(alloc, nodes, edit.change)?,
+        Some(at) => make(alloc, nodes, at, edit.change)?,
     };
     if !is_made {
         return String::from_str(alloc, "! not-allowed\n");
@@ -45,7 +92,23 @@ pub(super) fn apply(
     format!(in alloc; "ok nodes {count}\n")
 }
 
-// Makes a change where it is allowed, and answers whether it is.
+// Makes a change of the document where it is allowed, and answers whether it is.
+fn make_of_document(
+    alloc: Global,
+    nodes: &mut Vec<Node>,
+    change: Change,
+) -> Result<bool, AllocError> {
+    match change {
+        Change::Addition(fragment) if fragment.is_aside() => {
+            let others = fragment.nodes(alloc, 0)?;
+            push_all(nodes, others)?;
+            Ok(true)
+        }
+        _ => Ok(false),
+    }
+}
+
+// Makes a change of a node where it is allowed, and answers whether it is.
 fn make(
     alloc: Global,
     nodes: &mut Vec<Node>,
@@ -55,12 +118,11 @@ fn make(
     match change {
         Change::Name(name) => Ok(rename(nodes, at, name)),
         Change::Value(value) => set_value(alloc, nodes, at, value),
-        // The root stays.
-        Change::Deletion if at == 0 => Ok(false),
-        Change::Deletion => {
-            delete(alloc, nodes, at)?;
-            Ok(true)
-        }
+        Change::Deletion => delete(alloc, nodes, at),
+        Change::Insertion(fragment) => insert(alloc, nodes, at, fragment),
+        Change::Addition(fragment) => append(alloc, nodes, at, fragment),
+        Change::Setting(name, value) => set_attribute(alloc, nodes, at, name, value),
+        Change::Copy => copy(alloc, nodes, at),
     }
 }
 
@@ -70,7 +132,7 @@ fn rename(nodes: &mut [Node], at: usize, name: &'static [u8]) -> bool {
         return false;
     };
     let is_allowed = match node.kind {
-        Element => true,
+        Element | Instruction => true,
         Attribute => !is_taken,
         _ => false,
     };
@@ -108,8 +170,9 @@ fn set_value(
         return Ok(false);
     };
     let is_allowed = match node.kind {
-        Attribute => true,
+        Attribute | Instruction => true,
         Text => !value.is_empty(),
+        Comment => !value.ends_with(b"-"),
         _ => false,
     };
     if is_allowed {
@@ -118,16 +181,111 @@ fn set_value(
     Ok(is_allowed)
 }
 
-// Takes a node out, with what is deeper behind it.
-fn delete(alloc: Global, nodes: &mut Vec<Node>, at: usize) -> Result<(), AllocError> {
-    let end = end_of(nodes, at);
-    let all = mem::replace(nodes, Vec::new(alloc));
-    for (place, node) in all.into_iter().enumerate() {
-        if place < at || end <= place {
-            push_joined(nodes, node)?;
-        }
+// All but the root may go.
+fn delete(alloc: Global, nodes: &mut Vec<Node>, at: usize) -> Result<bool, AllocError> {
+    match nodes.get(at) {
+        Some(node) if !node.is_root() => {}
+        _ => return Ok(false),
     }
-    Ok(())
+    let end = end_of(nodes, at);
+    put(nodes, at, end, Vec::new(alloc))?;
+    Ok(true)
+}
+
+// Nothing comes before an attribute, and beside the root neither elements nor texts.
+fn insert(
+    alloc: Global,
+    nodes: &mut Vec<Node>,
+    at: usize,
+    fragment: &Fragment,
+) -> Result<bool, AllocError> {
+    let depth = match nodes.get(at) {
+        Some(node) if node.kind != Attribute => node.depth,
+        _ => return Ok(false),
+    };
+    if depth == 0 && !fragment.is_aside() {
+        return Ok(false);
+    }
+    put(nodes, at, at, fragment.nodes(alloc, depth)?)?;
+    Ok(true)
+}
+
+fn append(
+    alloc: Global,
+    nodes: &mut Vec<Node>,
+    at: usize,
+    fragment: &Fragment,
+) -> Result<bool, AllocError> {
+    let depth = match nodes.get(at) {
+        Some(node) if node.kind == Element => node.depth.saturating_add(1),
+        _ => return Ok(false),
+    };
+    let end = end_of(nodes, at);
+    put(nodes, end, end, fragment.nodes(alloc, depth)?)?;
+    Ok(true)
+}
+
+// The attribute of the element with this name gets the value; where there is none, it comes behind the others.
+fn set_attribute(
+    alloc: Global,
+    nodes: &mut Vec<Node>,
+    at: usize,
+    name: &'static [u8],
+    value: &[u8],
+) -> Result<bool, AllocError> {
+    let depth = match nodes.get(at) {
+        Some(node) if node.kind == Element => node.depth.saturating_add(1),
+        _ => return Ok(false),
+    };
+    let first = at.saturating_add(1);
+    let mut attributes = nodes
+        .iter_mut()
+        .skip(first)
+        .take_while(|node| node.kind == Attribute);
+    if let Some(attribute) = attributes.find(|node| node.name == name) {
+        attribute.value = value.to_vec(alloc)?;
+        return Ok(true);
+    }
+    let others = nodes
+        .iter()
+        .skip(first)
+        .take_while(|node| node.kind == Attribute)
+        .count();
+    let end = first.saturating_add(others);
+    let attribute = Node {
+        kind: Attribute,
+        depth,
+        name,
+        value: value.to_vec(alloc)?,
+    };
+    put(nodes, end, end, vec![in alloc; attribute]?)?;
+    Ok(true)
+}
+
+// All but attributes and the root may be copied.
+fn copy(alloc: Global, nodes: &mut Vec<Node>, at: usize) -> Result<bool, AllocError> {
+    match nodes.get(at) {
+        Some(node) if node.kind != Attribute && !node.is_root() => {}
+        _ => return Ok(false),
+    }
+    let end = end_of(nodes, at);
+    let twins = twins_of(alloc, nodes, at, end)?;
+    put(nodes, at, at, twins)?;
+    Ok(true)
+}
+
+// The nodes from one place on to another, once more.
+pub(super) fn twins_of(
+    alloc: Global,
+    nodes: &[Node],
+    at: usize,
+    end: usize,
+) -> Result<Vec<Node>, AllocError> {
+    let mut twins = Vec::new(alloc);
+    for node in nodes.iter().take(end).skip(at) {
+        twins.push(node.twin(alloc)?)?;
+    }
+    Ok(twins)
 }
 
 // The place behind a node and what is deeper behind it.
@@ -144,6 +302,22 @@ pub(super) fn end_of(nodes: &[Node], at: usize) -> usize {
     next.saturating_add(below)
 }
 
+// Puts others in the place of the nodes from one place on to another.
+fn put(nodes: &mut Vec<Node>, at: usize, end: usize, others: Vec<Node>) -> Result<(), AllocError> {
+    let end = end.min(nodes.len());
+    let behind = nodes.split_off(end)?;
+    nodes.truncate(at);
+    push_all(nodes, others)?;
+    push_all(nodes, behind)
+}
+
+fn push_all(nodes: &mut Vec<Node>, others: Vec<Node>) -> Result<(), AllocError> {
+    for node in others {
+        push_joined(nodes, node)?;
+    }
+    Ok(())
+}
+
 // Adds a node. A text whose sibling just before is a text becomes one with that.
 fn push_joined(nodes: &mut Vec<Node>, node: Node) -> Result<(), AllocError> {
     if let Some(last) = nodes.last_mut() {
@@ -152,68 +326,4 @@ fn push_joined(nodes: &mut Vec<Node>, node: Node) -> Result<(), AllocError> {
         }
     }
     Ok(nodes.push(node)?)
-}
-
-// The saved bytes of a document.
-pub(super) fn spelled(alloc: Global, nodes: &[Node]) -> Result<Vec<u8>, AllocError> {
-    let mut pen = Pen {
-        bytes: Vec::new(alloc),
-        open: Vec::new(alloc),
-        in_tag: false,
-    };
-    for node in nodes {
-        pen.write_node(node)?;
-    }
-    pen.close_to(0)?;
-    pen.write(b"", b"\n", b"")?;
-    Ok(pen.bytes)
-}
-
-// What was written, the names of the elements that are open, and whether the last start tag is.
-#[derive(Drop)]
-struct Pen {
-    bytes: Vec<u8>,
-    open: Vec<&'static [u8]>,
-    in_tag: bool,
-}
-
-impl Pen {
-    fn write_node(&mut self, node: &Node) -> Result<(), AllocError> {
-        self.close_to(node.depth)?;
-        if node.kind == Attribute {
-            self.write(b" ", node.name, b"=\"")?;
-            return self.write(b"", &node.value, b"\"");
-        }
-        if self.in_tag {
-            self.write(b"", b">", b"")?;
-        }
-        self.in_tag = node.kind == Element;
-        if !self.in_tag {
-            return self.write(b"", &node.value, b"");
-        }
-        self.open.push(node.name)?;
-        self.write(b"<", node.name, b"")
-    }
-
-    // Closes elements until so many are open.
-    fn close_to(&mut self, depth: usize) -> Result<(), AllocError> {
-        for _ in depth..self.open.len() {
-            let Some(name) = self.open.pop() else {
-                break;
-            };
-            if self.in_tag {
-                self.write(b"", b"/>", b"")?;
-            } else {
-                self.write(b"</", name, b">")?;
-            }
-            self.in_tag = false;
-        }
-        Ok(())
-    }
-
-    fn write(&mut self, front: &[u8], text: &[u8], back: &[u8]) -> Result<(), AllocError> {
-        self.bytes.extend_from_slice(front)?;
-        self.bytes.extend_from_slice(text)?;
-        self.bytes.extend_from_slice(back)
-    }
 }

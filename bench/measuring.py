@@ -51,8 +51,8 @@ def measure(words, script=b"", folder="."):
 class Session:
     """A program that runs in a folder, and does commands one after another."""
 
-    def __init__(self, folder):
-        self.child = subprocess.Popen([TREESTORE], stdin=subprocess.PIPE, stdout=subprocess.PIPE, cwd=folder)
+    def __init__(self, folder, words=()):
+        self.child = subprocess.Popen([TREESTORE, *words], stdin=subprocess.PIPE, stdout=subprocess.PIPE, cwd=folder)
 
     def do(self, command, times=1):
         """The last answer to a command whose answer is one line."""

@@ -15,7 +15,7 @@ const FEW: usize = 4;
 type Places = ArrayVec<u32, FEW>;
 
 /// A key. Equal keys have one number.
-pub(crate) trait Numbered: Eq + Hash + Drop {
+pub trait Numbered: Eq + Hash + Drop {
     ghost number_of: { Self → ℕ };
 
     /// The number that it is found by. An index keeps a list for each number up to the largest, so numbers are small.

@@ -102,9 +102,9 @@ impl<S: RunState> Bodies<S> {
     }
 }
 
-// What a run downward reads: the bodies that the run upward noted, and its own. It is seen as the list of both.
+/// What a run downward reads: the bodies that the run upward noted, and its own. It is seen as the list of both.
 #[derive(Drop)]
-pub(crate) struct Reading<'a, S: Drop> {
+pub struct Reading<'a, S: Drop> {
     // Those of no more pairs than its own.
     noted: &'a Bodies<S>,
     own: Bodies<S>,
@@ -143,8 +143,8 @@ impl<'a, S: Drop> Reading<'a, S> {
         })
     }
 
-    // The notes of a pair's body, if it was noted or read.
-    pub(crate) fn notes(&self, pair: usize) -> Option<NoteSlice<'_, S>>
+    /// The notes of a pair's body, if it was noted or read.
+    pub fn notes(&self, pair: usize) -> Option<NoteSlice<'_, S>>
         ensures some { IfSome result (λ notes. slice_get self.now pair ≡ Some (Some notes)) }
         ensures none { IfNone result (HasBody self.now pair → ⊥) }
     {
@@ -191,12 +191,12 @@ fn note_body<A: Rising>(
     Ok(())
 }
 
-// Reads the body of a pair if it wasn't read yet, with at most two steps for each of its nodes. It answers how many those are.
-pub(crate) fn read<A: Rising, L: Ledger>(
+/// Reads the body of a pair if it wasn't read yet, with at most two steps for each of its nodes. It answers how many those are.
+pub fn read<A: Rising, L: Ledger>(
     alloc: Global,
     automaton: &A,
     grammar: &Grammar,
-    risen: &RiseTable<A>,
+    risen: &RiseTable<A::State>,
     bodies: &mut Reading<'_, A::State>,
     pair: usize,
     steps: &mut Steps<L>,

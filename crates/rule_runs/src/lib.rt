@@ -43,7 +43,13 @@ mod told;
 
 pub use answers::Answers;
 pub use falling::{FallTable, fall};
+pub use index::Numbered;
+pub use kept::{Reading, read};
 pub use listing::Hit;
+pub use note_list::{NoteSlice, Seen};
+pub use notes::Note;
 pub use one_state::rise_in_one_state;
 pub use rising::{RiseTable, rise};
 pub use spent::Spent;
+pub use spots::Spot;
+pub use table::Table;

@@ -143,9 +143,9 @@ fn keep_states<S: RunState>(states: &mut Vec<(S, S)>, kids: S, rest: S) -> Resul
     Ok(place)
 }
 
-// Some notes of a list.
+/// Some notes of a list.
 #[derive(Drop)]
-pub(crate) struct NoteSlice<'a, S: Drop> {
+pub struct NoteSlice<'a, S: Drop> {
     notes: &'a [Brief],
     states: &'a Vec<(S, S)>,
 }
@@ -162,9 +162,9 @@ impl<'a, S: Drop> Model for NoteSlice<'a, S> {
     ghost invariant = { λ s. All (HasStates (length s.states.now.items)) s.notes.now };
 }
 
-// A note that is looked at.
+/// A note that is looked at: a symbol with the states of its two children, a call with the place of its pair.
 #[derive(Drop)]
-pub(crate) enum Seen<'a, S: Drop> {
+pub enum Seen<'a, S: Drop> {
     Bottom,
     Param,
     Symbol(usize, &'a S, &'a S),
@@ -172,14 +172,14 @@ pub(crate) enum Seen<'a, S: Drop> {
 }
 
 impl<'a, S: Drop> NoteSlice<'a, S> {
-    pub(crate) fn len(&self) -> usize
+    pub fn len(&self) -> usize
         ensures { result ≡ length self.now }
     {
         self.notes.len()
     }
 
-    // The note at a place.
-    pub(crate) fn at(&self, place: usize) -> Seen<'a, S>
+    /// The note at a place.
+    pub fn at(&self, place: usize) -> Seen<'a, S>
         requires { place < length self.now }
         ensures { slice_get self.now place ≡ Some (seen result) }
     {

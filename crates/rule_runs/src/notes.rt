@@ -17,9 +17,9 @@ use crate::stack::{copy_at, pop_two};
 use slt_grammar::{Grammar, Label, Rising, RunState};
 use std::alloc::{AllocError, Global};
 
-// A node: a symbol with the states of its two children, a call with the place of its pair in the table.
+/// A node: a symbol with the states of its two children, a call with the place of its pair in the table.
 #[derive(Drop)]
-pub(crate) enum Note<S: Drop> {
+pub enum Note<S: Drop> {
     Bottom,
     Param,
     Symbol(u32, S, S),

@@ -22,7 +22,7 @@ pub fn rise_in_one_state<A: Rising>(
     alloc: Global,
     grammar: &Grammar,
     automaton: &A,
-) -> Result<RiseTable<A>, AllocError>
+) -> Result<RiseTable<A::State>, AllocError>
     requires one { HasOneState (A.algebra automaton.now) }
     requires swept { IsSwept (rules_of grammar.now.rules) }
     ensures top { IfOk result (λ table. table.top ≡ up (A.algebra automaton.now) (value (rules_of grammar.now.rules)) []) }

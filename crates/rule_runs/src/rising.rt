@@ -1,18 +1,19 @@
 // Runs upward: each rule is evaluated once for each list of argument states that it is met with.
-ghost use Rattle.std.specs.Prelude.{◌≡◌, ◌≢◌, ◌+◌, ◌-◌, ◌*◌, ◌≤◌, ◌++◌, ◌∷◌, List, [], length, get_or, drop, reverse, IfOk, IsTrue, OnOk, All};
+ghost use Rattle.std.specs.Prelude.{◌≡◌, ◌≢◌, ◌+◌, ◌-◌, ◌*◌, ◌<◌, ◌≤◌, ◌++◌, ◌∷◌, List, [], length, get_or, drop, reverse, IfOk, IsTrue, OnOk, All};
 ghost use Rattle.slt_grammar.specs.Algebras.{Algebra};
 ghost use Rattle.slt_grammar.specs.Grammars.{body_at, value};
 ghost use Rattle.slt_grammar.specs.Keyed.{rules_of};
 ghost use Rattle.slt_grammar.specs.Terms.{up};
+ghost use Rattle.slt_grammar.specs.declared.rules.Rule.{Rule};
 ghost use Rattle.rule_runs.specs.Reached.{RuleStates, ReadsOnce};
 ghost use Rattle.rule_runs.specs.Entries.{key_of};
 ghost use Rattle.rule_runs.specs.Frames.{AreFrames, AreStacked, Stands, own, ahead};
-ghost use Rattle.rule_runs.specs.Risen.{IsPair, IsRun, keys};
+ghost use Rattle.rule_runs.specs.Risen.{IsPair, IsRun, keys, pair_at};
 ghost use Rattle.rule_runs.specs.declared.notes.Note.{Note};
-ghost use Rattle.rule_runs.specs.Notes.{AreNoted, IsRisen};
+ghost use Rattle.rule_runs.specs.Notes.{AreKept, AreNoted, IsRisen};
 
 use crate::frame::{Frame, Next, advance, begin, put_note};
-use crate::kept::Bodies;
+use crate::kept::{Bodies, Reading};
 use crate::layers::Layers;
 use crate::memo::{Memo, Pair};
 use crate::notes::Note;
@@ -25,29 +26,55 @@ use std::mem::replace;
 use std::sync::ledger::Ledger;
 
 /// What a run upward has found. It is seen as the states of the pairs that it met, a rule with the states of its arguments, and the
-/// state of the whole.
+/// state of the whole. All runs downward over the same states share it.
 #[derive(Drop)]
-pub struct RiseTable<A: Rising> {
-    pub(crate) known: Memo<A::State>,
-    pub(crate) top: A::State,
+pub struct RiseTable<S: RunState> {
+    pub(crate) known: Memo<S>,
+    pub(crate) top: S,
     // The notes of the pairs' bodies: of each, or of none.
-    pub(crate) bodies: Bodies<A::State>,
+    pub(crate) bodies: Bodies<S>,
 }
 
-impl<A: Rising> Model for RiseTable<A> {
+impl<S: RunState> Model for RiseTable<S> {
     ghost use Rattle.rule_runs.specs.Risen.{Risen};
 
-    ghost Value = { Risen A.State };
+    ghost Value = { Risen S };
 
     ghost view = { λ t. record { known = t.known; top = t.top; kept = t.bodies } };
 }
 
-impl<A: Rising> RiseTable<A> {
+impl<S: RunState> RiseTable<S> {
     /// The state of the whole.
-    pub fn top(&self) -> &A::State
+    pub fn top(&self) -> &S
         ensures { result.now ≡ self.now.top }
     {
         &self.top
+    }
+
+    /// How many pairs were met.
+    pub fn pairs(&self) -> usize
+        ensures { result ≡ length (keys self.now.known) }
+    {
+        self.known.len()
+    }
+
+    /// The rule of the pair at a place.
+    pub fn rule_at(&self, place: usize) -> usize
+        requires { place < length (keys self.now.known) }
+        ensures { result ≡ (pair_at (keys self.now.known) place).0 }
+    {
+        match self.known.pair(place) {
+            Some((rule, _)) => rule,
+            None => unreachable!(),
+        }
+    }
+
+    /// The bodies of the pairs, to be read: those that are noted are there.
+    pub fn reading(&self, alloc: Global) -> Result<Reading<'_, S>, AllocError>
+        requires { length self.now.kept ≤ length (keys self.now.known) }
+        ensures { (B : Algebra S) (G : List Rule) → AreNoted B G (keys self.now.known) self.now.kept → IfOk result (λ reading. AreKept B G (keys self.now.known) reading) }
+    {
+        Reading::new(alloc, &self.bodies, self.known.len())
     }
 }
 
@@ -63,7 +90,7 @@ pub fn rise<A: Rising, L: Ledger>(
     automaton: &A,
     noted: bool,
     steps: &mut Steps<L>,
-) -> Result<RiseTable<A>, AllocError>
+) -> Result<RiseTable<A::State>, AllocError>
     ensures top { IfOk result (λ table. table.top ≡ up (A.algebra automaton.now) (value (rules_of grammar.now.rules)) []) }
     ensures run { IfOk result (λ table. IsRisen (A.algebra automaton.now) (rules_of grammar.now.rules) table) }
     ensures steps { (pairs : List (RuleStates A.State)) × ReadsOnce (A.algebra automaton.now) (rules_of grammar.now.rules) pairs (steps.new - steps.old) }

@@ -43,7 +43,7 @@ impl<'a, D> Spent<'a, D> {
 pub(crate) fn spent_outcome<A: Falling>(
     automaton: &A,
     grammar: &Grammar,
-    risen: &RiseTable<A>,
+    risen: &RiseTable<A::State>,
     spent: Option<&Spent<'_, A::Down>>,
     spot: &Spot<A::Down>,
     handed: &mut Vec<Handed<A::Down>>,

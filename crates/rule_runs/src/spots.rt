@@ -10,11 +10,11 @@ use slt_grammar::RunState;
 use std::alloc::{AllocError, Global};
 use std::marker::Model;
 
-// A pair of the table of a run upward, by its place, with the down state of its root.
+/// A pair of the table of a run upward, by its place, with the down state of its root.
 #[derive(PartialEq, Eq, Hash, Drop)]
-pub(crate) struct Spot<D> {
-    pub(crate) pair: usize,
-    pub(crate) down: D,
+pub struct Spot<D> {
+    pub pair: usize,
+    pub down: D,
 }
 
 impl<D: RunState> Numbered for Spot<D> {

@@ -8,7 +8,7 @@ use std::marker::Model;
 
 /// Entries under different keys, in the order in which they were noted.
 #[derive(Drop)]
-pub(crate) struct Table<K: Numbered, X: Drop> {
+pub struct Table<K: Numbered, X: Drop> {
     entries: Vec<(K, X)>,
     index: Index<K>,
 }
@@ -26,8 +26,8 @@ impl<K: Numbered, X: Drop> Model for Table<K, X> {
 }
 
 impl<K: Numbered, X: Drop> Table<K, X> {
-    // With room for so many entries of as many numbers.
-    pub(crate) fn with_room(alloc: Global, count: usize) -> Result<Table<K, X>, AllocError>
+    /// With room for so many entries of as many numbers.
+    pub fn with_room(alloc: Global, count: usize) -> Result<Table<K, X>, AllocError>
         ensures { IfOk result (λ table. table ≡ []) }
     {
         Ok(Table {
@@ -36,8 +36,8 @@ impl<K: Numbered, X: Drop> Table<K, X> {
         })
     }
 
-    // The place and the value of the entry under a key.
-    pub(crate) fn find(&self, key: &K) -> Option<(usize, &X)>
+    /// The place and the value of the entry under a key.
+    pub fn find(&self, key: &K) -> Option<(usize, &X)>
         ensures found { IfSome result (λ r. (k : K) × (slice_get self.now r.0 ≡ Some (k, r.1.now)) × (K.eq key.now k ≡ true)) }
         ensures absent { IfNone result (lookup (K.eq key.now) self.now ≡ None) }
     {
@@ -45,8 +45,8 @@ impl<K: Numbered, X: Drop> Table<K, X> {
             .find(key, |place| value_under(&self.entries, place, key))
     }
 
-    // Notes a value under a key that is not there yet.
-    pub(crate) fn note(&mut self, key: K, value: X) -> Result<(), AllocError>
+    /// Notes a value under a key that is not there yet.
+    pub fn note(&mut self, key: K, value: X) -> Result<(), AllocError>
         requires { lookup (K.eq key) self.old ≡ None }
         ensures ok { OnOk result (self.new ≡ self.old ++ (key, value) ∷ []) }
         ensures stays { OnErr result (self.new ≡ self.old) }

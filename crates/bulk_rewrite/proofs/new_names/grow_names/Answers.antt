@@ -1,0 +1,45 @@
+use Rattle.plain_tree.specs.NodePairs.{Pair}
+use Rattle.fcns_encoding.proofs.InternLemmas.{on-err}
+use Rattle.slt_grammar.specs.Grammars.{value}
+use Rattle.slt_grammar.specs.Keyed.{rules_of}
+use Rattle.bulk_rewrite.proofs.GrowingNames.{grown-code, grows-more, grows-none, grows-some, grows-whole, lacks-out}
+use Rattle.bulk_rewrite.proofs.LackingKinds.{lack-fewer}
+use Rattle.bulk_rewrite.proofs.new_names.grow_names.Goals as goal
+
+pub kinds-init : goal.kinds-init
+kinds-init g c = λ t code. grows-none c.args.names.now _
+
+pub first_lacking-requires-clause-coded : goal.first_lacking-requires-clause-coded
+first_lacking-requires-clause-coded g c =
+    let r = c.requires.coded in
+    (r.0, grown-code _ _ _ r.0 (value (rules_of c.args.grammar.now.rules)) (c.kinds.invariant r.0 r.1) r.1)
+
+pub kinds-preserved : goal.kinds-preserved
+kinds-preserved g c = λ t code.
+    let v = value (rules_of c.args.grammar.now.rules) in
+    let grown = c.kinds.invariant t code in
+    let p : Pair = (c.in-Some.kind, c.args.name.now) in
+    let first = (rw c.in-Some.is at c.in_ok-kind.ensures.first) t (grown-code _ _ _ t v grown code) in
+    grows-more _ _ _ _ p grown first (c.in_ok-intern.ensures.added (λ i e. lacks-out _ _ p first (i, e)))
+
+pub kinds-smaller : goal.kinds-smaller
+kinds-smaller g c =
+    let r = c.requires.coded in
+    let v = value (rules_of c.args.grammar.now.rules) in
+    let grown = c.kinds.invariant r.0 r.1 in
+    let p : Pair = (c.in-Some.kind, c.args.name.now) in
+    let first = (rw c.in-Some.is at c.in_ok-kind.ensures.first) r.0 (grown-code _ _ _ r.0 v grown r.1) in
+    let out = lacks-out _ _ p first in
+    lack-fewer _ _ c.args.name.now c.in-Some.kind out (c.in_ok-intern.ensures.added (λ i e. out (i, e)))
+
+pub returns-clause-grown : goal.returns-clause-grown
+returns-clause-grown g c = λ t code.
+    let v = value (rules_of c.args.grammar.now.rules) in
+    let grown = c.kinds.invariant t code in
+    grows-whole _ _ _ grown ((rw c.in_default.is at c.in_ok-kind.ensures.none) t (grown-code _ _ _ t v grown code))
+
+pub returns-in_err-kind-clause-some : goal.returns-in_err-kind-clause-some
+returns-in_err-kind-clause-some g c = on-err c.from_residual.result (λ t code. grows-some _ _ _ (c.kinds.invariant t code))
+
+pub returns-in_err-intern-clause-some : goal.returns-in_err-intern-clause-some
+returns-in_err-intern-clause-some g c = on-err c.from_residual-in_err-intern.result (λ t code. rw c.in_err-intern.ensures.err (grows-some _ _ _ (c.kinds.invariant t code)))

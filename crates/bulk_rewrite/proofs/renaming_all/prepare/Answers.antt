@@ -1,0 +1,58 @@
+use Rattle.std.proofs.Common.{refl}
+use Rattle.std.proofs.lemmas.Result.{err_from_is_err_and}
+use Rattle.slt_grammar.specs.Grammars.{value}
+use Rattle.slt_grammar.specs.Keyed.{rules_of}
+use Rattle.bulk_rewrite.specs.Refusing.{signs_of}
+use Rattle.bulk_rewrite.proofs.GrowingNames.{some-grown}
+use Rattle.bulk_rewrite.proofs.RenamingAll.{few-nodes, free-may, may-free, signs-are}
+use Rattle.bulk_rewrite.proofs.renaming_all.prepare.Goals as goal
+
+pub hits_nothing-requires : goal.hits_nothing-requires
+hits_nothing-requires g c =
+    let r = c.requires.stands in
+    record { small = few-nodes c.args.names.now (value (rules_of c.args.grammar.now.rules)) r.1 r.2.code r.3 }
+
+pub grow_names-requires-clause-small : goal.grow_names-requires-clause-small
+grow_names-requires-clause-small g c = let r = c.requires.stands in few-nodes c.args.names.now (value (rules_of c.args.grammar.now.rules)) r.1 r.2.code r.3
+
+pub grow_names-requires-clause-coded : goal.grow_names-requires-clause-coded
+grow_names-requires-clause-coded g c = let r = c.requires.stands in (r.1, r.2.code)
+
+pub returns-clause-allowed : goal.returns-clause-allowed
+returns-clause-allowed g c = λ values t st.
+    let A = g.A.Rising.algebra c.args.automaton.now in
+    let W = g.A.Falling.downward c.args.automaton.now in
+    let v = value (rules_of c.args.grammar.now.rules) in
+    let signs = c.in_ok-signs.signs.items in
+    free-may A W c.args.names.now v t st.code st.document c.args.name.now (signs_of signs) (signs-are c.args.names.now c.args.name.now signs c.in_ok-signs.ensures) (c.in_ok-free.ensures.0 c.if-not-free.false)
+
+pub returns-clause-names : goal.returns-clause-names
+returns-clause-names g c = λ values t st. c.in_ok-grow_names.ensures.grown t st.code
+
+pub returns-then-not-free-clause-refused : goal.returns-then-not-free-clause-refused
+returns-then-not-free-clause-refused g c = λ values t st.
+    let A = g.A.Rising.algebra c.args.automaton.now in
+    let W = g.A.Falling.downward c.args.automaton.now in
+    let v = value (rules_of c.args.grammar.now.rules) in
+    let signs = c.in_ok-signs.signs.items in
+    (λ may. let h = c.in_ok-free.ensures.1 (may-free A W c.args.names.now v t st.code st.document c.args.name.now (signs_of signs) (signs-are c.args.names.now c.args.name.now signs c.in_ok-signs.ensures) may) in let no = c.if-not-free.true in absurd (cc), refl)
+
+pub returns-in_err-signs : goal.returns-in_err-signs
+returns-in_err-signs g c =
+    let p = err_from_is_err_and c.from_residual.result c.from_residual.ensures.1 in
+    rw (p.1, p.2) (record { symbols = tt; allowed = tt; names = tt; refused = λ values t st. (0, refl) })
+
+pub returns-in_err-free : goal.returns-in_err-free
+returns-in_err-free g c =
+    let p = err_from_is_err_and c.from_residual-in_err-free.result c.from_residual-in_err-free.ensures.1 in
+    rw (p.1, p.2) (record { symbols = tt; allowed = tt; names = tt; refused = λ values t st. (0, refl) })
+
+pub returns-in_err-grow_names : goal.returns-in_err-grow_names
+returns-in_err-grow_names g c =
+    let p = err_from_is_err_and c.from_residual-in_err-grow_names.result c.from_residual-in_err-grow_names.ensures.1 in
+    rw (p.1, p.2) (record { symbols = tt; allowed = tt; names = tt; refused = λ values t st. c.in_err-grow_names.ensures.some t st.code })
+
+pub returns-in_err-symbols : goal.returns-in_err-symbols
+returns-in_err-symbols g c =
+    let p = err_from_is_err_and c.from_residual-in_err-symbols.result c.from_residual-in_err-symbols.ensures.1 in
+    rw (p.1, p.2) (record { symbols = tt; allowed = tt; names = tt; refused = λ values t st. some-grown _ _ _ (c.in_ok-grow_names.ensures.grown t st.code) })

@@ -1,0 +1,22 @@
+use Rattle.slt_grammar.specs.Keyed.{rules_of}
+use Rattle.bulk_rewrite.specs.Lawful.{renaming-lawful}
+use Rattle.bulk_rewrite.proofs.GrowingNames.{some-grown}
+use Rattle.bulk_rewrite.proofs.RenamingAll.{all-renamed, few-made}
+use Rattle.bulk_rewrite.proofs.renaming_all.rename_all.Goals as goal
+
+pub returns-in-Ok-clause-renamed : goal.returns-in-Ok-clause-renamed
+returns-in-Ok-clause-renamed g c = λ values t st.
+    let A = g.A.Rising.algebra c.args.automaton.now in
+    let W = g.A.Falling.downward c.args.automaton.now in
+    let G = rules_of c.args.grammar.now.rules in
+    let p = c.in_ok-symbols.ensures in
+    all-renamed A W G (rules_of c.in-Ok.new.rules) c.args.names.now _ values t st c.args.name.now c.in_ok-symbols.symbols.items (p.allowed values t st) (p.names values t st) p.symbols c.in-Ok.ensures.value
+
+pub returns-in-Ok-clause-few : goal.returns-in-Ok-clause-few
+returns-in-Ok-clause-few g c =
+    let A = g.A.Rising.algebra c.args.automaton.now in
+    let W = g.A.Falling.downward c.args.automaton.now in
+    few-made A W (rules_of c.args.grammar.now.rules) c.rules-rules.ensures.grammar _ (renaming-lawful W _) (rules_of c.in-Ok.new.rules) c.in-Ok.ensures.made
+
+pub returns-clause-refused : goal.returns-clause-refused
+returns-clause-refused g c = λ values t st. some-grown _ _ _ (c.in_ok-symbols.ensures.names values t st)

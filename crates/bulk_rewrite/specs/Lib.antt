@@ -1,0 +1,15 @@
+pub mod Rewriting
+pub mod Making
+pub mod Numbered
+pub mod Renaming
+pub mod Joining
+pub mod Fates
+pub mod Refusing
+pub mod SameStates
+pub mod FirstHits
+pub mod NewNames
+pub mod RenamedAll
+pub mod Lawful
+pub mod Frames
+pub mod Laws
+pub mod UnderWay

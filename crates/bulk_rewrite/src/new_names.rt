@@ -1,0 +1,65 @@
+// The names that nodes get which are hit come to the table.
+ghost use Rattle.std.specs.Prelude.{◌≡◌, ◌<◌, ◌^◌, ℕ, IfOk, IfSome, IfNone, OnOk, OnErr, take};
+ghost use Rattle.plain_tree.specs.Tree.{Tree, none, more};
+ghost use Rattle.fcns_encoding.specs.Interning.{Interns};
+ghost use Rattle.slt_grammar.specs.Automata.{hits, nodes_in};
+ghost use Rattle.slt_grammar.specs.Coding.{Codes};
+ghost use Rattle.slt_grammar.specs.Grammars.{value};
+ghost use Rattle.slt_grammar.specs.Keyed.{rules_of};
+ghost use Rattle.bulk_rewrite.specs.NewNames.{AreIn, FirstLacks};
+ghost use Rattle.bulk_rewrite.specs.RenamedAll.{renamed_pairs};
+
+use crate::hit_runs::first_hit;
+use crate::refusing::Refusing;
+use crate::signs::known_signs;
+use plain_tree::{Kind, Names};
+use read_steps::Steps;
+use slt_grammar::{Falling, Grammar};
+use std::alloc::{AllocError, Global};
+use std::sync::ledger::Ledger;
+
+// The kinds of the nodes that are hit come to the table with the name, in document order. Each run downward finds the next of them, and there
+// are few kinds.
+pub(crate) fn grow_names<A: Falling, L: Ledger>(
+    alloc: Global,
+    grammar: &Grammar,
+    names: &mut Names,
+    automaton: &A,
+    name: &[u8],
+    steps: &mut Steps<L>,
+) -> Result<(), AllocError>
+    requires small { nodes_in (value (rules_of grammar.now.rules)) < 2 ^ 63 }
+    requires coded { (t : Tree) × Codes names.old (more t none) (value (rules_of grammar.now.rules)) }
+    ensures grown { OnOk result ((t : Tree) → Codes names.old (more t none) (value (rules_of grammar.now.rules)) → Interns names.old (renamed_pairs (hits (A.algebra automaton.now) (A.downward automaton.now) (value (rules_of grammar.now.rules))) name.now t) names.new) }
+    ensures some { OnErr result ((t : Tree) → Codes names.old (more t none) (value (rules_of grammar.now.rules)) → (k : ℕ) × Interns names.old (take k (renamed_pairs (hits (A.algebra automaton.now) (A.downward automaton.now) (value (rules_of grammar.now.rules))) name.now t)) names.new) }
+{
+    'kinds: while let Some(kind) = first_lacking(alloc, grammar, names, automaton, name, steps)? {
+        names.intern(alloc, kind, name)?;
+    }
+    Ok(())
+}
+
+// The kind of the first node that is hit whose kind doesn't have the name in the table.
+fn first_lacking<A: Falling, L: Ledger>(
+    alloc: Global,
+    grammar: &Grammar,
+    names: &Names,
+    automaton: &A,
+    name: &[u8],
+    steps: &mut Steps<L>,
+) -> Result<Option<Kind>, AllocError>
+    requires small { nodes_in (value (rules_of grammar.now.rules)) < 2 ^ 63 }
+    requires coded { (t : Tree) × Codes names.now (more t none) (value (rules_of grammar.now.rules)) }
+    ensures first { IfOk result (λ found. IfSome found (λ kind. (t : Tree) → Codes names.now (more t none) (value (rules_of grammar.now.rules)) → FirstLacks names.now (renamed_pairs (hits (A.algebra automaton.now) (A.downward automaton.now) (value (rules_of grammar.now.rules))) name.now t) (kind, name.now))) }
+    ensures none { IfOk result (λ found. IfNone found ((t : Tree) → Codes names.now (more t none) (value (rules_of grammar.now.rules)) → AreIn names.now (renamed_pairs (hits (A.algebra automaton.now) (A.downward automaton.now) (value (rules_of grammar.now.rules))) name.now t))) }
+{
+    let signs = known_signs(alloc, names, name)?;
+    let lacking = Refusing { automaton, signs };
+    let Some(hit) = first_hit(alloc, grammar, &lacking, steps)? else {
+        return Ok(None);
+    };
+    match names.at(hit.symbol) {
+        Some((kind, _)) => Ok(Some(kind)),
+        None => unreachable!(),
+    }
+}

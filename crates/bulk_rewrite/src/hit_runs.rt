@@ -1,12 +1,13 @@
-// What is hit of all that a grammar stands for, by a run upward and one downward.
+// What is hit of all that a grammar stands for, by a run downward over what one upward has found.
 ghost use Rattle.std.specs.Prelude.{◌≡◌, ◌↔◌, ◌<◌, ◌^◌, [], None, IfOk, IsTrue};
 ghost use Rattle.slt_grammar.specs.Automata.{hits, nodes_in};
 ghost use Rattle.slt_grammar.specs.Grammars.{value};
 ghost use Rattle.slt_grammar.specs.Keyed.{rules_of};
+ghost use Rattle.rule_runs.specs.Notes.{IsRisen};
 ghost use Rattle.bulk_rewrite.specs.FirstHits.{IsFirstHit};
 
 use read_steps::Steps;
-use rule_runs::{Answers, Hit, Spent, fall, rise};
+use rule_runs::{Answers, Hit, RiseTable, Spent, fall};
 use slt_grammar::{Falling, Grammar};
 use std::alloc::{AllocError, Global};
 use std::sync::ledger::Ledger;
@@ -16,13 +17,14 @@ pub(crate) fn hits_nothing<A: Falling, L: Ledger>(
     alloc: Global,
     grammar: &Grammar,
     automaton: &A,
+    risen: &RiseTable<A::State>,
     steps: &mut Steps<L>,
 ) -> Result<bool, AllocError>
+    requires run { IsRisen (A.algebra automaton.now) (rules_of grammar.now.rules) risen.now }
     requires small { nodes_in (value (rules_of grammar.now.rules)) < 2 ^ 63 }
     ensures { IfOk result (λ nothing. IsTrue nothing ↔ (hits (A.algebra automaton.now) (A.downward automaton.now) (value (rules_of grammar.now.rules)) ≡ [])) }
 {
-    let risen = rise(alloc, grammar, automaton, true, steps)?;
-    let fallen = fall(alloc, grammar, automaton, &risen, unspent(), false, steps)?;
+    let fallen = fall(alloc, grammar, automaton, risen, unspent(), false, steps)?;
     Ok(fallen.count() == 0)
 }
 
@@ -31,13 +33,14 @@ pub(crate) fn first_hit<A: Falling, L: Ledger>(
     alloc: Global,
     grammar: &Grammar,
     automaton: &A,
+    risen: &RiseTable<A::State>,
     steps: &mut Steps<L>,
 ) -> Result<Option<Hit>, AllocError>
+    requires run { IsRisen (A.algebra automaton.now) (rules_of grammar.now.rules) risen.now }
     requires small { nodes_in (value (rules_of grammar.now.rules)) < 2 ^ 63 }
     ensures { IfOk result (IsFirstHit (A.algebra automaton.now) (A.downward automaton.now) (value (rules_of grammar.now.rules))) }
 {
-    let risen = rise(alloc, grammar, automaton, true, steps)?;
-    let fallen = fall(alloc, grammar, automaton, &risen, unspent(), true, steps)?;
+    let fallen = fall(alloc, grammar, automaton, risen, unspent(), true, steps)?;
     let mut answers = Answers::new(alloc, &fallen)?;
     let hit = answers.next_hit()?;
     Ok(hit)

@@ -6,6 +6,7 @@ ghost use Rattle.slt_grammar.specs.Automata.{hits, nodes_in};
 ghost use Rattle.slt_grammar.specs.Coding.{Codes};
 ghost use Rattle.slt_grammar.specs.Grammars.{value};
 ghost use Rattle.slt_grammar.specs.Keyed.{rules_of};
+ghost use Rattle.rule_runs.specs.Notes.{IsRisen};
 ghost use Rattle.bulk_rewrite.specs.NewNames.{AreIn, FirstLacks};
 ghost use Rattle.bulk_rewrite.specs.RenamedAll.{renamed_pairs};
 
@@ -14,6 +15,7 @@ use crate::refusing::Refusing;
 use crate::signs::known_signs;
 use plain_tree::{Kind, Names};
 use read_steps::Steps;
+use rule_runs::RiseTable;
 use slt_grammar::{Falling, Grammar};
 use std::alloc::{AllocError, Global};
 use std::sync::ledger::Ledger;
@@ -25,15 +27,19 @@ pub(crate) fn grow_names<A: Falling, L: Ledger>(
     grammar: &Grammar,
     names: &mut Names,
     automaton: &A,
+    risen: &RiseTable<A::State>,
     name: &[u8],
     steps: &mut Steps<L>,
 ) -> Result<(), AllocError>
+    requires run { IsRisen (A.algebra automaton.now) (rules_of grammar.now.rules) risen.now }
     requires small { nodes_in (value (rules_of grammar.now.rules)) < 2 ^ 63 }
     requires coded { (t : Tree) × Codes names.old (more t none) (value (rules_of grammar.now.rules)) }
     ensures grown { OnOk result ((t : Tree) → Codes names.old (more t none) (value (rules_of grammar.now.rules)) → Interns names.old (renamed_pairs (hits (A.algebra automaton.now) (A.downward automaton.now) (value (rules_of grammar.now.rules))) name.now t) names.new) }
     ensures some { OnErr result ((t : Tree) → Codes names.old (more t none) (value (rules_of grammar.now.rules)) → (k : ℕ) × Interns names.old (take k (renamed_pairs (hits (A.algebra automaton.now) (A.downward automaton.now) (value (rules_of grammar.now.rules))) name.now t)) names.new) }
 {
-    'kinds: while let Some(kind) = first_lacking(alloc, grammar, names, automaton, name, steps)? {
+    'kinds: while let Some(kind) = first_lacking(
+        alloc, grammar, names, automaton, risen, name, steps,
+    )? {
         names.intern(alloc, kind, name)?;
     }
     Ok(())
@@ -45,9 +51,11 @@ fn first_lacking<A: Falling, L: Ledger>(
     grammar: &Grammar,
     names: &Names,
     automaton: &A,
+    risen: &RiseTable<A::State>,
     name: &[u8],
     steps: &mut Steps<L>,
 ) -> Result<Option<Kind>, AllocError>
+    requires run { IsRisen (A.algebra automaton.now) (rules_of grammar.now.rules) risen.now }
     requires small { nodes_in (value (rules_of grammar.now.rules)) < 2 ^ 63 }
     requires coded { (t : Tree) × Codes names.now (more t none) (value (rules_of grammar.now.rules)) }
     ensures first { IfOk result (λ found. IfSome found (λ kind. (t : Tree) → Codes names.now (more t none) (value (rules_of grammar.now.rules)) → FirstLacks names.now (renamed_pairs (hits (A.algebra automaton.now) (A.downward automaton.now) (value (rules_of grammar.now.rules))) name.now t) (kind, name.now))) }
@@ -55,7 +63,7 @@ fn first_lacking<A: Falling, L: Ledger>(
 {
     let signs = known_signs(alloc, names, name)?;
     let lacking = Refusing { automaton, signs };
-    let Some(hit) = first_hit(alloc, grammar, &lacking, steps)? else {
+    let Some(hit) = first_hit(alloc, grammar, &lacking, risen, steps)? else {
         return Ok(None);
     };
     match names.at(hit.symbol) {

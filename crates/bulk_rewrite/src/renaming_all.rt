@@ -8,6 +8,7 @@ ghost use Rattle.fcns_encoding.specs.Interning.{Interns};
 ghost use Rattle.slt_grammar.specs.Grammars.{IsSwept, value};
 ghost use Rattle.slt_grammar.specs.Keyed.{rules_of};
 ghost use Rattle.slt_grammar.specs.Standing.{StandsFor};
+ghost use Rattle.rule_runs.specs.Notes.{IsRisen};
 ghost use Rattle.bulk_rewrite.specs.Making.{AreFew};
 ghost use Rattle.bulk_rewrite.specs.NewNames.{IsRenamedSymbol};
 ghost use Rattle.bulk_rewrite.specs.RenamedAll.{AreRenamed, IsRefusedFor, MayRename, renamed_pairs};
@@ -20,6 +21,7 @@ use crate::rewriting::rewrite;
 use crate::signs::{new_symbols, refusing_signs};
 use plain_tree::Names;
 use read_steps::Steps;
+use rule_runs::{RiseTable, rise};
 use slt_grammar::{Falling, Grammar};
 use std::alloc::{AllocError, Global};
 use std::sync::ledger::Ledger;
@@ -66,9 +68,10 @@ pub fn rename_all<A: Falling, L: Ledger>(
 {
     // The call tells that the rules are a grammar.
     let _rules = grammar.rules();
-    let symbols = prepare(alloc, grammar, names, automaton, name, steps)?;
+    let risen = rise(alloc, grammar, automaton, true, steps)?;
+    let symbols = prepare(alloc, grammar, names, automaton, &risen, name, steps)?;
     let renaming = Renaming { automaton, symbols };
-    match rewrite(alloc, grammar, &renaming, steps) {
+    match rewrite(alloc, grammar, &renaming, &risen, steps) {
         Ok(new) => Ok(new),
         Err(_) => Err(BulkError::Memory),
     }
@@ -80,9 +83,11 @@ fn prepare<A: Falling, L: Ledger>(
     grammar: &Grammar,
     names: &mut Names,
     automaton: &A,
+    risen: &RiseTable<A::State>,
     name: &[u8],
     steps: &mut Steps<L>,
 ) -> Result<Vec<usize>, BulkError>
+    requires run { IsRisen (A.algebra automaton.now) (rules_of grammar.now.rules) risen.now }
     requires stands { (values : List (List ℕ)) × (t : Tree) × StandsFor (rules_of grammar.now.rules) names.old values t × (node_count t < 2 ^ 63) }
     requires name { IsName name.now }
     ensures symbols { IfOk result (λ symbols. AllZip (IsRenamedSymbol names.new name.now) names.new symbols.items) }
@@ -92,11 +97,11 @@ fn prepare<A: Falling, L: Ledger>(
 {
     let signs = refusing_signs(alloc, names, name)?;
     let refusing = Refusing { automaton, signs };
-    let free = hits_nothing(alloc, grammar, &refusing, steps)?;
+    let free = hits_nothing(alloc, grammar, &refusing, risen, steps)?;
     if !free {
         return Err(BulkError::NotAllowed);
     }
-    grow_names(alloc, grammar, names, automaton, name, steps)?;
+    grow_names(alloc, grammar, names, automaton, risen, name, steps)?;
     let symbols = new_symbols(alloc, names, name)?;
     Ok(symbols)
 }

@@ -13,12 +13,12 @@ use crate::making::{Making, finish, turn};
 use crate::places::Places;
 use crate::rewriter::Rewriter;
 use read_steps::Steps;
-use rule_runs::{RiseTable, Spot, rise};
+use rule_runs::{RiseTable, Spot};
 use slt_grammar::{Falling, Grammar, GrammarError, RuleList, check};
 use std::alloc::{AllocError, Global};
 use std::sync::ledger::Ledger;
 
-/// The grammar of what becomes of the nodes of all that a grammar stands for.
+/// The grammar of what becomes of the nodes of all that a grammar stands for, from what a run upward over its rules has found.
 ///
 /// There is one rule for each rule, states of its arguments and down state that a run downward meets outside of what is taken out, at
 /// most as large as the rule that it comes from. It fails where memory is refused.
@@ -26,8 +26,10 @@ pub fn rewrite<A: Rewriter, L: Ledger>(
     alloc: Global,
     grammar: &Grammar,
     automaton: &A,
+    risen: &RiseTable<A::State>,
     steps: &mut Steps<L>,
 ) -> Result<Grammar, AllocError>
+    requires run { IsRisen (A.algebra automaton.now) (rules_of grammar.now.rules) risen.now }
     ensures value { IfOk result (λ new. value (rules_of new.rules) ≡ rewritten (A.algebra automaton.now) (A.downward automaton.now) (A.rewriting automaton.now) (value (rules_of grammar.now.rules)) [] (A.downward automaton.now).start) }
     ensures made { IfOk result (λ new. AreMadeOnce (A.algebra automaton.now) (A.downward automaton.now) (rules_of grammar.now.rules) (A.rewriting automaton.now) (rules_of new.rules)) }
     ensures grammar { IfOk result (λ new. IsGrammar (rules_of new.rules)) }
@@ -36,7 +38,7 @@ pub fn rewrite<A: Rewriter, L: Ledger>(
 {
     // The call tells that the rules are a grammar.
     let _rules = grammar.rules();
-    let rules = rise_and_make(alloc, grammar, automaton, steps)?;
+    let rules = make_rules(alloc, grammar, automaton, risen, steps)?;
     match check(alloc, rules) {
         Ok(new) => Ok(new),
         Err(fault) => Err(refused(fault)),
@@ -48,21 +50,6 @@ fn refused(fault: GrammarError) -> AllocError
     requires { fault ≡ GrammarError.Memory }
 {
     AllocError
-}
-
-// The rules that are made, over a run upward that is let go.
-fn rise_and_make<A: Rewriter, L: Ledger>(
-    alloc: Global,
-    grammar: &Grammar,
-    automaton: &A,
-    steps: &mut Steps<L>,
-) -> Result<RuleList, AllocError>
-    ensures made { IfOk result (λ new. AreMadeOnce (A.algebra automaton.now) (A.downward automaton.now) (rules_of grammar.now.rules) (A.rewriting automaton.now) new) }
-    ensures swept { IfOk result IsSwept }
-    ensures counted { steps.old ≤ steps.new }
-{
-    let risen = rise(alloc, grammar, automaton, true, steps)?;
-    make_rules(alloc, grammar, automaton, &risen, steps)
 }
 
 // The rules that are made of what a run upward has found.

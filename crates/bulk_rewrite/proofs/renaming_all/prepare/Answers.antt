@@ -10,7 +10,7 @@ use Rattle.bulk_rewrite.proofs.renaming_all.prepare.Goals as goal
 pub hits_nothing-requires : goal.hits_nothing-requires
 hits_nothing-requires g c =
     let r = c.requires.stands in
-    record { small = few-nodes c.args.names.now (value (rules_of c.args.grammar.now.rules)) r.1 r.2.code r.3 }
+    record { run = c.requires.run; small = few-nodes c.args.names.now (value (rules_of c.args.grammar.now.rules)) r.1 r.2.code r.3 }
 
 pub grow_names-requires-clause-small : goal.grow_names-requires-clause-small
 grow_names-requires-clause-small g c = let r = c.requires.stands in few-nodes c.args.names.now (value (rules_of c.args.grammar.now.rules)) r.1 r.2.code r.3

@@ -62,6 +62,25 @@ counted-none name (more (node Text m v ks) us) n = record { places = refl; front
 counted-none name (more (node Comment m v ks) us) n = record { places = refl; front_is = refl; values = refl }
 counted-none name (more (node Instruction m v ks) us) n = record { places = refl; front_is = refl; values = refl }
 
+valued-more : (m v : List ℕ) (ks A : Trees) → ks ≡ none → length (texts_all A) ≡ node_count_all A → length (texts_all (more (node Attribute m v ks) A)) ≡ node_count_all (more (node Attribute m v ks) A)
+valued-more m v ks A bare values = omega (
+  arith,
+  ap length (texts_all-more Attribute m v ks A),
+  length-append (own Attribute v) (texts_all ks ++ texts_all A),
+  length-append (texts_all ks) (texts_all A),
+  ap (λ us. length (texts_all us)) bare,
+  ap node_count_all bare,
+  values,
+)
+
+-- attributes have a text each
+pub attribute-texts : (name : List ℕ) (A us : Trees) → AreOtherAttributes name A → AreLawfulTrees (chained more A us) → length (texts_all A) ≡ node_count_all A
+attribute-texts name none us o l = refl
+attribute-texts name (more (node k m v ks) A) us o l =
+    let all : AreLawfulTrees (more (node k m v ks) (chained more A us)) = subst AreLawfulTrees (chained-more (node k m v ks) A us) l in
+    let one : IsLawfulTree (node Attribute m v ks) = subst (λ (j : Kind). IsLawfulTree (node j m v ks)) o.0 all.0 in
+    subst (λ (j : Kind). length (texts_all (more (node j m v ks) A)) ≡ node_count_all (more (node j m v ks) A)) (sym o.0) (valued-more m v ks A one.1 (attribute-texts name A us o.2 all.1))
+
 counted-more : (m v : List ℕ) (ks A us : Trees) → IsLawfulTree (node Attribute m v ks) → AreCounted A us → AreCounted (more (node Attribute m v ks) A) us
 counted-more m v ks A us l r =
     let bare : ks ≡ none = l.1 in
@@ -69,15 +88,7 @@ counted-more m v ks A us l r =
     record {
       places = omega (arith, ap attribute_places split, r.places, ap node_count_all bare);
       front_is = ap front_attributes split ∙ ap (more (node Attribute m v ks)) r.front_is;
-      values = omega (
-        arith,
-        ap length (texts_all-more Attribute m v ks A),
-        length-append (own Attribute v) (texts_all ks ++ texts_all A),
-        length-append (texts_all ks) (texts_all A),
-        ap (λ us. length (texts_all us)) bare,
-        ap node_count_all bare,
-        r.values,
-      );
+      values = valued-more m v ks A bare r.values;
     }
 
 counted : (name : List ℕ) (A us : Trees) → AreOtherAttributes name A → AreLawfulTrees (chained more A us) → IsNextAttribute name us false → AreCounted A us
@@ -114,7 +125,7 @@ module _ (t : Tree) (n : ℕ) (kind : Kind) (told : Some kind ≡ kind_at t n) (
   pub allowed-element : IsAllowed t (Attr n name value) → kind ≡ Element
   allowed-element h = sym (here-is t n kind told) ∙ there-allowed t (Attr n name value) (at-told t n kind told) h
 
-no-own : (k : Kind) (v : List ℕ) → k ≡ Element → length (own k v) ≡ 0
+pub no-own : (k : Kind) (v : List ℕ) → k ≡ Element → length (own k v) ≡ 0
 no-own k v e = ap (λ (j : Kind). length (own j v)) e
 
 module _ (t : Tree) (n : ℕ) (name value : List ℕ) (edit : IsEditOf t (Attr n name value)) where
@@ -130,7 +141,7 @@ module _ (t : Tree) (n : ℕ) (name value : List ℕ) (edit : IsEditOf t (Attr n
   pub element : NodeOf n t
   element = node-there t n element-low
 
-  its-kind : element.kind ≡ Element
+  pub its-kind : element.kind ≡ Element
   its-kind =
       let p = place-of-node t n element-low in
       same-kind (node element.kind element.name element.content element.kids) p.place.here element.behind p.place.behind (sym element.here ∙ p.from) ∙ there-allowed t (Attr n name value) p edit.allowed
@@ -138,7 +149,7 @@ module _ (t : Tree) (n : ℕ) (name value : List ℕ) (edit : IsEditOf t (Attr n
   its-kids : first_kids (from_node n (more t none)) ≡ element.kids
   its-kids = ap first_kids element.here
 
-  lawful-kids : AreLawfulTrees element.kids
+  pub lawful-kids : AreLawfulTrees element.kids
   lawful-kids =
       let l = lawful-from n (more t none) (omega (arith, element-low)) (edit.document_is.lawful, tt) in
       let here : AreLawfulTrees (more (node element.kind element.name element.content element.kids) element.behind) = subst AreLawfulTrees element.here l in

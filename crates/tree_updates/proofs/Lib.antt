@@ -42,6 +42,7 @@ pub mod NodeWays
 pub mod BetweenTexts
 pub mod BetweenStores
 pub mod IsolatedPlaces
+pub mod FoundPlaces
 pub mod GrownStores
 pub mod AttributePlaces
 pub mod OldAttributes
@@ -71,3 +72,4 @@ pub mod CopiedTexts
 pub mod CopiedStores
 pub mod CopiedCodes
 pub mod CopiedNodes
+pub mod UncountedCopies

@@ -1,23 +1,27 @@
 -- The value of an attribute that an element has.
-use Rattle.std.proofs.Common.{◌≡◌, ℕ, zero, suc, ◌+◌, ◌<◌, ◌^◌, List, [], ◌∷◌, take, true, false, refl, ap, sym, ◌∙◌, subst, arith, inl, inr}
+use Rattle.std.proofs.Common.{◌≡◌, ℕ, zero, suc, ◌+◌, ◌<◌, ◌^◌, List, [], ◌∷◌, take, length, true, false, refl, ap, sym, ◌∙◌, subst, arith, inl, inr, Some, length-append}
 use Rattle.std.specs.Prelude.{Result, Ok, Err}
 use Rattle.std.proofs.Math.Bool.{true≢false}
 use Rattle.std.proofs.lemmas.Nat.{mul-le}
+use Rattle.std.proofs.lemmas.Option.{same_Some}
 use Rattle.plain_tree.specs.declared.edit.Edit.TheVariants.{Attr, Value}
 use Rattle.plain_tree.specs.declared.kind.Kind.TheVariants.{Document, Element, Attribute, Text, Comment, Instruction}
 use Rattle.plain_tree.specs.Allowed.{IsAllowed, MayHaveValue}
 use Rattle.plain_tree.specs.EditLaws.{IsEditOf}
 use Rattle.plain_tree.specs.Edits.{chained, edited, first_or, merged}
+use Rattle.plain_tree.specs.Lawful.{AreLawfulTrees}
 use Rattle.plain_tree.specs.NodePairs.{Pair}
-use Rattle.plain_tree.specs.Numbers.{kind_of}
+use Rattle.plain_tree.specs.Numbers.{kind_of, texts_all}
 use Rattle.plain_tree.specs.Siblings.{first_kids, from_node}
 use Rattle.plain_tree.specs.Tree.{Tree, node, Trees, none, more, node_count, node_count_all}
 use Rattle.plain_tree.proofs.EditCounts.{edits-are-counted}
 use Rattle.plain_tree.proofs.PlainEdits.{valued_at}
 use Rattle.slt_grammar.specs.Grammars.{size}
 use Rattle.slt_grammar.specs.Keyed.{rules_of}
+use Rattle.slt_grammar.proofs.Standing.{own}
 use Rattle.fcns_encoding.specs.Interning.{Interns, IsIn}
 use Rattle.fcns_encoding.proofs.InternLemmas.{is_in}
+use Rattle.preorder_address.specs.TreeNumbers.{text_rank_at}
 use Rattle.tree_updates.specs.ElementAttributes.{IsAttributePlace, IsNextAttribute}
 use Rattle.tree_updates.specs.Stores.{Applies, IsEdited, IsRefused, IsStoreFor}
 use Rattle.tree_updates.specs.declared.kid_attributes.AttributePlace.{AttributePlace}
@@ -25,11 +29,13 @@ use Rattle.tree_updates.specs.declared.store.EditError.{EditError}
 use Rattle.tree_updates.specs.declared.store.EditError.TheVariants.{NoNode, NotAllowed, TooMany, Memory}
 use Rattle.tree_updates.specs.declared.store.Store.{Store}
 use Rattle.tree_updates.proofs.AttributeNames.{unnamed-kids}
-use Rattle.tree_updates.proofs.AttributePlaces.{element, element-low, kids-split}
+use Rattle.tree_updates.proofs.AttributePlaces.{attribute-texts, element, element-low, its-kind, kids-split, lawful-kids, no-own}
 use Rattle.tree_updates.proofs.AttributeTokens.{place-has}
 use Rattle.tree_updates.proofs.Attributes.{attr-old}
 use Rattle.tree_updates.proofs.NodePlaces.{placed as place-of-node, allowed-there}
+use Rattle.tree_updates.proofs.Ranks.{rank-inside, rank-told}
 use Rattle.tree_updates.proofs.StoreSteps.{OldAttribute, attribute-here, here-kids, low-at}
+use Rattle.tree_updates.proofs.Texts.{rank_in}
 
 same-kind : (r s : Tree) (us vs : Trees) → more r us ≡ more s vs → kind_of r ≡ kind_of s
 same-kind r s us vs e = let f : r ≡ s = cc in ap kind_of f
@@ -90,7 +96,29 @@ module _ (s : Store) (t : Tree) (i : IsStoreFor s t) (n : ℕ) (name value : Lis
       let made = attr-old n (more t none) (omega (arith, low)) a.kind a.name a.content name value old.content old.below old.before old.behind a.behind old.others (here-kids n t a name old) in
       ap (first_or t) made ∙ ap (λ (j : ℕ). first_or t (valued_at value j (more t none))) (sym number-is)
 
-  value-allowed : IsAllowed t (Value (n + 1 + p.before) value)
+  -- its value is as far behind the texts before the element as it is behind the first attribute
+  pub old-rank : (rank : ℕ) → Some rank ≡ text_rank_at t n → Some (rank + p.before) ≡ text_rank_at t (n + 1 + p.before)
+  old-rank rank told =
+      let a = element t n name value edit in
+      let others : Trees = more (node Attribute name old.content old.below) old.behind in
+      let rank-is : rank ≡ rank_in n (more t none) = same_Some rank (rank_in n (more t none)) (told ∙ rank-told t n low) in
+      let inside = rank-inside n (more t none) (omega (arith, low)) a.kind a.name a.content old.before others a.behind (here-kids n t a name old) in
+      let values = attribute-texts name old.before others old.others (subst AreLawfulTrees old.is (lawful-kids t n name value edit)) in
+      let its : rank + p.before ≡ rank_in (n + 1 + p.before) (more t none) =
+      omega (
+        arith,
+        rank-is,
+        ap (λ (j : ℕ). rank_in j (more t none)) number-is,
+        inside,
+        length-append (own a.kind a.content) (texts_all old.before),
+        no-own a.kind a.content (its-kind t n name value edit),
+        values,
+        h.before,
+        ap node_count_all old-there.1,
+      ) in
+      ap (λ (i : ℕ). Some i) its ∙ sym (rank-told t (n + 1 + p.before) value-low)
+
+  pub value-allowed : IsAllowed t (Value (n + 1 + p.before) value)
   value-allowed =
       let at = place-of-node t (n + 1 + p.before) value-low in
       let kind : kind_of at.place.here ≡ Attribute = sym (same-kind (node Attribute name old.content old.below) at.place.here old.behind at.place.behind (sym there ∙ at.from)) in

@@ -3,12 +3,14 @@ use Rattle.std.proofs.Common.{◌≡◌, ℕ, suc, ◌+◌, ◌<◌, List, [], �
 use Rattle.std.specs.Prelude.{slice_get, option_map}
 use Rattle.std.proofs.Math.Seq.{take-append_seam, take-append-add}
 use Rattle.plain_tree.specs.declared.kind.Kind.{Kind}
+use Rattle.plain_tree.specs.declared.kind.Kind.TheVariants.{Document, Element, Attribute, Text, Comment, Instruction}
+use Rattle.plain_tree.specs.Edits.{chained}
 use Rattle.plain_tree.specs.Numbers.{nodes, nodes_all, values_of, texts_all}
 use Rattle.plain_tree.specs.Tree.{Tree, node, Trees, none, more, node_count, node_count_all}
 use Rattle.plain_tree.proofs.NodeCounts.{length-nodes, length-nodes_all}
 use Rattle.slt_grammar.proofs.Standing.{own, values_of-append, texts_all-more, texts-one}
 use Rattle.preorder_address.specs.TreeNumbers.{text_rank_at}
-use Rattle.plain_tree.proofs.Changing.{each-node, from_node, from-inside, from-later}
+use Rattle.plain_tree.proofs.Changing.{chained-more, each-node, from_node, from-inside, from-later}
 use Rattle.rule_arena.proofs.PreorderLemmas.{slice_get-left}
 use Rattle.preorder_address.proofs.TreePlaces.{get-right}
 use Rattle.tree_updates.proofs.Texts.{rank_in}
@@ -65,6 +67,43 @@ rank-behind n ts low k m v ks us here =
       ap length (values_of-append r.front (nodes t)),
       length-append (values_of r.front) (values_of (nodes t)),
       ap length its,
+    )
+
+own-first : (k : Kind) (m v : List ℕ) (ks : Trees) (xs : List Tree) → values_of (node k m v ks ∷ xs) ≡ own k v ++ values_of xs
+own-first Document m v ks xs = refl
+own-first Element m v ks xs = refl
+own-first Attribute m v ks xs = refl
+own-first Text m v ks xs = refl
+own-first Comment m v ks xs = refl
+own-first Instruction m v ks xs = refl
+
+nodes-chained : (ss us : Trees) → nodes_all (chained more ss us) ≡ nodes_all ss ++ nodes_all us
+nodes-chained none us = refl
+nodes-chained (more t ss) us = ap nodes_all (chained-more t ss us) ∙ ap (λ xs. nodes t ++ xs) (nodes-chained ss us) ∙ sym (append_assoc (nodes t) (nodes_all ss) (nodes_all us))
+
+-- behind the first kids of node n, its own text and theirs come before
+pub rank-inside : (n : ℕ) (ts : Trees) → n < node_count_all ts → (k : Kind) (m v : List ℕ) (first others us : Trees) → from_node n ts ≡ more (node k m v (chained more first others)) us
+    → rank_in (n + suc (node_count_all first)) ts ≡ rank_in n ts + length (own k v ++ texts_all first)
+rank-inside n ts low k m v first others us here =
+    let r = nodes-around n ts low in
+    let t : Tree = node k m v (chained more first others) in
+    let rest : List Tree = nodes_all others ++ (nodes_all us ++ r.back) in
+    let all : nodes_all ts ≡ r.front ++ ((t ∷ nodes_all first) ++ rest) =
+    r.were ∙ ap (λ xs. r.front ++ (nodes_all xs ++ r.back)) here ∙ ap (λ xs. r.front ++ (t ∷ ((xs ++ nodes_all us) ++ r.back))) (nodes-chained first others)
+    ∙ ap (λ xs. r.front ++ (t ∷ xs)) (append_assoc (nodes_all first ++ nodes_all others) (nodes_all us) r.back ∙ append_assoc (nodes_all first) (nodes_all others) (nodes_all us ++ r.back)) in
+    let i : n + suc (node_count_all first) ≡ length r.front + length (t ∷ nodes_all first) = omega (arith, r.number, length-nodes_all first) in
+    let front : take n (nodes_all ts) ≡ r.front =
+    ap (take n) all ∙ ap (λ (j : ℕ). take j (r.front ++ ((t ∷ nodes_all first) ++ rest))) (sym r.number) ∙ take-append_seam r.front ((t ∷ nodes_all first) ++ rest) in
+    let both : take (n + suc (node_count_all first)) (nodes_all ts) ≡ r.front ++ (t ∷ nodes_all first) =
+    ap (take (n + suc (node_count_all first))) all ∙ ap (λ (j : ℕ). take j (r.front ++ ((t ∷ nodes_all first) ++ rest))) i ∙ take-append-add r.front ((t ∷ nodes_all first) ++ rest) (length (t ∷ nodes_all first))
+    ∙ ap (λ xs. r.front ++ xs) (take-append_seam (t ∷ nodes_all first) rest) in
+    omega (
+      arith,
+      ap (λ xs. length (values_of xs)) front,
+      ap (λ xs. length (values_of xs)) both,
+      ap length (values_of-append r.front (t ∷ nodes_all first)),
+      length-append (values_of r.front) (values_of (t ∷ nodes_all first)),
+      ap length (own-first k m v (chained more first others) (nodes_all first)),
     )
 
 -- what text_rank tells

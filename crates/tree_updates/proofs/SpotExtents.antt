@@ -16,7 +16,8 @@ use Rattle.preorder_address.specs.TreeNumbers.{extent_at, text_rank_at}
 use Rattle.preorder_address.specs.declared.spot.Spot.{Spot}
 use Rattle.tree_updates.specs.Extents.{IsExtentOf}
 use Rattle.tree_updates.specs.declared.node_extent.Extent.{Extent}
-use Rattle.tree_updates.proofs.NodeExtents.{extent-fits, extent-texts, spot-low, texts-before}
+use Rattle.tree_updates.proofs.CopiedEdits.{first-is}
+use Rattle.tree_updates.proofs.NodeExtents.{extent-fits, extent-low, extent-texts, spot-low, texts-before}
 use Rattle.tree_updates.proofs.Numbers.{at, in-tree}
 
 -- node n, with so many nodes below it
@@ -38,6 +39,14 @@ measured t n below d low e =
 -- of a spot
 pub spot-measured : (names : List (Kind × List ℕ)) (G : List KeyedRule) (t : Tree) (n below : ℕ) (s : Spot) → IsDocument t → Codes names (more t none) (value (rules_of G)) → IsSpot names G n s → Some below ≡ extent_at t n → IsMeasured t n below
 spot-measured names G t n below s d c S e = measured t n below d (spot-low names G t n s c S) e
+
+-- how many nodes are below the node with an extent
+pub below-told : (t : Tree) → IsDocument t → (n : ℕ) (e : Extent) → IsExtentOf t n e → Some (e.nodes - 1) ≡ extent_at t n
+below-told t d n e x =
+    let low = extent-low t n e x in
+    let A = at t d.lawful n low in
+    let same : x.here ≡ A.here = first-is x.here A.here x.behind A.behind (sym x.from_is ∙ A.from_is) in
+    ap (λ (i : ℕ). Some i) (omega (arith, x.nodes, ap node_count same)) ∙ sym (ap (option_map (λ s. node_count s - 1)) (in-tree t d.lawful n low))
 
 -- its texts are those between the ranks
 pub texts-between : (t : Tree) (n below rank end : ℕ) (m : IsMeasured t n below) → Some rank ≡ text_rank_at t n → end ≡ length (values_of (take (n + (below + 1)) (nodes t))) → end ≡ rank + length (texts m.here)

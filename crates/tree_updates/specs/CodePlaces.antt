@@ -18,6 +18,7 @@ use Rattle.path_isolation.specs.Isolations.{room_along}
 use Rattle.preorder_address.specs.Descents.{descent_to, levels_of}
 use Rattle.preorder_address.specs.declared.numbering.Numbering.TheVariants.{All}
 use Rattle.tree_updates.specs.Differences.{DifferThere, hole_at}
+use Rattle.tree_updates.specs.declared.place_spots.PlaceSpot.{PlaceSpot}
 
 -- the value has so many places
 abbrev pub places_in : List KeyedRule → ℕ
@@ -31,6 +32,10 @@ levels_to_place G place = levels_of G (descent_to All (length G - 1) place)
 pub record LeadToPlace (G : List KeyedRule) (levels : List Level) (place : ℕ) : Type 0 where
   pub located : levels ≡ levels_to_place G place
   pub low : place < places_in G
+
+-- the spot of a place of the value
+abbrev pub IsPlaceSpot : List KeyedRule → ℕ → PlaceSpot → Type 0
+IsPlaceSpot G place s = LeadToPlace G s.levels.items place
 
 -- for how many nodes there has to be room where the label at a place is isolated
 abbrev pub room_to_place : List KeyedRule → ℕ → ℕ

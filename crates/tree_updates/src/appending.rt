@@ -7,13 +7,16 @@ ghost use Rattle.plain_tree.specs.Edits.{edited, placed};
 ghost use Rattle.plain_tree.specs.Lawful.{IsFragment};
 ghost use Rattle.plain_tree.specs.Tree.{Tree, trees};
 ghost use Rattle.preorder_address.specs.Spots.{IsSpot};
+ghost use Rattle.tree_updates.specs.Extents.{IsCodedBy};
+ghost use Rattle.tree_updates.specs.FragmentGrowths.{IsEndSite};
 ghost use Rattle.tree_updates.specs.Stores.{Applies, IsRefusedFor, IsStoreFor};
 
 use crate::appending_joined::{append_joined, meeting_kid};
 use crate::fragment_growing::{end_site, fragment_growth};
 use crate::fragment_kinds::may_stand_under;
 use crate::fragment_nodes::count_nodes;
-use crate::growing::{TOO_MANY, grow};
+use crate::growing::{Site, TOO_MANY, grow};
+use crate::node_extent::extent_of;
 use crate::node_spots::spot_at;
 use crate::store::{EditError, Store};
 use plain_tree::Nodes;
@@ -38,9 +41,11 @@ pub(crate) fn append<L: Ledger>(
     ensures applies { (t : Tree) → IsStoreFor store.old t → Applies t (Append number fragment.now) store.old result store.new }
 {
     let spot = host_spot(alloc, store, number, fragment, steps)?;
-    match meeting_kid(alloc, store, number, &spot, fragment, steps)? {
-        None => append_apart(alloc, store, number, &spot, fragment, steps),
-        Some(last) => append_joined(alloc, store, number, &last, &spot, fragment, steps),
+    let extent = extent_of(alloc, store, number, &spot, steps)?;
+    let site = end_site(store, number, &spot, extent);
+    match meeting_kid(alloc, store, number, &spot, extent, fragment, steps)? {
+        None => append_apart(alloc, store, number, site, fragment, steps),
+        Some(last) => append_joined(alloc, store, number, &last, site, fragment, steps),
     }
 }
 
@@ -66,17 +71,17 @@ fn host_spot<L: Ledger>(
     Ok(spot)
 }
 
-// Puts the fragment behind the last kid of the spot's node, where no texts meet by that. All memory is taken first.
+// Puts the fragment at the site behind the last kid of a node, where no texts meet by that. All memory is taken first.
 fn append_apart<L: Ledger>(
     alloc: Global,
     store: &mut Store,
     number: u64,
-    spot: &Spot,
+    site: Site,
     fragment: &Nodes,
     steps: &mut Steps<L>,
 ) -> Result<(), EditError>
     requires store { (t : Tree) × IsStoreFor store.old t × IsEditOf t (Append number fragment.now) }
-    requires spot { IsSpot store.old.names store.old.grammar.rules number spot.now }
+    requires site { (t : Tree) → IsCodedBy store.old t → IsEndSite t number site }
     ensures applies { (t : Tree) → IsStoreFor store.old t → IsEditOf t (Append number fragment.now) → edited t (Append number fragment.now) ≡ placed t (Append number fragment.now)
         → Applies t (Append number fragment.now) store.old result store.new }
 {
@@ -87,8 +92,7 @@ fn append_apart<L: Ledger>(
     if count >= TOO_MANY - store.counts.total() {
         return Err(EditError::TooMany);
     }
-    let site = end_site(store, number, spot, steps);
     let growth = fragment_growth(alloc, &mut store.names, site, count, nodes)?;
-    grow(store, growth, steps)?;
+    grow(alloc, store, growth, steps)?;
     Ok(())
 }

@@ -7,14 +7,16 @@ ghost use Rattle.plain_tree.specs.Siblings.{begins_text};
 ghost use Rattle.plain_tree.specs.Tree.{Tree, trees};
 ghost use Rattle.preorder_address.specs.Spots.{IsSpot};
 ghost use Rattle.preorder_address.specs.TreeNumbers.{text_rank_at};
-ghost use Rattle.tree_updates.specs.FragmentGrowths.{MeetsAtEnd};
+ghost use Rattle.tree_updates.specs.Extents.{IsCodedBy, IsExtentOf};
+ghost use Rattle.tree_updates.specs.FragmentGrowths.{IsEndSite, MeetsAtEnd};
 ghost use Rattle.tree_updates.specs.Stores.{Applies, IsStoreFor};
 
 use crate::deleting_between::{JoinedText, joined_bytes, text_at};
-use crate::fragment_growing::{end_site, fragment_growth};
+use crate::fragment_growing::fragment_growth;
 use crate::fragment_nodes::count_nodes;
-use crate::growing::{TOO_MANY, grow_joined};
+use crate::growing::{Site, TOO_MANY, grow_joined};
 use crate::meeting::is_text;
+use crate::node_extent::Extent;
 use crate::node_spots::spot_there;
 use crate::store::{EditError, Store};
 use plain_tree::{Node, Nodes};
@@ -30,17 +32,19 @@ pub(crate) struct LastText {
     pub(crate) spot: Spot,
 }
 
-// The last kid of the spot's node, where it is a text and the first of the fragment is one too.
+// The last kid of the spot's node, which has this extent, where that kid is a text and the first of the fragment is one too.
 pub(crate) fn meeting_kid<L: Ledger>(
     alloc: Global,
     store: &Store,
     number: u64,
     spot: &Spot,
+    extent: Extent,
     fragment: &Nodes,
     steps: &mut Steps<L>,
 ) -> Result<Option<LastText>, AllocError>
     requires store { (t : Tree) × IsStoreFor store.now t × IsEditOf t (Append number fragment.now) }
     requires spot { IsSpot store.now.names store.now.grammar.rules number spot.now }
+    requires extent { (t : Tree) → IsCodedBy store.now t → IsExtentOf t number extent }
     ensures apart { IfOk result (λ kid. IfNone kid ((t : Tree) → IsStoreFor store.now t → IsEditOf t (Append number fragment.now)
         → edited t (Append number fragment.now) ≡ placed t (Append number fragment.now))) }
     ensures meets { IfOk result (λ kid. IfSome kid (λ last. (t : Tree) → IsStoreFor store.now t → IsEditOf t (Append number fragment.now)
@@ -50,7 +54,7 @@ pub(crate) fn meeting_kid<L: Ledger>(
     if !begins_with_text(fragment) {
         return Ok(None);
     }
-    let below = spot.extent(&store.grammar, &store.counts, steps);
+    let below = extent.nodes - 1;
     if below == 0 {
         return Ok(None);
     }
@@ -79,19 +83,19 @@ fn begins_with_text(fragment: &Nodes) -> bool
     is_text(Some(first.kind))
 }
 
-// Puts the fragment behind a text, which is the last kid of the spot's node: that text and the first of the fragment become one, and the others
-// come behind it. All memory is taken first; in this order no document on the way has more nodes than the last.
+// Puts the fragment behind a text, which is the last kid of a node: that text and the first of the fragment become one, and the others come behind
+// it, at the site there. All memory is taken first; in this order no document on the way has more nodes than the last.
 pub(crate) fn append_joined<L: Ledger>(
     alloc: Global,
     store: &mut Store,
     number: u64,
     last: &LastText,
-    spot: &Spot,
+    site: Site,
     fragment: &Nodes,
     steps: &mut Steps<L>,
 ) -> Result<(), EditError>
     requires store { (t : Tree) × IsStoreFor store.old t × IsEditOf t (Append number fragment.now) × MeetsAtEnd t number last.now.number fragment.now }
-    requires spot { IsSpot store.old.names store.old.grammar.rules number spot.now }
+    requires site { (t : Tree) → IsCodedBy store.old t → IsEndSite t number site }
     requires last { IsSpot store.old.names store.old.grammar.rules last.now.number last.now.spot }
     ensures applies { (t : Tree) → IsStoreFor store.old t → IsEditOf t (Append number fragment.now) → MeetsAtEnd t number last.now.number fragment.now
         → Applies t (Append number fragment.now) store.old result store.new }
@@ -106,9 +110,8 @@ pub(crate) fn append_joined<L: Ledger>(
         return Err(EditError::TooMany);
     }
     let joined = join_end(alloc, store, last, first)?;
-    let site = end_site(store, number, spot, steps);
     let growth = fragment_growth(alloc, &mut store.names, site, count, others)?;
-    grow_joined(store, joined, growth, steps)?;
+    grow_joined(alloc, store, joined, growth, steps)?;
     Ok(())
 }
 

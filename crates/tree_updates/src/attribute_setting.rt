@@ -18,7 +18,7 @@ use crate::kid_attributes::{AttributePlace, find_attribute};
 use crate::node_spots::spot_at;
 use crate::spare_node::is_element;
 use crate::store::{EditError, Store};
-use crate::valuing::set_value;
+use crate::valuing::put_value;
 use plain_tree::{Bytes, Kind, Names, Texts};
 use preorder_address::Spot;
 use read_steps::Steps;
@@ -46,7 +46,8 @@ pub(crate) fn set_attribute<L: Ledger>(
     let spot = element_spot(alloc, store, number, steps)?;
     let place = find_attribute(alloc, store, number, name, steps)?;
     if place.found {
-        return set_value(alloc, store, number + 1 + place.before, value, steps);
+        let rank = spot.text_rank() + place.before;
+        return put_value(alloc, store, number + 1 + place.before, rank, value);
     }
     let site = attribute_site(store, number, &spot, place, name);
     add_attribute(alloc, store, site, name, value, steps)
@@ -114,7 +115,7 @@ fn add_attribute<L: Ledger>(
         return Err(EditError::TooMany);
     }
     let growth = attribute_growth(alloc, &mut store.names, site, name, value)?;
-    grow(store, growth, steps)?;
+    grow(alloc, store, growth, steps)?;
     Ok(())
 }
 

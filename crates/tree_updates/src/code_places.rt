@@ -1,5 +1,5 @@
 // Places of the code, made nodes of the start's body, and bodies that are put around them.
-ghost use Rattle.std.specs.Prelude.{◌≡◌, ◌<◌, ◌≤◌, ◌+◌, ◌-◌, ◌*◌, ℕ, length};
+ghost use Rattle.std.specs.Prelude.{◌≡◌, ◌≤◌, ◌+◌, ◌-◌, ◌*◌, ℕ, length};
 ghost use Rattle.slt_grammar.specs.Bodies.{real_nodes};
 ghost use Rattle.slt_grammar.specs.ChangedValues.{start_body};
 ghost use Rattle.slt_grammar.specs.Grammars.{size, value_at};
@@ -8,52 +8,14 @@ ghost use Rattle.slt_grammar.specs.RuleValues.{HaveOtherValues};
 ghost use Rattle.slt_grammar.specs.Terms.{Term};
 ghost use Rattle.digram_index.specs.Linked.{IsIndexOf};
 ghost use Rattle.path_isolation.specs.Isolations.{DifferInStart, room_along};
-ghost use Rattle.preorder_address.specs.Numberings.{AreCountsOf};
-ghost use Rattle.preorder_address.specs.Told.{AreTold, told_levels};
-ghost use Rattle.tree_updates.specs.CodePlaces.{ComesAround, IsBodyOf, IsPlaceIsolated, LeadToPlace, levels_to_place, places_in, room_to_place};
+ghost use Rattle.tree_updates.specs.CodePlaces.{ComesAround, IsBodyOf, IsPlaceIsolated, LeadToPlace};
 
 use digram_index::Index;
 use linked_edits::wrap_linked;
-use path_isolation::{isolate_linked, nodes_along};
-use preorder_address::{CountedDescent, locate_place};
+use path_isolation::isolate_linked;
 use read_steps::Steps;
-use segment_counts::Counts;
 use slt_grammar::{Body, Grammar, Key, Way};
 use std::sync::ledger::Ledger;
-
-// The way to a place, by the counts.
-pub(crate) fn way_to_place<'a>(
-    grammar: &Grammar,
-    counts: &'a Counts,
-    place: u64,
-) -> CountedDescent<'a>
-    requires counts { AreCountsOf (rules_of grammar.now.rules) counts.now }
-    requires low { place < places_in grammar.now.rules }
-    ensures ready { AreTold result.descent.by result.counts.now grammar.now.rules result.descent.next }
-    ensures levels { told_levels result.descent.by result.counts.now grammar.now.rules result.descent.next ≡ levels_to_place grammar.now.rules place }
-{
-    // The call tells what is true of every grammar.
-    let _limit = grammar.limit();
-    let descent = locate_place(counts, place).unwrap();
-    descent.over(counts)
-}
-
-// For how many nodes there has to be room where the label at a place is isolated.
-pub(crate) fn nodes_to_place<L: Ledger>(
-    grammar: &Grammar,
-    counts: &Counts,
-    place: u64,
-    steps: &mut Steps<L>,
-) -> usize
-    requires counts { AreCountsOf (rules_of grammar.now.rules) counts.now }
-    requires low { place < places_in grammar.now.rules }
-    ensures { result ≡ room_to_place grammar.now.rules place }
-{
-    // The call tells what is true of every grammar.
-    let _limit = grammar.limit();
-    let way = way_to_place(grammar, counts, place);
-    nodes_along(grammar, way, steps)
-}
 
 // In the value the label at the place to which a way leads, with all below it, comes into the hole of a body's term. There is room for the
 // nodes of the bodies on the way and for those of the body, and for as many links, so it takes no memory. Rules that nobody calls any more

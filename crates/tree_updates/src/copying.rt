@@ -1,18 +1,18 @@
 // A node that comes once more before itself, with all below it.
-ghost use Rattle.std.specs.Prelude.{◌≡◌, ◌↔◌, ◌<◌, ◌≤◌, ◌+◌, ◌-◌, ◌*◌, ℕ, List, IfOk, IsTrue, MatchResult, OnErr, OnOk, Some, length};
+ghost use Rattle.std.specs.Prelude.{◌≡◌, ◌<◌, ◌≤◌, ◌+◌, ◌-◌, ◌*◌, ℕ, List, IfOk, MatchResult, OnErr, OnOk, Some, length};
 ghost use Rattle.plain_tree.specs.Allowed.{IsAllowed};
 ghost use Rattle.plain_tree.specs.Edits.{placed};
 ghost use Rattle.plain_tree.specs.Tree.{Tree};
 ghost use Rattle.plain_tree.specs.declared.edit.Edit.TheVariants.{Copy};
 ghost use Rattle.plain_tree.specs.declared.kind.Kind.{Kind};
-ghost use Rattle.plain_tree.specs.declared.kind.Kind.TheVariants.{Attribute, Text};
+ghost use Rattle.plain_tree.specs.declared.kind.Kind.TheVariants.{Text};
 ghost use Rattle.slt_grammar.specs.Grammars.{size};
 ghost use Rattle.slt_grammar.specs.Keyed.{rules_of};
 ghost use Rattle.slt_grammar.specs.Names.{Bottom, Call};
 ghost use Rattle.path_isolation.specs.Isolations.{room_along};
 ghost use Rattle.preorder_address.specs.Spots.{IsSpot};
 ghost use Rattle.preorder_address.specs.TreeNumbers.{kind_at};
-ghost use Rattle.tree_updates.specs.Copies.{IsTwinBody, MayCopy};
+ghost use Rattle.tree_updates.specs.Copies.{HasUncountedCopy, IsTwinBody, MayCopy};
 ghost use Rattle.tree_updates.specs.Extents.{IsUnsweptFor};
 ghost use Rattle.tree_updates.specs.Stores.{Applies, IsRefusedFor, IsStoreFor};
 
@@ -22,11 +22,10 @@ use crate::growing::TOO_MANY;
 use crate::isolating::wrap_node;
 use crate::meeting::is_text;
 use crate::node_extent::{Extent, extent_of};
-use crate::spare_node::spare_spot;
+use crate::room::reserve_at;
+use crate::spare_node::{is_attribute, spare_spot};
 use crate::store::{EditError, Store};
 use crate::sweeping::sweep;
-use path_isolation::nodes_along;
-use plain_tree::Kind;
 use preorder_address::Spot;
 use read_steps::Steps;
 use slt_grammar::{Body, Label};
@@ -75,12 +74,6 @@ fn copied_spot<L: Ledger>(
     Ok(spot)
 }
 
-fn is_attribute(kind: Kind) -> bool
-    ensures { IsTrue result ↔ kind ≡ Attribute }
-{
-    matches!(kind, Kind::Attribute)
-}
-
 // Copies the spot's node, which is no text. All memory is taken first.
 fn copy_other<L: Ledger>(
     alloc: Global,
@@ -96,7 +89,7 @@ fn copy_other<L: Ledger>(
 {
     // The call tells what is true of every grammar.
     let _limit = store.grammar.limit();
-    let extent = extent_of(store, number, spot, steps);
+    let extent = extent_of(alloc, store, number, spot, steps)?;
     if extent.nodes >= TOO_MANY - store.counts.total() {
         return Err(EditError::TooMany);
     }
@@ -182,14 +175,11 @@ fn reserve_copy<L: Ledger>(
     ensures names { store.new.names ≡ store.old.names }
     ensures store { (t : Tree) → IsStoreFor store.old t → IsStoreFor store.new t }
 {
-    // The call tells what is true of every grammar.
-    let _limit = store.grammar.limit();
-    let nodes = nodes_along(&store.grammar, spot.way(), steps) + 4;
-    store.grammar.reserve(nodes, 1)?;
-    store.index.reserve(&store.grammar, nodes, 1)?;
+    reserve_at(store, spot, 4, texts, steps)?;
+    store.grammar.reserve(0, 1)?;
+    store.index.reserve(&store.grammar, 0, 1)?;
     let rows = store.counts.rules().saturating_add(1);
-    store.counts.reserve(rows)?;
-    store.texts.reserve(texts)
+    store.counts.reserve(rows)
 }
 
 // Puts the twin of the spot's node before it, where nothing is below it. Rules that nobody calls any more stay. There is room for the nodes of the
@@ -217,8 +207,7 @@ fn put_alone<L: Ledger>(
     // The call tells what is true of every grammar.
     let _limit = store.grammar.limit();
     wrap_node(&mut store.grammar, &mut store.index, spot, body, steps);
-    store.texts.duplicate(extent.rank, extent.texts).unwrap();
-    store.counts.raise_start(extent.nodes, extent.texts);
+    count_copy(store, number, extent);
 }
 
 // The same where something is below it. There is room for a rule more and its row too.
@@ -252,6 +241,18 @@ fn put_whole<L: Ledger>(
     store
         .counts
         .insert_leaf(rule, extent.nodes - 1, extent.texts);
+    count_copy(store, number, extent);
+}
+
+// Puts the texts of a node before themselves once more, and counts its copy, which is in the code. There is room for the texts, so it takes no
+// memory.
+fn count_copy(store: &mut Store, number: u64, extent: Extent)
+    requires store { (t : Tree) × HasUncountedCopy store.old t number extent }
+    requires room { extent.texts ≤ store.old.texts.room }
+    ensures store { (t : Tree) → HasUncountedCopy store.old t number extent → IsUnsweptFor store.new (placed t (Copy number)) }
+    ensures names { store.new.names ≡ store.old.names }
+    ensures grammar { store.new.grammar ≡ store.old.grammar }
+{
     store.texts.duplicate(extent.rank, extent.texts).unwrap();
     store.counts.raise_start(extent.nodes, extent.texts);
 }

@@ -8,7 +8,7 @@ ghost use Rattle.preorder_address.specs.Spots.{IsSpot};
 ghost use Rattle.preorder_address.specs.TreeNumbers.{kind_at};
 ghost use Rattle.tree_updates.specs.Stores.{Applies, IsStoreFor};
 
-use crate::inserting::insert;
+use crate::inserting::insert_beside;
 use crate::store::{EditError, Store};
 use plain_tree::{Bytes, Kind, Node, Nodes};
 use preorder_address::Spot;
@@ -31,7 +31,7 @@ pub(crate) fn copy_text<L: Ledger>(
 {
     let text = store.texts.get(spot.text_rank()).unwrap();
     let fragment = text_fragment(alloc, text)?;
-    insert(alloc, store, number, &fragment, steps)
+    insert_beside(alloc, store, number, spot, &fragment, steps)
 }
 
 // A fragment of one text.

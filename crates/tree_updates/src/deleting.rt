@@ -14,12 +14,11 @@ ghost use Rattle.tree_updates.specs.Stores.{Applies, IsStoreFor};
 use crate::deleting_between::delete_between;
 use crate::meeting_text::meeting_texts;
 use crate::node_extent::{Extent, span_of};
-use crate::room::reserve_room;
+use crate::room::reserve_at;
 use crate::spare_node::spare_spot;
 use crate::store::{EditError, Store};
 use crate::sweeping::sweep;
 use crate::taking_out::take_out;
-use path_isolation::nodes_along;
 use preorder_address::Spot;
 use read_steps::Steps;
 use std::alloc::Global;
@@ -60,10 +59,7 @@ fn delete_apart<L: Ledger>(
     ensures applies { (t : Tree) → IsStoreFor store.old t → IsAllowed t (Delete number) → IsExtentOf t number extent → edited t (Delete number) ≡ placed t (Delete number)
         → Applies t (Delete number) store.old result store.new }
 {
-    // The call tells what is true of every grammar.
-    let _limit = store.grammar.limit();
-    let nodes = nodes_along(&store.grammar, spot.way(), steps);
-    reserve_room(store, nodes)?;
+    reserve_at(store, spot, 0, 0, steps)?;
     delete_plain(store, number, spot, extent, steps);
     Ok(())
 }

@@ -5,31 +5,24 @@ ghost use Rattle.plain_tree.specs.NodeTree.{trees_of};
 ghost use Rattle.plain_tree.specs.Tree.{Tree, trees};
 ghost use Rattle.fcns_encoding.specs.Interning.{Interns};
 ghost use Rattle.preorder_address.specs.Spots.{IsSpot};
-ghost use Rattle.tree_updates.specs.Extents.{IsCodedBy, IsUnsweptFor};
+ghost use Rattle.tree_updates.specs.Extents.{IsCodedBy, IsExtentOf, IsUnsweptFor};
 ghost use Rattle.tree_updates.specs.FragmentGrowths.{IsEndSite, IsFragmentGrowth};
 
 use crate::growing::{Growth, Site};
-use crate::node_extent::extent_of;
+use crate::node_extent::Extent;
 use crate::store::Store;
 use fcns_encoding::{Coded, encode_slice};
 use plain_tree::{Names, Node};
 use preorder_address::Spot;
-use read_steps::Steps;
 use std::alloc::{AllocError, Global};
-use std::sync::ledger::Ledger;
 
-// Where a fragment comes behind the last kid of the spot's node.
-pub(crate) fn end_site<L: Ledger>(
-    store: &Store,
-    number: u64,
-    spot: &Spot,
-    steps: &mut Steps<L>,
-) -> Site
+// Where a fragment comes behind the last kid of the spot's node, which has this extent.
+pub(crate) fn end_site(store: &Store, number: u64, spot: &Spot, extent: Extent) -> Site
     requires store { (t : Tree) × IsUnsweptFor store.now t }
     requires spot { IsSpot store.now.names store.now.grammar.rules number spot.now }
+    requires extent { (t : Tree) → IsCodedBy store.now t → IsExtentOf t number extent }
     ensures { (t : Tree) → IsCodedBy store.now t → IsEndSite t number result }
 {
-    let extent = extent_of(store, number, spot, steps);
     Site {
         place: spot.place() + 2 * extent.nodes - 1,
         rank: extent.rank + extent.texts,

@@ -4,13 +4,13 @@ ghost use Rattle.plain_tree.specs.Allowed.{IsAllowed};
 ghost use Rattle.plain_tree.specs.Lawful.{IsDocument};
 ghost use Rattle.plain_tree.specs.Tree.{Tree, node_count};
 ghost use Rattle.plain_tree.specs.declared.edit.Edit.TheVariants.{Insert};
-ghost use Rattle.plain_tree.specs.declared.kind.Kind.TheVariants.{Attribute};
 ghost use Rattle.preorder_address.specs.Spots.{IsSpot, place_at};
 ghost use Rattle.preorder_address.specs.TreeNumbers.{kind_at};
 ghost use Rattle.tree_updates.specs.Stores.{IsRefusedFor, IsStoreFor};
 
 use crate::fragment_kinds::may_stand_under;
 use crate::node_spots::spot_at;
+use crate::spare_node::is_attribute;
 use crate::spot_places::kind_above;
 use crate::store::{EditError, Store};
 use plain_tree::{Kind, Nodes};
@@ -55,10 +55,4 @@ fn may_stand_beside(number: u64, kind: Kind, place: u64, fragment: &Nodes) -> bo
         return false;
     }
     may_stand_under(kind_above(number, place), fragment)
-}
-
-fn is_attribute(kind: Kind) -> bool
-    ensures { IsTrue result ↔ kind ≡ Attribute }
-{
-    matches!(kind, Kind::Attribute)
 }

@@ -1,23 +1,25 @@
 // Nodes and texts that come into a document at one place of its code.
-ghost use Rattle.std.specs.Prelude.{◌≡◌, ◌<◌, ◌≤◌, ◌+◌, ◌*◌, ◌^◌, OnErr, OnOk, length};
+ghost use Rattle.std.specs.Prelude.{◌≡◌, ◌<◌, ◌≤◌, ◌+◌, ◌*◌, ◌^◌, IfOk, OnErr, OnOk, length};
 ghost use Rattle.plain_tree.specs.Tree.{Tree, node_count};
 ghost use Rattle.slt_grammar.specs.Bodies.{real_nodes};
 ghost use Rattle.slt_grammar.specs.Grammars.{size};
 ghost use Rattle.slt_grammar.specs.Keyed.{rules_of};
-ghost use Rattle.tree_updates.specs.CodePlaces.{room_to_place};
+ghost use Rattle.tree_updates.specs.CodePlaces.{IsPlaceSpot, room_to_place};
 ghost use Rattle.tree_updates.specs.Extents.{IsUnsweptFor};
 ghost use Rattle.tree_updates.specs.Growths.{GetsText, GrowsInto};
 ghost use Rattle.tree_updates.specs.Stores.{IsStoreFor};
 
-use crate::code_places::{nodes_to_place, way_to_place, wrap_place};
+use crate::code_places::wrap_place;
 use crate::deleting_between::JoinedText;
+use crate::place_spots::{PlaceSpot, find_place};
 use crate::room::reserve_room;
 use crate::store::Store;
 use crate::sweeping::sweep;
+use path_isolation::nodes_along;
 use plain_tree::Texts;
 use read_steps::Steps;
 use slt_grammar::Body;
-use std::alloc::AllocError;
+use std::alloc::{AllocError, Global};
 use std::sync::ledger::Ledger;
 
 // A document has fewer nodes than this.
@@ -45,6 +47,7 @@ pub(crate) struct Growth {
 // Puts what comes into the store's document, whose names are in the table. It is refused for want of memory, which is asked for before the
 // first change.
 pub(crate) fn grow<L: Ledger>(
+    alloc: Global,
     store: &mut Store,
     growth: Growth,
     steps: &mut Steps<L>,
@@ -57,14 +60,15 @@ pub(crate) fn grow<L: Ledger>(
     ensures rules { OnErr result (store.new.grammar.rules ≡ store.old.grammar.rules) }
     ensures texts { OnErr result (store.new.texts.texts ≡ store.old.texts.texts) }
 {
-    reserve_growth(store, &growth, steps)?;
-    put_in(store, growth, steps);
+    let spot = reserve_growth(alloc, store, &growth, steps)?;
+    put_in(store, growth, &spot, steps);
     sweep(store);
     Ok(())
 }
 
 // The same once a text has got another value.
 pub(crate) fn grow_joined<L: Ledger>(
+    alloc: Global,
     store: &mut Store,
     joined: JoinedText,
     growth: Growth,
@@ -78,21 +82,23 @@ pub(crate) fn grow_joined<L: Ledger>(
     ensures rules { OnErr result (store.new.grammar.rules ≡ store.old.grammar.rules) }
     ensures texts { OnErr result (store.new.texts.texts ≡ store.old.texts.texts) }
 {
-    reserve_growth(store, &growth, steps)?;
+    let spot = reserve_growth(alloc, store, &growth, steps)?;
     store.texts.set(joined.rank, joined.value);
-    put_in(store, growth, steps);
+    put_in(store, growth, &spot, steps);
     sweep(store);
     Ok(())
 }
 
-// Makes room for what comes, for one text more, and for isolating its place. The store stays.
+// Finds the place where something comes, and makes room for isolating it, for what comes, and for one text more. The store stays.
 fn reserve_growth<L: Ledger>(
+    alloc: Global,
     store: &mut Store,
     growth: &Growth,
     steps: &mut Steps<L>,
-) -> Result<(), AllocError>
+) -> Result<PlaceSpot, AllocError>
     requires store { (t : Tree) × IsStoreFor store.old t × (growth.now.site.place < 2 * node_count t + 1) }
     requires few { length growth.now.texts < 2 ^ 63 }
+    ensures spot { IfOk result (IsPlaceSpot store.new.grammar.rules growth.now.site.place) }
     ensures nodes { OnOk result (room_to_place store.new.grammar.rules growth.now.site.place + length growth.now.body ≤ store.new.grammar.spare_nodes) }
     ensures links { OnOk result (room_to_place store.new.grammar.rules growth.now.site.place + length growth.now.body ≤ store.new.index.spare_links) }
     ensures cells { OnOk result (store.new.grammar.limit ≤ length store.new.index.cells) }
@@ -108,14 +114,19 @@ fn reserve_growth<L: Ledger>(
     if labels >= MOST_LABELS {
         return Err(AllocError);
     }
-    let way = nodes_to_place(&store.grammar, &store.counts, growth.site.place, steps);
-    reserve_room(store, way + labels)?;
-    store.texts.reserve(growth.texts.len() as u64 + 1)
+    let place = growth.site.place;
+    let spot = find_place(alloc, &store.grammar, &store.counts, place, steps)?;
+    let nodes = nodes_along(&store.grammar, spot.way(), steps);
+    reserve_room(store, nodes + labels)?;
+    store.texts.reserve(growth.texts.len() as u64 + 1)?;
+    Ok(spot)
 }
 
-// Puts what comes in. There is room for it and for isolating its place, so it takes no memory. Rules that nobody calls any more stay.
-fn put_in<L: Ledger>(store: &mut Store, growth: Growth, steps: &mut Steps<L>)
+// Puts what comes in at its place, which has this spot. There is room for it and for isolating the place, so it takes no memory. Rules that
+// nobody calls any more stay.
+fn put_in<L: Ledger>(store: &mut Store, growth: Growth, spot: &PlaceSpot, steps: &mut Steps<L>)
     requires store { (t : Tree) × (u : Tree) × IsUnsweptFor store.old t × GrowsInto store.old.names t u growth }
+    requires spot { IsPlaceSpot store.old.grammar.rules growth.site.place spot.now }
     requires nodes { room_to_place store.old.grammar.rules growth.site.place + length growth.body ≤ store.old.grammar.spare_nodes }
     requires links { room_to_place store.old.grammar.rules growth.site.place + length growth.body ≤ store.old.index.spare_links }
     requires cells { store.old.grammar.limit ≤ length store.old.index.cells }
@@ -133,8 +144,13 @@ fn put_in<L: Ledger>(store: &mut Store, growth: Growth, steps: &mut Steps<L>)
         texts,
     } = growth;
     let count = texts.len() as u64;
-    let way = way_to_place(&store.grammar, &store.counts, site.place);
-    wrap_place(&mut store.grammar, &mut store.index, way, &body, steps);
+    wrap_place(
+        &mut store.grammar,
+        &mut store.index,
+        spot.way(),
+        &body,
+        steps,
+    );
     store.texts.insert(site.rank, texts).unwrap();
     store.counts.raise_start(nodes, count);
 }

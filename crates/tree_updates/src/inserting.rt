@@ -24,11 +24,10 @@ use crate::fragment_spots::spot_beside;
 use crate::isolating::wrap_node;
 use crate::joining::{Joined, Seams, ends, join_ends};
 use crate::joining_three::join_three;
-use crate::room::reserve_room;
+use crate::room::reserve_at;
 use crate::store::{EditError, Store};
 use crate::sweeping::sweep;
 use fcns_encoding::Coded;
-use path_isolation::nodes_along;
 use plain_tree::{Bytes, Nodes};
 use preorder_address::Spot;
 use read_steps::Steps;
@@ -55,16 +54,33 @@ pub(crate) fn insert<L: Ledger>(
     requires fragment { IsFragment (trees fragment.now) }
     ensures applies { (t : Tree) → IsStoreFor store.old t → Applies t (Insert number fragment.now) store.old result store.new }
 {
+    let spot = spot_beside(alloc, store, number, fragment, steps)?;
+    insert_beside(alloc, store, number, &spot, fragment, steps)
+}
+
+// The same where the fragment may come before the spot's node.
+pub(crate) fn insert_beside<L: Ledger>(
+    alloc: Global,
+    store: &mut Store,
+    number: u64,
+    spot: &Spot,
+    fragment: &Nodes,
+    steps: &mut Steps<L>,
+) -> Result<(), EditError>
+    requires store { (t : Tree) × IsStoreFor store.old t × IsAllowed t (Insert number fragment.now) }
+    requires fragment { IsFragment (trees fragment.now) }
+    requires spot { IsSpot store.old.names store.old.grammar.rules number spot.now }
+    ensures applies { (t : Tree) → IsStoreFor store.old t → IsAllowed t (Insert number fragment.now) → Applies t (Insert number fragment.now) store.old result store.new }
+{
     // The call tells what is true of every grammar.
     let _limit = store.grammar.limit();
-    let spot = spot_beside(alloc, store, number, fragment, steps)?;
-    let seams = find_seams(alloc, store, number, &spot, fragment, steps)?;
+    let seams = find_seams(alloc, store, number, spot, fragment, steps)?;
     if !fits(alloc, store, fragment, seams)? {
         return Err(EditError::TooMany);
     }
     let rank = spot.text_rank();
     let coded = encode_in(alloc, store, fragment)?;
-    put_fragment(alloc, store, number, &spot, rank, seams, coded, steps)?;
+    put_fragment(alloc, store, number, spot, rank, seams, coded, steps)?;
     Ok(())
 }
 
@@ -159,45 +175,20 @@ fn place<L: Ledger>(
     ensures names { store.new.names ≡ store.old.names }
     ensures size { OnOk result (size (rules_of store.new.grammar.rules) ≤ 2 * size (rules_of store.old.grammar.rules) + real_nodes joined.rest.body) }
 {
-    reserve_code(store, spot, &joined.rest, steps)?;
+    let labels = count_labels(joined.rest.body.as_slice());
+    let texts = (joined.rest.texts.len() as u64).saturating_add(2);
+    reserve_at(store, spot, labels, texts, steps)?;
     put_joined(store, number, spot, rank, joined, steps);
     sweep(store);
     Ok(())
 }
 
-// Makes room for isolating the spot's node, and for a code with its texts and two texts more. The store stays.
-fn reserve_code<L: Ledger>(
-    store: &mut Store,
-    spot: &Spot,
-    coded: &Coded,
-    steps: &mut Steps<L>,
-) -> Result<(), AllocError>
-    requires spot { (names : List (Kind × List ℕ)) × (number : ℕ) × IsSpot names store.old.grammar.rules number spot.now }
-    ensures nodes { OnOk result (room_along store.new.grammar.rules spot.now.levels.items + length coded.now.body ≤ store.new.grammar.spare_nodes) }
-    ensures links { OnOk result (room_along store.new.grammar.rules spot.now.levels.items + length coded.now.body ≤ store.new.index.spare_links) }
-    ensures cells { OnOk result (store.new.grammar.limit ≤ length store.new.index.cells) }
-    ensures rules { store.new.grammar.rules ≡ store.old.grammar.rules }
-    ensures room { OnOk result (length coded.now.texts + 2 ≤ store.new.texts.room) }
-    ensures texts { store.new.texts.texts ≡ store.old.texts.texts }
-    ensures names { store.new.names ≡ store.old.names }
-    ensures store { (t : Tree) → IsStoreFor store.old t → IsStoreFor store.new t }
+// How many labels a code has: no list has 2^63.
+fn count_labels(labels: &[Label]) -> usize
+    ensures value { result ≡ length labels.now }
+    ensures few { result < 2 ^ 63 }
 {
-    // The call tells what is true of every grammar.
-    let _limit = store.grammar.limit();
-    let nodes = nodes_along(&store.grammar, spot.way(), steps);
-    reserve_room(store, with_labels(nodes, coded.body.as_slice()))?;
-    store
-        .texts
-        .reserve((coded.texts.len() as u64).saturating_add(2))
-}
-
-// So many nodes and one for each label.
-fn with_labels(nodes: usize, labels: &[Label]) -> usize
-    requires { nodes < 2 ^ 63 }
-    ensures value { result ≡ nodes + length labels.now }
-    ensures few { result + 1 < 2 ^ 64 }
-{
-    nodes + labels.len()
+    labels.len()
 }
 
 // Gives texts that meet the joined values, and puts the code of the other trees with its texts before the spot's node. Rules that nobody calls any

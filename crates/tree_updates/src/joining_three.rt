@@ -12,11 +12,10 @@ ghost use Rattle.tree_updates.specs.Stores.{IsStoreFor};
 
 use crate::joining::value_at;
 use crate::node_extent::text_extent;
-use crate::room::reserve_room;
+use crate::room::reserve_at;
 use crate::store::Store;
 use crate::sweeping::sweep;
 use crate::taking_out::take_out;
-use path_isolation::nodes_along;
 use plain_tree::{Bytes, Texts};
 use preorder_address::Spot;
 use read_steps::Steps;
@@ -49,9 +48,7 @@ pub(crate) fn join_three<L: Ledger>(
     let text = value_at(added, 0).unwrap();
     let here = store.texts.get(rank).unwrap();
     let value = three_bytes(alloc, before, text, here)?;
-    let nodes = nodes_along(&store.grammar, spot.way(), steps);
-    reserve_room(store, nodes)?;
-    store.texts.reserve(1)?;
+    reserve_at(store, spot, 0, 1, steps)?;
     store.texts.set(rank - 1, value);
     take_out(store, number, spot, text_extent(rank), steps);
     sweep(store);

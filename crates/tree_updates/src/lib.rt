@@ -10,9 +10,10 @@
 //! Where nodes stand is told by spots, one descent each (`node_spots`): their places tell under what they stand (`spot_places`), whether a text
 //! stands before one (`meeting`), and which texts meet where it goes (`meeting_text`); `node_extent` tells how many nodes and texts one has.
 //!
-//! What comes into a document comes at a place of its code, which is counted with the bottoms: `code_places` isolates one and puts a body
-//! around it, and `growing` does so for a whole store, texts and counts with it. `kid_attributes` finds an element's attribute;
-//! `fragment_growing`, `fragment_nodes` and `fragment_kinds` tell of a fragment where it comes, how many nodes it has and where it may stand.
+//! What comes into a document comes at a place of its code, which is counted with the bottoms: `place_spots` finds one, with the levels that lead
+//! there, `code_places` isolates it and puts a body around it, and `growing` does so for a whole store, texts and counts with it. `kid_attributes`
+//! finds an element's attribute; `fragment_growing`, `fragment_nodes` and `fragment_kinds` tell of a fragment where it comes, how many nodes it
+//! has and where it may stand.
 //!
 //! What comes before a node comes where the node stands: `fragment_spots` tells whether it may, `fragment_code` makes its code, `finding_seams`
 //! finds the texts that meet by it, `joining` what the code comes to then, and `joining_three` makes one text of three.
@@ -44,6 +45,7 @@ mod meeting;
 mod meeting_text;
 mod node_extent;
 mod node_spots;
+mod place_spots;
 mod renaming;
 mod room;
 mod spare_node;

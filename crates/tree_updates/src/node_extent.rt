@@ -1,12 +1,11 @@
 // Which nodes and texts of a document a node has with all below it.
-ghost use Rattle.std.specs.Prelude.{◌≡◌, ◌≤◌, length, take, IfOk};
-ghost use Rattle.plain_tree.specs.Numbers.{nodes, values_of};
-ghost use Rattle.plain_tree.specs.Tree.{Tree, node_count};
+ghost use Rattle.std.specs.Prelude.{◌≡◌, IfOk};
+ghost use Rattle.plain_tree.specs.Tree.{Tree};
 ghost use Rattle.preorder_address.specs.Spots.{IsSpot};
 ghost use Rattle.tree_updates.specs.Extents.{IsCodedBy, IsExtentOf, IsSpanOf, IsUnsweptFor};
 
 use crate::store::Store;
-use preorder_address::{Spot, find, text_rank};
+use preorder_address::{Spot, find};
 use read_steps::Steps;
 use std::alloc::{AllocError, Global};
 use std::sync::ledger::Ledger;
@@ -64,6 +63,22 @@ pub(crate) fn span_of<L: Ledger>(
     })
 }
 
+// The extent alone.
+pub(crate) fn extent_of<L: Ledger>(
+    alloc: Global,
+    store: &Store,
+    number: u64,
+    spot: &Spot,
+    steps: &mut Steps<L>,
+) -> Result<Extent, AllocError>
+    requires store { (t : Tree) × IsUnsweptFor store.now t }
+    requires spot { IsSpot store.now.names store.now.grammar.rules number spot.now }
+    ensures extent { IfOk result (λ extent. (t : Tree) → IsCodedBy store.now t → IsExtentOf t number extent) }
+{
+    let span = span_of(alloc, store, number, spot, steps)?;
+    Ok(span.extent)
+}
+
 // The extent of a text of this rank.
 pub(crate) fn text_extent(rank: u64) -> Extent
     ensures { result ≡ record { nodes = 1; rank = rank; texts = 1 } }
@@ -72,39 +87,5 @@ pub(crate) fn text_extent(rank: u64) -> Extent
         nodes: 1,
         rank,
         texts: 1,
-    }
-}
-
-// The extent of the spot's node.
-pub(crate) fn extent_of<L: Ledger>(
-    store: &Store,
-    number: u64,
-    spot: &Spot,
-    steps: &mut Steps<L>,
-) -> Extent
-    requires store { (t : Tree) × IsUnsweptFor store.now t }
-    requires spot { IsSpot store.now.names store.now.grammar.rules number spot.now }
-    ensures extent { (t : Tree) → IsCodedBy store.now t → IsExtentOf t number result }
-{
-    let rank = spot.text_rank();
-    let nodes = spot.extent(&store.grammar, &store.counts, steps) + 1;
-    let end = texts_before(store, number + nodes, steps);
-    Extent {
-        nodes,
-        rank,
-        texts: end - rank,
-    }
-}
-
-// How many texts belong to the nodes before a number, which may be the count of all nodes.
-fn texts_before<L: Ledger>(store: &Store, number: u64, steps: &mut Steps<L>) -> u64
-    requires store { (t : Tree) × IsUnsweptFor store.now t × (number ≤ node_count t) }
-    ensures texts { (t : Tree) → IsCodedBy store.now t → result ≡ length (values_of (take number (nodes t))) }
-{
-    // The call tells what is true of every grammar.
-    let _limit = store.grammar.limit();
-    match text_rank(&store.grammar, &store.counts, &store.names, number, steps) {
-        Some(rank) => rank,
-        None => store.counts.total_texts(),
     }
 }

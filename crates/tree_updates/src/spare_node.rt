@@ -4,7 +4,7 @@ ghost use Rattle.plain_tree.specs.Allowed.{IsAllowed};
 ghost use Rattle.plain_tree.specs.Lawful.{IsDocument};
 ghost use Rattle.plain_tree.specs.Tree.{Tree, node_count};
 ghost use Rattle.plain_tree.specs.declared.edit.Edit.TheVariants.{Delete};
-ghost use Rattle.plain_tree.specs.declared.kind.Kind.TheVariants.{Document, Element};
+ghost use Rattle.plain_tree.specs.declared.kind.Kind.TheVariants.{Attribute, Document, Element};
 ghost use Rattle.preorder_address.specs.Spots.{IsSpot, place_at};
 ghost use Rattle.preorder_address.specs.TreeNumbers.{kind_at};
 ghost use Rattle.tree_updates.specs.Stores.{IsRefusedFor, IsStoreFor};
@@ -59,6 +59,12 @@ pub(crate) fn is_element(kind: Kind) -> bool
     ensures { IsTrue result ↔ kind ≡ Element }
 {
     matches!(kind, Kind::Element)
+}
+
+pub(crate) fn is_attribute(kind: Kind) -> bool
+    ensures { IsTrue result ↔ kind ≡ Attribute }
+{
+    matches!(kind, Kind::Attribute)
 }
 
 fn is_document(kind: Kind) -> bool

@@ -30,6 +30,22 @@ pub(crate) fn set_value<L: Ledger>(
     ensures applies { (t : Tree) → IsStoreFor store.old t → Applies t (Value number value.now) store.old result store.new }
 {
     let rank = value_rank(alloc, store, number, value, steps)?;
+    put_value(alloc, store, number, rank, value)
+}
+
+// Gives the node with this number, whose value is the text at this place, a value that it may have.
+pub(crate) fn put_value(
+    alloc: Global,
+    store: &mut Store,
+    number: u64,
+    rank: u64,
+    value: &[u8],
+) -> Result<(), EditError>
+    requires store { (t : Tree) × IsStoreFor store.old t × IsAllowed t (Value number value.now) × (Some rank ≡ text_rank_at t number) }
+    requires chars { AreChars value.now }
+    ensures applies { (t : Tree) → IsStoreFor store.old t → IsAllowed t (Value number value.now) → Some rank ≡ text_rank_at t number
+        → Applies t (Value number value.now) store.old result store.new }
+{
     let text = Bytes::from_slice(alloc, value)?;
     store.texts.reserve(1)?;
     store.texts.set(rank, text);

@@ -1,9 +1,74 @@
+use Rattle.std.proofs.Common.{◌≡◌, Option, None, Some, subst}
+use Rattle.std.specs.Prelude.{IfNone, IfSome}
+use Rattle.std.proofs.lemmas.Result.{err_from_is_err_and}
 use Rattle.plain_tree.specs.declared.edit.Edit.TheVariants.{Append}
 use Rattle.plain_tree.specs.EditLaws.{IsEditOf}
+use Rattle.plain_tree.specs.Edits.{edited, placed}
+use Rattle.plain_tree.specs.Tree.{Tree}
+use Rattle.tree_updates.specs.FragmentGrowths.{MeetsAtEnd}
+use Rattle.tree_updates.specs.Stores.{IsStoreFor}
+use Rattle.tree_updates.specs.declared.appending_joined.LastText.{LastText}
+use Rattle.tree_updates.specs.declared.store.EditError.TheVariants.{Memory}
+use Rattle.tree_updates.proofs.LeavingDocuments.{unswept}
+use Rattle.tree_updates.proofs.StoreLemmas.{refused-there}
 use Rattle.tree_updates.proofs.appending.append.Goals as goal
+
+pub extent_of-requires-clause-store : goal.extent_of-requires-clause-store
+extent_of-requires-clause-store g c = let r = c.requires.store in (r.0, unswept c.args.store.now r.0 r.1)
+
+pub returns-in_err-extent : goal.returns-in_err-extent
+returns-in_err-extent g c =
+    let p = err_from_is_err_and c.from_residual-in_err-extent.result c.from_residual-in_err-extent.ensures.1 in
+    rw (p.1, p.2) (record { applies = λ t i. refused-there t (Append c.args.number c.args.fragment.now) Memory c.args.store.now tt i })
+
+pub end_site-site-requires-clause-store : goal.end_site-site-requires-clause-store
+end_site-site-requires-clause-store g c = let r = c.requires.store in (r.0, unswept c.args.store.now r.0 r.1)
 
 pub meeting_kid-requires-clause-store : goal.meeting_kid-requires-clause-store
 meeting_kid-requires-clause-store g c =
     let r = c.requires.store in
     let edit : IsEditOf r.0 (Append c.args.number c.args.fragment.now) = record { document_is = r.1.stand.document; allowed = c.in_ok-spot.ensures.answer r.0 r.1; parts = c.requires.fragment } in
     (r.0, r.1, edit)
+
+pub returns-in_err-meeting_kid : goal.returns-in_err-meeting_kid
+returns-in_err-meeting_kid g c =
+    let p = err_from_is_err_and c.from_residual-in_err-meeting_kid.result c.from_residual-in_err-meeting_kid.ensures.1 in
+    rw (p.1, p.2) (record { applies = λ t i. refused-there t (Append c.args.number c.args.fragment.now) Memory c.args.store.now tt i })
+
+pub append_apart-requires-clause-store : goal.append_apart-requires-clause-store
+append_apart-requires-clause-store g c =
+    let r = c.requires.store in
+    let edit : IsEditOf r.0 (Append c.args.number c.args.fragment.now) = record { document_is = r.1.stand.document; allowed = c.in_ok-spot.ensures.answer r.0 r.1; parts = c.requires.fragment } in
+    (r.0, r.1, edit)
+
+pub append_joined-requires-clause-store : goal.append_joined-requires-clause-store
+append_joined-requires-clause-store g c =
+    let s = c.args.store.now in
+    let n = c.args.number in
+    let F = c.args.fragment.now in
+    let r = c.requires.store in
+    let edit : IsEditOf r.0 (Append n F) = record { document_is = r.1.stand.document; allowed = c.in_ok-spot.ensures.answer r.0 r.1; parts = c.requires.fragment } in
+    let meets = subst (λ (o : Option LastText). IfSome o (λ last. (t : Tree) → IsStoreFor s t → IsEditOf t (Append n F) → MeetsAtEnd t n last.number F)) c.in-Some.is c.in_ok-meeting_kid.ensures.meets in
+    (r.0, r.1, edit, meets r.0 r.1 edit)
+
+pub returns-in-None : goal.returns-in-None
+returns-in-None g c = record {
+  applies = λ t i.
+      let s = c.args.store.now in
+      let n = c.args.number in
+      let F = c.args.fragment.now in
+      let edit : IsEditOf t (Append n F) = record { document_is = i.stand.document; allowed = c.in_ok-spot.ensures.answer t i; parts = c.requires.fragment } in
+      let apart = subst (λ (o : Option LastText). IfNone o ((t : Tree) → IsStoreFor s t → IsEditOf t (Append n F) → edited t (Append n F) ≡ placed t (Append n F))) c.in-None.is c.in_ok-meeting_kid.ensures.apart in
+      c.append_apart.ensures.applies t i edit (apart t i edit);
+}
+
+pub returns : goal.returns
+returns g c = record {
+  applies = λ t i.
+      let s = c.args.store.now in
+      let n = c.args.number in
+      let F = c.args.fragment.now in
+      let edit : IsEditOf t (Append n F) = record { document_is = i.stand.document; allowed = c.in_ok-spot.ensures.answer t i; parts = c.requires.fragment } in
+      let meets = subst (λ (o : Option LastText). IfSome o (λ last. (t : Tree) → IsStoreFor s t → IsEditOf t (Append n F) → MeetsAtEnd t n last.number F)) c.in-Some.is c.in_ok-meeting_kid.ensures.meets in
+      c.append_joined.ensures.applies t i edit (meets t i edit);
+}

@@ -52,13 +52,13 @@ grow-requires g c =
     let size : c.in_ok-count.count ≡ node_count_all (trees F) = omega (arith, c.in_ok-count.ensures, ap list_count e, c.if-count-total.false) in
     let few : node_count r.0 + c.in_ok-count.count < 2 ^ 63 = omega (arith, c.if-count-total.false, c.total.ensures.kept, total) in
     let grown = subst (λ (ts : List Tree). Interns s.names (pairs_of_trees (trees ts)) names) e c.in_ok-growth.ensures.grown in
-    let x = subst (λ (ts : List Tree). IsFragmentGrowth names ts c.in_ok-count.count c.end_site-site.result c.in_ok-growth.growth) e c.in_ok-growth.ensures.growth in
+    let x = subst (λ (ts : List Tree). IsFragmentGrowth names ts c.in_ok-count.count c.args.site c.in_ok-growth.growth) e c.in_ok-growth.ensures.growth in
     record {
       store = (
         r.0,
         placed r.0 (Append n F),
         all-named s r.0 r.1 (Append n F) r.2 G names grown,
-        apart-grows r.0 n F r.2 names c.in_ok-count.count size c.end_site-site.result (c.end_site-site.ensures r.0 (coded s r.0 (unswept s r.0 r.1))) c.in_ok-growth.growth x few,
+        apart-grows r.0 n F r.2 names c.in_ok-count.count size c.args.site (c.requires.site r.0 (coded s r.0 (unswept s r.0 r.1))) c.in_ok-growth.growth x few,
       );
     }
 
@@ -89,14 +89,14 @@ returns g c =
     let e = c.as_slice-nodes.ensures in
     let come = subst (λ (ts : List Tree). Interns s.names (pairs_of_trees (trees ts)) names) e c.in_ok-growth.ensures.grown in
     let grown = subst (λ (ns : List Pair). Interns s.names (pairs_of_trees (trees F)) ns) (sym c.grow.ensures.names) come in
-    let x = subst (λ (ts : List Tree). IsFragmentGrowth names ts c.in_ok-count.count c.end_site-site.result c.in_ok-growth.growth) e c.in_ok-growth.ensures.growth in
+    let x = subst (λ (ts : List Tree). IsFragmentGrowth names ts c.in_ok-count.count c.args.site c.in_ok-growth.growth) e c.in_ok-growth.ensures.growth in
     let size : c.in_ok-count.count ≡ node_count_all (trees F) = omega (arith, c.in_ok-count.ensures, ap list_count e, c.if-count-total.false) in
     record {
       applies = λ t i edit same.
           let total = total-is s t i G in
           let few : node_count t + c.in_ok-count.count < 2 ^ 63 = omega (arith, c.if-count-total.false, c.total.ensures.kept, total) in
-          let site = c.end_site-site.ensures t (coded s t (unswept s t i)) in
-          let store = c.in_ok-grow.ensures.grown t (placed t (Append n F)) (all-named s t i (Append n F) edit G names come) (apart-grows t n F edit names c.in_ok-count.count size c.end_site-site.result site c.in_ok-growth.growth x few) in
+          let site = c.requires.site t (coded s t (unswept s t i)) in
+          let store = c.in_ok-grow.ensures.grown t (placed t (Append n F)) (all-named s t i (Append n F) edit G names come) (apart-grows t n F edit names c.in_ok-count.count size c.args.site site c.in_ok-growth.growth x few) in
           edited-named s t i (Append n F) edit G new grown (subst (IsStoreFor new) (sym same) store)
-          (omega (arith, c.in_ok-grow.ensures.size, real-fragment names F c.in_ok-count.count c.end_site-site.result c.in_ok-growth.growth x));
+          (omega (arith, c.in_ok-grow.ensures.size, real-fragment names F c.in_ok-count.count c.args.site c.in_ok-growth.growth x));
     }

@@ -71,15 +71,15 @@ grow_joined-requires g c =
     let come = subst (λ (ts : List Tree). Interns s.names (pairs_of_trees (trees ts)) names) o c.in_ok-growth.ensures.grown in
     let grown = others-named s t i n last F edit M names come in
     let again = all-named s t i (Append n F) edit G names grown in
-    let x = subst (λ (ts : List Tree). IsFragmentGrowth names ts c.in_ok-count.count c.end_site-site.result c.in_ok-growth.growth) o c.in_ok-growth.ensures.growth in
+    let x = subst (λ (ts : List Tree). IsFragmentGrowth names ts c.in_ok-count.count c.args.site c.in_ok-growth.growth) o c.in_ok-growth.ensures.growth in
     let size : c.in_ok-count.count ≡ node_count_all (trees M.others) = omega (arith, c.in_ok-count.ensures, ap list_count o, c.if-count-total.false) in
     let few : node_count t + c.in_ok-count.count < 2 ^ 63 = omega (arith, c.if-count-total.false, c.total.ensures.kept, total-is s t i G) in
     let rank = c.in_ok-joined.ensures.rank t n F i M in
     let first = ap (λ (y : Node). y.value) c.first-item.is ∙ first-value c.as_slice.result.now F M.first M.others c.in-len1-up.len_at_least c.as_slice.ensures M.begins c.first-item.result in
     let value = c.in_ok-joined.ensures.value t n F M i ∙ ap (λ (y : List ℕ). M.before ++ y) first in
-    let site = c.end_site-site.ensures (placed t (Value last (M.before ++ M.first))) (joined-text s t i n last F edit M c.in_ok-joined.joined rank value).coded in
+    let site = c.requires.site (placed t (Value last (M.before ++ M.first))) (joined-text s t i n last F edit M c.in_ok-joined.joined rank value).coded in
     let joined = joined-text (named s names) t again n last F edit M c.in_ok-joined.joined rank value in
-    let grows = joined-grows s t i n last F edit M names c.in_ok-count.count size c.end_site-site.result site c.in_ok-growth.growth x few in
+    let grows = joined-grows s t i n last F edit M names c.in_ok-count.count size c.args.site site c.in_ok-growth.growth x few in
     record { store = (t, placed t (Value last (M.before ++ M.first)), edited t (Append n F), again, joined, grows) }
 
 pub returns-in_err-grow_joined : goal.returns-in_err-grow_joined
@@ -117,16 +117,16 @@ returns g c =
           let come = subst (λ (ts : List Tree). Interns s.names (pairs_of_trees (trees ts)) names) o c.in_ok-growth.ensures.grown in
           let grown = others-named s t i n last F edit M names come in
           let again = all-named s t i (Append n F) edit G names grown in
-          let x = subst (λ (ts : List Tree). IsFragmentGrowth names ts c.in_ok-count.count c.end_site-site.result c.in_ok-growth.growth) o c.in_ok-growth.ensures.growth in
+          let x = subst (λ (ts : List Tree). IsFragmentGrowth names ts c.in_ok-count.count c.args.site c.in_ok-growth.growth) o c.in_ok-growth.ensures.growth in
           let size : c.in_ok-count.count ≡ node_count_all (trees M.others) = omega (arith, c.in_ok-count.ensures, ap list_count o, c.if-count-total.false) in
           let few : node_count t + c.in_ok-count.count < 2 ^ 63 = omega (arith, c.if-count-total.false, c.total.ensures.kept, total-is s t i G) in
           let rank = c.in_ok-joined.ensures.rank t n F i M in
           let first = ap (λ (y : Node). y.value) c.first-item.is ∙ first-value c.as_slice.result.now F M.first M.others c.in-len1-up.len_at_least c.as_slice.ensures M.begins c.first-item.result in
           let value = c.in_ok-joined.ensures.value t n F M i ∙ ap (λ (y : List ℕ). M.before ++ y) first in
-          let site = c.end_site-site.ensures (placed t (Value last (M.before ++ M.first))) (joined-text s t i n last F edit M c.in_ok-joined.joined rank value).coded in
+          let site = c.requires.site (placed t (Value last (M.before ++ M.first))) (joined-text s t i n last F edit M c.in_ok-joined.joined rank value).coded in
           let joined = joined-text (named s names) t again n last F edit M c.in_ok-joined.joined rank value in
-          let grows = joined-grows s t i n last F edit M names c.in_ok-count.count size c.end_site-site.result site c.in_ok-growth.growth x few in
+          let grows = joined-grows s t i n last F edit M names c.in_ok-count.count size c.args.site site c.in_ok-growth.growth x few in
           let kept = subst (λ (ns : List Pair). Interns s.names (pairs_of_trees (trees F)) ns) (sym c.grow_joined.ensures.names) grown in
           edited-named s t i (Append n F) edit G new kept (c.in_ok-grow_joined.ensures.grown t (placed t (Value last (M.before ++ M.first))) (edited t (Append n F)) again joined grows)
-          (omega (arith, c.in_ok-grow_joined.ensures.size, real-fragment names M.others c.in_ok-count.count c.end_site-site.result c.in_ok-growth.growth x, ap (λ (ts : List Tree). node_count_all (trees ts)) M.begins));
+          (omega (arith, c.in_ok-grow_joined.ensures.size, real-fragment names M.others c.in_ok-count.count c.args.site c.in_ok-growth.growth x, ap (λ (ts : List Tree). node_count_all (trees ts)) M.begins));
     }

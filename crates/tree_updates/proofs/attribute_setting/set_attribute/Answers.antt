@@ -1,9 +1,11 @@
-use Rattle.std.proofs.Common.{arith}
+use Rattle.std.proofs.Common.{◌+◌, length, ap, arith}
 use Rattle.plain_tree.specs.declared.edit.Edit.TheVariants.{Attr}
 use Rattle.plain_tree.specs.EditLaws.{IsEditOf}
 use Rattle.tree_updates.proofs.AttributePlaces.{before-low}
+use Rattle.tree_updates.proofs.GrownStores.{texts-few}
 use Rattle.tree_updates.proofs.NodeExtents.{spot-low}
-use Rattle.tree_updates.proofs.OldAttributes.{attribute-applies}
+use Rattle.tree_updates.proofs.OldAttributes.{attribute-applies, old-rank, value-allowed}
+use Rattle.tree_updates.proofs.ValuedStores.{rank-within}
 use Rattle.tree_updates.proofs.attribute_setting.set_attribute.Goals as goal
 
 pub find_attribute-requires : goal.find_attribute-requires
@@ -26,14 +28,47 @@ overflow_add-number-then-place g c =
     let edit : IsEditOf r.0 (Attr c.args.number x w) = record { document_is = r.1.stand.document; allowed = c.in_ok-spot.ensures.answer r.0 x w r.1; parts = (c.requires.name, c.requires.chars) } in
     omega (arith, before-low r.0 c.args.number x w edit c.in_ok-place.place (c.in_ok-place.ensures r.0 r.1), r.1.small)
 
+pub overflow_add-rank : goal.overflow_add-rank
+overflow_add-rank g c =
+    let s = c.args.store.now in
+    let r = c.requires.store in
+    let n = c.args.number in
+    let x = c.args.name.now in
+    let w = c.args.value.now in
+    let edit : IsEditOf r.0 (Attr n x w) = record { document_is = r.1.stand.document; allowed = c.in_ok-spot.ensures.answer r.0 x w r.1; parts = (c.requires.name, c.requires.chars) } in
+    let place = c.in_ok-place.ensures r.0 r.1 in
+    let rank = c.text_rank.result + c.in_ok-place.place.before in
+    let told = old-rank s r.0 r.1 n x w edit c.in_ok-place.place place c.if-place.true c.text_rank.result (c.text_rank.ensures s.names s.grammar.rules n r.0 c.in_ok-spot.ensures.spot r.1.stand.code) in
+    let within = rank-within s r.0 r.1 (n + 1 + c.in_ok-place.place.before) w c.requires.chars (value-allowed s r.0 r.1 n x w edit c.in_ok-place.place place c.if-place.true) rank told in
+    omega (arith, within, ap length r.1.stand.texts, texts-few r.0, r.1.small)
+
+pub put_value-requires-clause-store : goal.put_value-requires-clause-store
+put_value-requires-clause-store g c =
+    let s = c.args.store.now in
+    let r = c.requires.store in
+    let n = c.args.number in
+    let x = c.args.name.now in
+    let w = c.args.value.now in
+    let edit : IsEditOf r.0 (Attr n x w) = record { document_is = r.1.stand.document; allowed = c.in_ok-spot.ensures.answer r.0 x w r.1; parts = (c.requires.name, c.requires.chars) } in
+    let place = c.in_ok-place.ensures r.0 r.1 in (
+      r.0,
+      r.1,
+      value-allowed s r.0 r.1 n x w edit c.in_ok-place.place place c.if-place.true,
+      old-rank s r.0 r.1 n x w edit c.in_ok-place.place place c.if-place.true c.text_rank.result (c.text_rank.ensures s.names s.grammar.rules n r.0 c.in_ok-spot.ensures.spot r.1.stand.code),
+    )
+
 pub returns-then-place : goal.returns-then-place
 returns-then-place g c = record {
   applies = λ t i.
       let s = c.args.store.now in
+      let n = c.args.number in
       let x = c.args.name.now in
       let w = c.args.value.now in
-      let edit : IsEditOf t (Attr c.args.number x w) = record { document_is = i.stand.document; allowed = c.in_ok-spot.ensures.answer t x w i; parts = (c.requires.name, c.requires.chars) } in
-      attribute-applies s t i c.args.number x w edit c.in_ok-place.place (c.in_ok-place.ensures t i) c.if-place.true c.set_value.result c.set_value.new.store (c.set_value.ensures.applies t i);
+      let edit : IsEditOf t (Attr n x w) = record { document_is = i.stand.document; allowed = c.in_ok-spot.ensures.answer t x w i; parts = (c.requires.name, c.requires.chars) } in
+      let place = c.in_ok-place.ensures t i in
+      let rank = old-rank s t i n x w edit c.in_ok-place.place place c.if-place.true c.text_rank.result (c.text_rank.ensures s.names s.grammar.rules n t c.in_ok-spot.ensures.spot i.stand.code) in
+      attribute-applies s t i n x w edit c.in_ok-place.place place c.if-place.true c.put_value.result c.put_value.new.store
+      (c.put_value.ensures.applies t i (value-allowed s t i n x w edit c.in_ok-place.place place c.if-place.true) rank);
 }
 
 pub attribute_site-site-requires-clause-store : goal.attribute_site-site-requires-clause-store

@@ -3,6 +3,12 @@ use Rattle.plain_tree.specs.Edits.{placed}
 use Rattle.tree_updates.proofs.LeavingDocuments.{unswept}
 use Rattle.tree_updates.proofs.copying.copy_alone.Goals as goal
 
+pub put_alone-requires-clause-store : goal.put_alone-requires-clause-store
+put_alone-requires-clause-store g c =
+    let r = c.requires.store in
+    let s = c.reserve_copy.new.store in
+    (r.0, unswept s r.0 (c.reserve_copy.ensures.store r.0 r.1), r.2)
+
 pub sweep-requires : goal.sweep-requires
 sweep-requires g c =
     let r = c.requires.store in

@@ -1,11 +1,19 @@
 use Rattle.std.proofs.Common.{arith}
 use Rattle.std.proofs.lemmas.Result.{err_from_is_err_and}
 use Rattle.plain_tree.specs.declared.edit.Edit.TheVariants.{Copy}
-use Rattle.tree_updates.specs.declared.store.EditError.TheVariants.{TooMany}
+use Rattle.tree_updates.specs.declared.store.EditError.TheVariants.{Memory, TooMany}
 use Rattle.tree_updates.proofs.CopiedNodes.{copy-made, copy-wanting, may-copy, some-below, too-many}
 use Rattle.tree_updates.proofs.LeavingDocuments.{coded, unswept}
 use Rattle.tree_updates.proofs.StoreLemmas.{refused-there, total-is}
 use Rattle.tree_updates.proofs.copying.copy_other.Goals as goal
+
+pub extent_of-requires-clause-store : goal.extent_of-requires-clause-store
+extent_of-requires-clause-store g c = let r = c.requires.store in (r.0, unswept c.args.store.now r.0 r.1)
+
+pub returns-in_err-extent : goal.returns-in_err-extent
+returns-in_err-extent g c =
+    let p = err_from_is_err_and c.from_residual.result c.from_residual.ensures.1 in
+    rw (p.1, p.2) (record { applies = λ t i allowed other. refused-there t (Copy c.args.number) Memory c.args.store.now tt i })
 
 pub overflow_sub-total : goal.overflow_sub-total
 overflow_sub-total g c =
@@ -17,34 +25,34 @@ returns-then-extent-total g c = record {
   applies = λ t i allowed other.
       let s = c.args.store.now in
       let n = c.args.number in
-      let X = c.extent_of-extent.ensures.extent t (coded s t (unswept s t i)) in
-      refused-there t (Copy n) TooMany s (too-many t i.stand.document n allowed other c.extent_of-extent.result X (omega (arith, c.if-extent-total.true, c.total.ensures.kept, total-is s t i c.limit-limit.ensures.keyed.grammar))) i;
+      let X = c.in_ok-extent.ensures.extent t (coded s t (unswept s t i)) in
+      refused-there t (Copy n) TooMany s (too-many t i.stand.document n allowed other c.in_ok-extent.extent X (omega (arith, c.if-extent-total.true, c.total.ensures.kept, total-is s t i c.limit-limit.ensures.keyed.grammar))) i;
 }
 
 pub copy_alone-requires-clause-store : goal.copy_alone-requires-clause-store
 copy_alone-requires-clause-store g c =
     let s = c.args.store.now in
     let r = c.requires.store in
-    let X = c.extent_of-extent.ensures.extent r.0 (coded s r.0 (unswept s r.0 r.1)) in
-    (r.0, r.1, may-copy r.0 r.1.stand.document c.args.number r.2 r.3 c.extent_of-extent.result X (omega (arith, c.if-extent-total.false, c.total.ensures.kept, total-is s r.0 r.1 c.limit-limit.ensures.keyed.grammar)))
+    let X = c.in_ok-extent.ensures.extent r.0 (coded s r.0 (unswept s r.0 r.1)) in
+    (r.0, r.1, may-copy r.0 r.1.stand.document c.args.number r.2 r.3 c.in_ok-extent.extent X (omega (arith, c.if-extent-total.false, c.total.ensures.kept, total-is s r.0 r.1 c.limit-limit.ensures.keyed.grammar)))
 
 pub copy_whole-requires-clause-store : goal.copy_whole-requires-clause-store
 copy_whole-requires-clause-store g c =
     let s = c.args.store.now in
     let r = c.requires.store in
-    let X = c.extent_of-extent.ensures.extent r.0 (coded s r.0 (unswept s r.0 r.1)) in
-    (r.0, r.1, may-copy r.0 r.1.stand.document c.args.number r.2 r.3 c.extent_of-extent.result X (omega (arith, c.if-extent-total.false, c.total.ensures.kept, total-is s r.0 r.1 c.limit-limit.ensures.keyed.grammar)))
+    let X = c.in_ok-extent.ensures.extent r.0 (coded s r.0 (unswept s r.0 r.1)) in
+    (r.0, r.1, may-copy r.0 r.1.stand.document c.args.number r.2 r.3 c.in_ok-extent.extent X (omega (arith, c.if-extent-total.false, c.total.ensures.kept, total-is s r.0 r.1 c.limit-limit.ensures.keyed.grammar)))
 
 pub copy_whole-requires-clause-some : goal.copy_whole-requires-clause-some
 copy_whole-requires-clause-some g c =
     let s = c.args.store.now in
     let r = c.requires.store in
-    some-below r.0 c.args.number c.extent_of-extent.result (c.extent_of-extent.ensures.extent r.0 (coded s r.0 (unswept s r.0 r.1))) c.if-extent-eq1.false
+    some-below r.0 c.args.number c.in_ok-extent.extent (c.in_ok-extent.ensures.extent r.0 (coded s r.0 (unswept s r.0 r.1))) c.if-extent-eq1.false
 
 pub returns-in_err-copy_alone : goal.returns-in_err-copy_alone
 returns-in_err-copy_alone g c =
     let e = c.in_err-copy_alone.ensures in
-    let p = err_from_is_err_and c.from_residual.result c.from_residual.ensures.1 in
+    let p = err_from_is_err_and c.from_residual-in_err-copy_alone.result c.from_residual-in_err-copy_alone.ensures.1 in
     rw (p.1, p.2) (record { applies = λ t i allowed other. copy-wanting c.args.store.now c.copy_alone.new.store t c.args.number (e.kept t i) c.copy_alone.ensures.names e.rules e.texts })
 
 pub returns-in_ok-copy_alone : goal.returns-in_ok-copy_alone
@@ -52,8 +60,8 @@ returns-in_ok-copy_alone g c = record {
   applies = λ t i allowed other.
       let s = c.args.store.now in
       let n = c.args.number in
-      let X = c.extent_of-extent.ensures.extent t (coded s t (unswept s t i)) in
-      let M = may-copy t i.stand.document n allowed other c.extent_of-extent.result X (omega (arith, c.if-extent-total.false, c.total.ensures.kept, total-is s t i c.limit-limit.ensures.keyed.grammar)) in
+      let X = c.in_ok-extent.ensures.extent t (coded s t (unswept s t i)) in
+      let M = may-copy t i.stand.document n allowed other c.in_ok-extent.extent X (omega (arith, c.if-extent-total.false, c.total.ensures.kept, total-is s t i c.limit-limit.ensures.keyed.grammar)) in
       copy-made s c.copy_alone.new.store t n i.stand.document allowed other (c.in_ok-copy_alone.ensures.store t i M) c.copy_alone.ensures.names c.in_ok-copy_alone.ensures.size;
 }
 
@@ -68,7 +76,7 @@ returns-in_ok-copy_whole g c = record {
   applies = λ t i allowed other.
       let s = c.args.store.now in
       let n = c.args.number in
-      let X = c.extent_of-extent.ensures.extent t (coded s t (unswept s t i)) in
-      let M = may-copy t i.stand.document n allowed other c.extent_of-extent.result X (omega (arith, c.if-extent-total.false, c.total.ensures.kept, total-is s t i c.limit-limit.ensures.keyed.grammar)) in
+      let X = c.in_ok-extent.ensures.extent t (coded s t (unswept s t i)) in
+      let M = may-copy t i.stand.document n allowed other c.in_ok-extent.extent X (omega (arith, c.if-extent-total.false, c.total.ensures.kept, total-is s t i c.limit-limit.ensures.keyed.grammar)) in
       copy-made s c.copy_whole.new.store t n i.stand.document allowed other (c.in_ok-copy_whole.ensures.store t i M) c.copy_whole.ensures.names c.in_ok-copy_whole.ensures.size;
 }

@@ -24,7 +24,7 @@ put_in-requires-clause-store g c =
     (r.1, r.2, u, x)
 
 pub put_in-requires-clause-room : goal.put_in-requires-clause-room
-put_in-requires-clause-room g c = omega (arith, c.in_ok-reserve_growth.ensures.room, c.set.ensures.room)
+put_in-requires-clause-room g c = omega (arith, c.in_ok-spot.ensures.room, c.set.ensures.room)
 
 pub sweep-requires : goal.sweep-requires
 sweep-requires g c =

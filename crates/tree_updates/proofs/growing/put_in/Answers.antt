@@ -1,30 +1,16 @@
-use Rattle.std.proofs.Common.{◌≤◌, ◌<◌, ◌+◌, ℕ, List, length, sym, subst, arith}
+use Rattle.std.proofs.Common.{◌≤◌, ◌+◌, ℕ, List, length, sym, ◌∙◌, subst, arith}
 use Rattle.slt_grammar.specs.Grammars.{value}
 use Rattle.slt_grammar.specs.Keyed.{rules_of}
 use Rattle.slt_grammar.specs.Standing.{StandsFor}
 use Rattle.slt_grammar.specs.declared.level.Level.{Level}
 use Rattle.segment_counts.specs.Changes.{HasMore}
 use Rattle.path_isolation.specs.Isolations.{room_along}
-use Rattle.tree_updates.specs.CodePlaces.{LeadToPlace, places_in}
+use Rattle.tree_updates.specs.CodePlaces.{LeadToPlace}
 use Rattle.tree_updates.proofs.GrownStores.{all-come, grown-more, grown-stands, nodes-come, rank-fits, texts-come}
-use Rattle.tree_updates.proofs.IsolatedPlaces.{places-coded}
 use Rattle.tree_updates.proofs.growing.put_in.Goals as goal
 
-pub way_to_place-way-requires-clause-counts : goal.way_to_place-way-requires-clause-counts
-way_to_place-way-requires-clause-counts g c = let r = c.requires.store in (c.args.store.now.names, r.2.counts)
-
-pub way_to_place-way-requires-clause-low : goal.way_to_place-way-requires-clause-low
-way_to_place-way-requires-clause-low g c =
-    let a = c.args.store.now in
-    let r = c.requires.store in
-    omega (arith, r.3.place, places-coded a.names a.grammar.rules r.0 r.2.stand.code)
-
 pub wrap_place-requires-clause-leads : goal.wrap_place-requires-clause-leads
-wrap_place-requires-clause-leads g c =
-    let a = c.args.store.now in
-    let r = c.requires.store in
-    let low : c.args.growth.site.place < places_in a.grammar.rules = omega (arith, r.3.place, places-coded a.names a.grammar.rules r.0 r.2.stand.code) in
-    (c.args.growth.site.place, record { located = c.way_to_place-way.ensures.levels; low = low })
+wrap_place-requires-clause-leads g c = let L = c.requires.spot in (c.args.growth.site.place, record { located = c.way.ensures ∙ L.located; low = L.low })
 
 pub wrap_place-requires-clause-body : goal.wrap_place-requires-clause-body
 wrap_place-requires-clause-body g c = let r = c.requires.store in (r.3.front, r.3.body)
@@ -32,12 +18,12 @@ wrap_place-requires-clause-body g c = let r = c.requires.store in (r.3.front, r.
 pub wrap_place-requires-clause-room : goal.wrap_place-requires-clause-room
 wrap_place-requires-clause-room g c =
     let G = c.args.store.now.grammar in
-    subst (λ (ls : List Level). room_along G.rules ls + length c.args.growth.body ≤ G.spare_nodes) (sym c.way_to_place-way.ensures.levels) c.requires.nodes
+    subst (λ (ls : List Level). room_along G.rules ls + length c.args.growth.body ≤ G.spare_nodes) (sym (c.way.ensures ∙ c.requires.spot.located)) c.requires.nodes
 
 pub wrap_place-requires-clause-links : goal.wrap_place-requires-clause-links
 wrap_place-requires-clause-links g c =
     let G = c.args.store.now.grammar in
-    subst (λ (ls : List Level). room_along G.rules ls + length c.args.growth.body ≤ c.args.store.now.index.spare_links) (sym c.way_to_place-way.ensures.levels) c.requires.links
+    subst (λ (ls : List Level). room_along G.rules ls + length c.args.growth.body ≤ c.args.store.now.index.spare_links) (sym (c.way.ensures ∙ c.requires.spot.located)) c.requires.links
 
 pub insert-requires : goal.insert-requires
 insert-requires g c =
@@ -68,8 +54,7 @@ returns-clause-store g c = λ t u s x.
     let a = c.args.store.now in
     let G = rules_of a.grammar.rules in
     let H = rules_of c.wrap_place.new.grammar.rules in
-    let low : c.args.growth.site.place < places_in a.grammar.rules = omega (arith, x.place, places-coded a.names a.grammar.rules t s.stand.code) in
-    let lead : LeadToPlace a.grammar.rules _ c.args.growth.site.place = record { located = c.way_to_place-way.ensures.levels; low = low } in
+    let lead : LeadToPlace a.grammar.rules _ c.args.growth.site.place = record { located = c.way.ensures ∙ c.requires.spot.located; low = c.requires.spot.low } in
     let around = c.wrap_place.ensures.value c.args.growth.site.place x.front lead x.body in
     let texts = rw c.unwrap.ensures at c.insert.ensures.texts in
     let more = grown-more G H a.names a.texts.texts t u s.stand c.args.growth x around in

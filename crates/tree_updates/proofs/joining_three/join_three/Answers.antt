@@ -3,15 +3,10 @@ use Rattle.std.specs.Prelude.{slice_set}
 use Rattle.std.proofs.lemmas.Option.{slice_get_within}
 use Rattle.plain_tree.specs.declared.edit.Edit.TheVariants.{Delete}
 use Rattle.plain_tree.specs.Edits.{placed}
-use Rattle.slt_grammar.specs.declared.level.Level.{Level}
-use Rattle.path_isolation.specs.Chains.{IsChain}
-use Rattle.path_isolation.specs.Isolations.{room_along}
-use Rattle.path_isolation.proofs.Walks.{room-few}
 use Rattle.tree_updates.specs.Stores.{IsStoreFor}
 use Rattle.tree_updates.proofs.JoinedThrees.{added-there, before-there, comes-to-edited, delete-leaves, here-extent, here-there, is-there, place-some, three-is, valued, valued-three}
 use Rattle.tree_updates.proofs.LeavingDocuments.{unswept}
 use Rattle.tree_updates.proofs.NodeExtents.{extent-is}
-use Rattle.tree_updates.proofs.Numbered.{spot-numbered}
 use Rattle.tree_updates.proofs.joining_three.join_three.Goals as goal
 
 pub overflow_sub-rank : goal.overflow_sub-rank
@@ -35,40 +30,30 @@ unwrap-here-requires g c =
     let r = c.requires.between in
     is-there c.get-2.result r.3.here (c.get-2.ensures ∙ here-there c.args.store.now r.0 r.2 c.args.number c.args.rank r.1 c.args.added.now r.3)
 
-pub nodes_along-nodes-requires-clause-chain : goal.nodes_along-nodes-requires-clause-chain
-nodes_along-nodes-requires-clause-chain g c =
-    let a = c.args.store.now in
-    let q = c.requires.spot in
-    let N = spot-numbered q.0 a.grammar c.limit-limit.ensures.keyed c.args.number c.args.spot.now q.1 in
-    (N.places, subst (λ (ls : List Level). IsChain a.grammar.rules ls N.places) (sym c.way.ensures) N.chain)
-
-pub reserve_room-requires : goal.reserve_room-requires
-reserve_room-requires g c =
-    let a = c.args.store.now in
-    let K = c.limit-limit.ensures.keyed in
-    let q = c.requires.spot in
-    let N = spot-numbered q.0 a.grammar K c.args.number c.args.spot.now q.1 in
-    let f = room-few a.grammar.rules c.args.spot.now.levels.items N.places (record { grammar = K.grammar; arities = K.arities }) N.chain in
-    record { few = omega (arith, f, K.few, c.nodes_along-nodes.ensures.value, ap (room_along a.grammar.rules) c.way.ensures) }
-
 pub set-requires-clause-place : goal.set-requires-clause-place
 set-requires-clause-place g c =
     let r = c.requires.between in
     let a = c.args.store.now in
     let w = slice_get_within a.texts.texts (c.args.rank - 1) r.3.before (before-there a r.0 r.2 c.args.number c.args.rank r.1 c.args.added.now r.3) in
-    omega (arith, w, ap (λ (xs : List (List ℕ)). length xs) c.reserve.ensures.texts, ap (λ (xs : List (List ℕ)). length xs) c.reserve_room.ensures.texts)
+    omega (arith, w, ap (λ (xs : List (List ℕ)). length xs) c.reserve_at.ensures.texts)
+
+pub take_out-requires-clause-room : goal.take_out-requires-clause-room
+take_out-requires-clause-room g c = omega (arith, c.in_ok-reserve_at.ensures.nodes)
+
+pub take_out-requires-clause-links : goal.take_out-requires-clause-links
+take_out-requires-clause-links g c = omega (arith, c.in_ok-reserve_at.ensures.links)
 
 pub take_out-requires-clause-store : goal.take_out-requires-clause-store
 take_out-requires-clause-store g c =
     let r = c.requires.between in
     let a = c.args.store.now in
     let n = c.args.number in
-    let s = c.reserve_room.new.store in
+    let s = c.reserve_at.new.store in
     let v = three-is a r.0 r.2 n c.args.rank r.1 c.args.added.now r.3 c.get.result c.value_at.result c.get-2.result c.unwrap-before.result c.unwrap-text.result c.unwrap-here.result c.unwrap-before.ensures c.unwrap-text.ensures c.unwrap-here.ensures
     c.get.ensures c.value_at.ensures c.get-2.ensures in
-    let texts = c.set.ensures.texts ∙ ap (λ (xs : List (List ℕ)). slice_set xs (c.args.rank - 1) c.in_ok-value.value) c.reserve.ensures.texts ∙ ap (slice_set s.texts.texts (c.args.rank - 1)) (c.in_ok-value.ensures ∙ v) in (
+    let texts = c.set.ensures.texts ∙ ap (slice_set s.texts.texts (c.args.rank - 1)) (c.in_ok-value.ensures ∙ v) in (
       valued a r.0 r.2 n c.args.rank r.1 c.args.added.now r.3,
-      valued-three a r.0 r.2 n c.args.rank r.1 c.args.added.now r.3 s (unswept s r.0 (c.reserve_room.ensures.store r.0 r.2)) c.set.new.self texts,
+      valued-three a r.0 r.2 n c.args.rank r.1 c.args.added.now r.3 s (unswept s r.0 (c.reserve_at.ensures.store r.0 r.2)) c.set.new.self texts,
       extent-is c.text_extent.result c.text_extent.ensures (here-extent a r.0 r.2 n c.args.rank r.1 c.args.added.now r.3),
       delete-leaves a r.0 r.2 n c.args.rank r.1 c.args.added.now r.3,
     )
@@ -78,12 +63,12 @@ sweep-requires g c =
     let r = c.requires.between in
     let a = c.args.store.now in
     let n = c.args.number in
-    let s = c.reserve_room.new.store in
+    let s = c.reserve_at.new.store in
     let v = three-is a r.0 r.2 n c.args.rank r.1 c.args.added.now r.3 c.get.result c.value_at.result c.get-2.result c.unwrap-before.result c.unwrap-text.result c.unwrap-here.result c.unwrap-before.ensures c.unwrap-text.ensures c.unwrap-here.ensures
     c.get.ensures c.value_at.ensures c.get-2.ensures in
-    let texts = c.set.ensures.texts ∙ ap (λ (xs : List (List ℕ)). slice_set xs (c.args.rank - 1) c.in_ok-value.value) c.reserve.ensures.texts ∙ ap (slice_set s.texts.texts (c.args.rank - 1)) (c.in_ok-value.ensures ∙ v) in
+    let texts = c.set.ensures.texts ∙ ap (slice_set s.texts.texts (c.args.rank - 1)) (c.in_ok-value.ensures ∙ v) in
     let one = valued a r.0 r.2 n c.args.rank r.1 c.args.added.now r.3 in
-    let u = valued-three a r.0 r.2 n c.args.rank r.1 c.args.added.now r.3 s (unswept s r.0 (c.reserve_room.ensures.store r.0 r.2)) c.set.new.self texts in
+    let u = valued-three a r.0 r.2 n c.args.rank r.1 c.args.added.now r.3 s (unswept s r.0 (c.reserve_at.ensures.store r.0 r.2)) c.set.new.self texts in
     record {
       store = (placed one (Delete n), c.take_out.ensures.store one u (extent-is c.text_extent.result c.text_extent.ensures (here-extent a r.0 r.2 n c.args.rank r.1 c.args.added.now r.3)) (delete-leaves a r.0 r.2 n c.args.rank r.1 c.args.added.now r.3));
     }
@@ -92,11 +77,11 @@ pub returns-clause-store : goal.returns-clause-store
 returns-clause-store g c = λ t F i M.
     let a = c.args.store.now in
     let n = c.args.number in
-    let s = c.reserve_room.new.store in
+    let s = c.reserve_at.new.store in
     let v = three-is a t i n c.args.rank F c.args.added.now M c.get.result c.value_at.result c.get-2.result c.unwrap-before.result c.unwrap-text.result c.unwrap-here.result c.unwrap-before.ensures c.unwrap-text.ensures c.unwrap-here.ensures c.get.ensures
     c.value_at.ensures c.get-2.ensures in
-    let texts = c.set.ensures.texts ∙ ap (λ (xs : List (List ℕ)). slice_set xs (c.args.rank - 1) c.in_ok-value.value) c.reserve.ensures.texts ∙ ap (slice_set s.texts.texts (c.args.rank - 1)) (c.in_ok-value.ensures ∙ v) in
+    let texts = c.set.ensures.texts ∙ ap (slice_set s.texts.texts (c.args.rank - 1)) (c.in_ok-value.ensures ∙ v) in
     let one = valued a t i n c.args.rank F c.args.added.now M in
-    let u = valued-three a t i n c.args.rank F c.args.added.now M s (unswept s t (c.reserve_room.ensures.store t i)) c.set.new.self texts in
+    let u = valued-three a t i n c.args.rank F c.args.added.now M s (unswept s t (c.reserve_at.ensures.store t i)) c.set.new.self texts in
     subst (IsStoreFor c.sweep.new.store) (comes-to-edited a t i n c.args.rank F c.args.added.now M)
     (c.sweep.ensures.store (placed one (Delete n)) (c.take_out.ensures.store one u (extent-is c.text_extent.result c.text_extent.ensures (here-extent a t i n c.args.rank F c.args.added.now M)) (delete-leaves a t i n c.args.rank F c.args.added.now M)))

@@ -1,5 +1,5 @@
 -- The texts of a document without the nodes that are hit, where texts that meet are one.
-use Rattle.std.proofs.Common.{◌≡◌, ℕ, suc, ◌+◌, ◌&&◌, List, [], ◌∷◌, ◌++◌, length, Bool, true, false, Some, None, slice_get, if◌then◌else◌, refl, sym, ap, ◌∙◌, arith, append-nil, length-append}
+use Rattle.std.proofs.Common.{◌≡◌, ℕ, suc, ◌+◌, ◌&&◌, List, [], ◌∷◌, ◌++◌, length, Bool, true, false, Some, slice_get, if◌then◌else◌, refl, sym, ap, ◌∙◌, arith, append-nil, length-append}
 use Rattle.plain_tree.specs.declared.kind.Kind.{Kind}
 use Rattle.plain_tree.specs.declared.kind.Kind.TheVariants.{Document, Element, Attribute, Text, Comment, Instruction}
 use Rattle.plain_tree.specs.Tree.{node, Trees, none, more, node_count_all}
@@ -13,7 +13,7 @@ use Rattle.slt_grammar.specs.Terms.{Term, Leaf, Node, Hole, up}
 use Rattle.slt_grammar.specs.declared.automata.Fell.{Fell}
 use Rattle.slt_grammar.proofs.Standing.{own, texts_all-more}
 use Rattle.bulk_rewrite.specs.Numbered.{AreHits}
-use Rattle.bulk_rewrite.specs.Joining.{Before, NoText, JustText, GapText, gapped, is_gap, is_text, Marked, gives_way, before_rest, Rests, begins_met, joined_rests, kept_rests, behind_mark, gap_of}
+use Rattle.bulk_rewrite.specs.Joining.{Before, NoText, JustText, GapText, gapped, is_gap, is_text, Marked, Lost, At, gives_way, before_rest, Rests, begins_met, joined_rests, kept_rests, behind_mark, gap_of}
 use Rattle.bulk_rewrite.specs.Fates.{Fate, Stays, Joins, Drops, fate_of, one_fate, fates, Redone, redone_one, redone, met_front}
 use Rattle.bulk_rewrite.proofs.Numbered.{hits-here, hits-below, hits-after}
 use Rattle.bulk_rewrite.proofs.Trees.{count-code}
@@ -124,13 +124,13 @@ stays-own Text value xs vs r e = ap (redone_one Stays value) e ∙ ap (λ v. rec
 
 -- what becomes of the values of a node, of those below it and of those behind it
 fates-node : {D : Type 0} (hit : Bool) (m : Before) (gap : Bool) (kind : Kind) (name value : List ℕ) (l : D) (below : Marked D → List Fate) (behind : Before → List Fate) (vs ws : List (List ℕ)) (kids : Trees) (K : Bool → Rests)
-    → ((o : Marked D) → length (below o) ≡ length vs) → AllDrop (below None) → (is_text kind ≡ true → (vs ≡ []) × (kids ≡ none) × ((o : Marked D) → below o ≡ []))
-    → redone (below (Some (l, NoText))) vs ≡ record { front = []; values = texts_all kids } → ((m' : Before) (g : Bool) → redone (behind m') ws ≡ redone_of m' (K (gap_of m' g)))
-    → redone (one_fate (has_value kind) (if hit then Drops else (if is_text kind && is_gap m then Joins else Stays)) ++ (below (if gives_way hit (is_text kind) m then None else Some (l, NoText)) ++ behind (before_rest hit (is_text kind) m))) (own kind value ++ (vs ++ ws))
+    → ((o : Marked D) → length (below o) ≡ length vs) → AllDrop (below Lost) → (is_text kind ≡ true → (vs ≡ []) × (kids ≡ none) × ((o : Marked D) → below o ≡ []))
+    → redone (below (At l NoText)) vs ≡ record { front = []; values = texts_all kids } → ((m' : Before) (g : Bool) → redone (behind m') ws ≡ redone_of m' (K (gap_of m' g)))
+    → redone (one_fate (has_value kind) (if hit then Drops else (if is_text kind && is_gap m then Joins else Stays)) ++ (below (if gives_way hit (is_text kind) m then Lost else At l NoText) ++ behind (before_rest hit (is_text kind) m))) (own kind value ++ (vs ++ ws))
     ≡ redone_of m (if hit then K true else (gap_of m gap, node kind name value kids) ∷ K false)
 fates-node true m gap kind name value l below behind vs ws kids K len lost plain first rest =
-    redone-drops (one_fate (has_value kind) Drops) (below None ++ behind (gapped m)) (own kind value) (vs ++ ws) (one-drop (has_value kind)) (length-own kind value Drops)
-    ∙ redone-drops (below None) (behind (gapped m)) vs ws lost (len None) ∙ by_mark m
+    redone-drops (one_fate (has_value kind) Drops) (below Lost ++ behind (gapped m)) (own kind value) (vs ++ ws) (one-drop (has_value kind)) (length-own kind value Drops)
+    ∙ redone-drops (below Lost) (behind (gapped m)) vs ws lost (len Lost) ∙ by_mark m
   where
     by_mark : (m : Before) → redone (behind (gapped m)) ws ≡ redone_of m (K true)
     by_mark NoText = rest NoText true
@@ -138,35 +138,35 @@ fates-node true m gap kind name value l below behind vs ws kids K len lost plain
     by_mark GapText = rest GapText true
 fates-node false NoText gap Text name value l below behind vs ws kids K len lost plain first rest =
     let p = plain refl in
-    rw (p.2 (Some (l, NoText)), p.0, p.1) (ap (redone_one Stays value) (rest JustText false) ∙ stays-text NoText gap name value (K false) refl)
+    rw (p.2 (At l NoText), p.0, p.1) (ap (redone_one Stays value) (rest JustText false) ∙ stays-text NoText gap name value (K false) refl)
 fates-node false JustText gap Text name value l below behind vs ws kids K len lost plain first rest =
     let p = plain refl in
-    rw (p.2 (Some (l, NoText)), p.0, p.1) (ap (redone_one Stays value) (rest JustText false) ∙ stays-text JustText gap name value (K false) refl)
+    rw (p.2 (At l NoText), p.0, p.1) (ap (redone_one Stays value) (rest JustText false) ∙ stays-text JustText gap name value (K false) refl)
 fates-node false GapText gap Text name value l below behind vs ws kids K len lost plain first rest =
     let p = plain refl in
-    rw (p.2 None, p.0, p.1) (ap (redone_one Joins value) (rest JustText false) ∙ joins-text name value none (K false))
+    rw (p.2 Lost, p.0, p.1) (ap (redone_one Joins value) (rest JustText false) ∙ joins-text name value none (K false))
 fates-node false m gap Document name value l below behind vs ws kids K len lost plain first rest =
-    let b : Marked _ = Some (l, NoText) in
+    let b : Marked _ = At l NoText in
     let j = redone-append (below b) (behind NoText) vs ws (len b) (ap (λ (r : Redone). r.front) (rest NoText false)) in
     let f : redone (below b ++ behind NoText) (vs ++ ws) ≡ record { front = []; values = texts_all kids ++ texts_all (joined_rests (K false)) } = j ∙ same-redone _ _ (ap (λ (r : Redone). r.front) first) (ap (λ (r : Redone). r.values ++ (redone (behind NoText) ws).values) first ∙ ap (λ (r : Redone). texts_all kids ++ r.values) (rest NoText false)) in
     stays-own Document value (below b ++ behind NoText) (vs ++ ws) (texts_all kids ++ texts_all (joined_rests (K false))) f ∙ sym (stays-node m gap Document name value kids (K false) refl)
 fates-node false m gap Element name value l below behind vs ws kids K len lost plain first rest =
-    let b : Marked _ = Some (l, NoText) in
+    let b : Marked _ = At l NoText in
     let j = redone-append (below b) (behind NoText) vs ws (len b) (ap (λ (r : Redone). r.front) (rest NoText false)) in
     let f : redone (below b ++ behind NoText) (vs ++ ws) ≡ record { front = []; values = texts_all kids ++ texts_all (joined_rests (K false)) } = j ∙ same-redone _ _ (ap (λ (r : Redone). r.front) first) (ap (λ (r : Redone). r.values ++ (redone (behind NoText) ws).values) first ∙ ap (λ (r : Redone). texts_all kids ++ r.values) (rest NoText false)) in
     stays-own Element value (below b ++ behind NoText) (vs ++ ws) (texts_all kids ++ texts_all (joined_rests (K false))) f ∙ sym (stays-node m gap Element name value kids (K false) refl)
 fates-node false m gap Attribute name value l below behind vs ws kids K len lost plain first rest =
-    let b : Marked _ = Some (l, NoText) in
+    let b : Marked _ = At l NoText in
     let j = redone-append (below b) (behind NoText) vs ws (len b) (ap (λ (r : Redone). r.front) (rest NoText false)) in
     let f : redone (below b ++ behind NoText) (vs ++ ws) ≡ record { front = []; values = texts_all kids ++ texts_all (joined_rests (K false)) } = j ∙ same-redone _ _ (ap (λ (r : Redone). r.front) first) (ap (λ (r : Redone). r.values ++ (redone (behind NoText) ws).values) first ∙ ap (λ (r : Redone). texts_all kids ++ r.values) (rest NoText false)) in
     stays-own Attribute value (below b ++ behind NoText) (vs ++ ws) (texts_all kids ++ texts_all (joined_rests (K false))) f ∙ sym (stays-node m gap Attribute name value kids (K false) refl)
 fates-node false m gap Comment name value l below behind vs ws kids K len lost plain first rest =
-    let b : Marked _ = Some (l, NoText) in
+    let b : Marked _ = At l NoText in
     let j = redone-append (below b) (behind NoText) vs ws (len b) (ap (λ (r : Redone). r.front) (rest NoText false)) in
     let f : redone (below b ++ behind NoText) (vs ++ ws) ≡ record { front = []; values = texts_all kids ++ texts_all (joined_rests (K false)) } = j ∙ same-redone _ _ (ap (λ (r : Redone). r.front) first) (ap (λ (r : Redone). r.values ++ (redone (behind NoText) ws).values) first ∙ ap (λ (r : Redone). texts_all kids ++ r.values) (rest NoText false)) in
     stays-own Comment value (below b ++ behind NoText) (vs ++ ws) (texts_all kids ++ texts_all (joined_rests (K false))) f ∙ sym (stays-node m gap Comment name value kids (K false) refl)
 fates-node false m gap Instruction name value l below behind vs ws kids K len lost plain first rest =
-    let b : Marked _ = Some (l, NoText) in
+    let b : Marked _ = At l NoText in
     let j = redone-append (below b) (behind NoText) vs ws (len b) (ap (λ (r : Redone). r.front) (rest NoText false)) in
     let f : redone (below b ++ behind NoText) (vs ++ ws) ≡ record { front = []; values = texts_all kids ++ texts_all (joined_rests (K false)) } = j ∙ same-redone _ _ (ap (λ (r : Redone). r.front) first) (ap (λ (r : Redone). r.values ++ (redone (behind NoText) ws).values) first ∙ ap (λ (r : Redone). texts_all kids ++ r.values) (rest NoText false)) in
     stays-own Instruction value (below b ++ behind NoText) (vs ++ ws) (texts_all kids ++ texts_all (joined_rests (K false))) f ∙ sym (stays-node m gap Instruction name value kids (K false) refl)
@@ -175,24 +175,24 @@ module _ {S D : Type 0} (A : Algebra S) (W : Downward S D) (states : List S) (na
   abbrev fates_at : Term → Marked D → List Fate
   fates_at t o = fates A W valued texts t states o
 
-  lost-drops : (t : Term) → AllDrop (fates_at t None)
+  lost-drops : (t : Term) → AllDrop (fates_at t Lost)
   lost-drops Leaf = tt
   lost-drops (Hole i) = tt
-  lost-drops (Node f a b) = drop-append (one_fate (valued f) Drops) (fates_at a None ++ fates_at b None) (one-drop (valued f)) (drop-append (fates_at a None) (fates_at b None) (lost-drops a) (lost-drops b))
+  lost-drops (Node f a b) = drop-append (one_fate (valued f) Drops) (fates_at a Lost ++ fates_at b Lost) (one-drop (valued f)) (drop-append (fates_at a Lost) (fates_at b Lost) (lost-drops a) (lost-drops b))
 
   -- each value has its fate
   pub length-fates : (ts : Trees) (term : Term) (o : Marked D) → Codes names ts term → length (fates_at term o) ≡ length (texts_all ts)
   length-fates none term o c = rw c refl
-  length-fates (more (node kind name value kids) ts) term None (f, below, behind, at, cb, cr, e) =
-      let a = length-fates kids below None cb in
-      let b = length-fates ts behind None cr in
+  length-fates (more (node kind name value kids) ts) term Lost (f, below, behind, at, cb, cr, e) =
+      let a = length-fates kids below Lost cb in
+      let b = length-fates ts behind Lost cr in
       let v : length (one_fate (valued f) Drops) ≡ length (own kind value) = rw (values f kind name at) (length-own kind value Drops) in
-      rw (e, texts_all-more kind name value kids ts) (omega (arith, v, a, b, length-append (one_fate (valued f) Drops) (fates_at below None ++ fates_at behind None), length-append (fates_at below None) (fates_at behind None), length-append (own kind value) (texts_all kids ++ texts_all ts), length-append (texts_all kids) (texts_all ts)))
-  length-fates (more (node kind name value kids) ts) term (Some (d, m)) (f, below, behind, at, cb, cr, e) =
+      rw (e, texts_all-more kind name value kids ts) (omega (arith, v, a, b, length-append (one_fate (valued f) Drops) (fates_at below Lost ++ fates_at behind Lost), length-append (fates_at below Lost) (fates_at behind Lost), length-append (own kind value) (texts_all kids ++ texts_all ts), length-append (texts_all kids) (texts_all ts)))
+  length-fates (more (node kind name value kids) ts) term (At d m) (f, below, behind, at, cb, cr, e) =
       let s : Fell D = W.step f d (up A below states) (up A behind states) in
-      let l : Marked D = if gives_way s.hit (texts f) m then None else Some (s.left, NoText) in
-      let r : Marked D = Some (s.right, before_rest s.hit (texts f) m) in
-      let x : Fate = fate_of (Some (d, m)) s.hit (texts f) in
+      let l : Marked D = if gives_way s.hit (texts f) m then Lost else At s.left NoText in
+      let r : Marked D = At s.right (before_rest s.hit (texts f) m) in
+      let x : Fate = fate_of (At d m) s.hit (texts f) in
       let a = length-fates kids below l cb in
       let b = length-fates ts behind r cr in
       let v : length (one_fate (valued f) x) ≡ length (own kind value) = rw (values f kind name at) (length-own kind value x) in
@@ -209,7 +209,7 @@ module _ {S D : Type 0} (A : Algebra S) (W : Downward S D) (states : List S) (na
   no-kids Instruction kids below k n c e = absurd (cc)
 
   -- the new texts are those of what is left of trees, where texts that meet are one
-  pub texts-joined : (ts : Trees) (term : Term) (n : ℕ) (d : D) (m : Before) (gap : Bool) → Codes names ts term → AreHits A W taken n term states d → AreLawfulTrees ts → redone (fates_at term (Some (d, m))) (texts_all ts) ≡ redone_of m (kept_rests taken n (gap_of m gap) ts)
+  pub texts-joined : (ts : Trees) (term : Term) (n : ℕ) (d : D) (m : Before) (gap : Bool) → Codes names ts term → AreHits A W taken n term states d → AreLawfulTrees ts → redone (fates_at term (At d m)) (texts_all ts) ≡ redone_of m (kept_rests taken n (gap_of m gap) ts)
   texts-joined none term n d m gap c h law = rw c (redone-none m)
   texts-joined (more (node kind name value kids) ts) term n d m gap (f, below, behind, at, cb, cr, e) h law =
       let s : Fell D = W.step f d (up A below states) (up A behind states) in
@@ -219,9 +219,9 @@ module _ {S D : Type 0} (A : Algebra S) (W : Downward S D) (states : List S) (na
       let z : next ≡ suc n + nodes_in below = (let k = count-code names kids below cb in omega arith) in
       let K : Bool → Rests = λ g. kept_rests taken next g ts in
       let inner : Trees = joined_rests (kept_rests taken (suc n) false kids) in
-      let rest : (m' : Before) (g : Bool) → redone (fates_at behind (Some (s.right, m'))) (texts_all ts) ≡ redone_of m' (K (gap_of m' g)) = λ m' g. rw z (texts-joined ts behind (suc n + nodes_in below) s.right m' g cr (hits-after A W states taken n f below behind d h') law.1) in
-      let first : redone (fates_at below (Some (s.left, NoText))) (texts_all kids) ≡ record { front = []; values = texts_all inner } = texts-joined kids below (suc n) s.left NoText false cb (hits-below A W states taken n f below behind d h') law.0.2 in
+      let rest : (m' : Before) (g : Bool) → redone (fates_at behind (At s.right m')) (texts_all ts) ≡ redone_of m' (K (gap_of m' g)) = λ m' g. rw z (texts-joined ts behind (suc n + nodes_in below) s.right m' g cr (hits-after A W states taken n f below behind d h') law.1) in
+      let first : redone (fates_at below (At s.left NoText)) (texts_all kids) ≡ record { front = []; values = texts_all inner } = texts-joined kids below (suc n) s.left NoText false cb (hits-below A W states taken n f below behind d h') law.0.2 in
       let plain = no-kids kind kids below law.0.1 (suc n) cb in
-      let found : redone (fates_at (Node f below behind) (Some (d, m))) (own kind value ++ (texts_all kids ++ texts_all ts)) ≡ redone_of m (kept_rests taken n (gap_of m gap) (more (node kind name value kids) ts)) =
-      rw (here, values f kind name at, known f kind name at) (fates-node s.hit m gap kind name value s.left (λ o. fates_at below o) (λ b. fates_at behind (Some (s.right, b))) (texts_all kids) (texts_all ts) inner K (λ o. length-fates kids below o cb) (lost-drops below) plain first rest) in
-      ap (redone (fates_at term (Some (d, m)))) (texts_all-more kind name value kids ts) ∙ ap (λ t. redone (fates_at t (Some (d, m))) (own kind value ++ (texts_all kids ++ texts_all ts))) e ∙ found
+      let found : redone (fates_at (Node f below behind) (At d m)) (own kind value ++ (texts_all kids ++ texts_all ts)) ≡ redone_of m (kept_rests taken n (gap_of m gap) (more (node kind name value kids) ts)) =
+      rw (here, values f kind name at, known f kind name at) (fates-node s.hit m gap kind name value s.left (λ o. fates_at below o) (λ b. fates_at behind (At s.right b)) (texts_all kids) (texts_all ts) inner K (λ o. length-fates kids below o cb) (lost-drops below) plain first rest) in
+      ap (redone (fates_at term (At d m))) (texts_all-more kind name value kids ts) ∙ ap (λ t. redone (fates_at t (At d m)) (own kind value ++ (texts_all kids ++ texts_all ts))) e ∙ found

@@ -4,12 +4,12 @@ pub mod Values
 pub mod Grammars
 pub mod Numbered
 pub mod Trees
-pub mod Joining
+pub mod JoinedCodes
 pub mod Fates
 pub mod Refusals
 pub mod Documents
 pub mod Standings
-pub mod Sparing
+pub mod Spared
 pub mod Walking
 pub mod Waits
 pub mod Placed
@@ -25,3 +25,6 @@ pub mod KnownNames
 pub mod FirstFound
 pub mod LackingKinds
 pub mod FirstLacking
+pub mod DeletingAll
+pub mod Tags
+pub mod Redone

@@ -32,7 +32,7 @@ use Rattle.bulk_rewrite.specs.Rewriting.{Rewriting, IsLawful, rewritten}
 use Rattle.bulk_rewrite.proofs.Bodies.{made-few}
 use Rattle.bulk_rewrite.proofs.GrowingNames.{interns-in, pair_with}
 use Rattle.bulk_rewrite.proofs.HitSymbols.{Each, IsOf, each-hit, hit-each, hit_symbols, hits-coded, taken-append}
-use Rattle.bulk_rewrite.proofs.Sparing.{refuses-none, none-where-allowed}
+use Rattle.bulk_rewrite.proofs.Spared.{refuses-none, none-where-allowed}
 use Rattle.bulk_rewrite.proofs.Standings.{stands-renamed}
 use Rattle.bulk_rewrite.proofs.Trees.{count-code}
 use Rattle.bulk_rewrite.proofs.Zips.{zip-at}

@@ -16,10 +16,10 @@ use Rattle.slt_grammar.proofs.Standing.{own, texts_all-more}
 use Rattle.bulk_rewrite.specs.Rewriting.{rewritten}
 use Rattle.bulk_rewrite.specs.Numbered.{has, AllHit}
 use Rattle.bulk_rewrite.specs.Renaming.{renaming, renamed, renamed_all}
-use Rattle.bulk_rewrite.specs.Joining.{NoText, is_text, joining_run, joining, kept_rests, joined_rests, deleted, MayDelete}
+use Rattle.bulk_rewrite.specs.Joining.{NoText, At, is_text, joining_run, joining, kept_rests, joined_rests, deleted, MayDelete}
 use Rattle.bulk_rewrite.specs.Fates.{fates, redone, Redone}
 use Rattle.bulk_rewrite.proofs.Trees.{codes-renamed, Changes}
-use Rattle.bulk_rewrite.proofs.Joining.{codes-joined}
+use Rattle.bulk_rewrite.proofs.JoinedCodes.{codes-joined}
 use Rattle.bulk_rewrite.proofs.Fates.{texts-joined}
 use Rattle.bulk_rewrite.proofs.Documents.{document-deleted}
 
@@ -69,18 +69,18 @@ module _ {S D : Type 0} (A : Algebra S) (W : Downward S D) (G H : List Rule) (na
   root-kept (node kind name value kids) m = m.0
 
   pub stands-deleted : (valued texts_at : ℕ → Bool) → ((f : ℕ) (kind : Kind) (name : List ℕ) → slice_get names f ≡ Some (kind, name) → valued f ≡ has_value kind) → ((f : ℕ) (kind : Kind) (name : List ℕ) → slice_get names f ≡ Some (kind, name) → texts_at f ≡ is_text kind)
-      → MayDelete taken t → value H ≡ rewritten A (joining_run W texts_at) (joining texts_at) (value G) [] (Some (W.start, NoText))
-      → StandsFor H names (redone (fates A W valued texts_at (value G) [] (Some (W.start, NoText))) values).values (deleted taken 0 t)
+      → MayDelete taken t → value H ≡ rewritten A (joining_run W texts_at) (joining texts_at) (value G) [] (At W.start NoText)
+      → StandsFor H names (redone (fates A W valued texts_at (value G) [] (At W.start NoText)) values).values (deleted taken 0 t)
   stands-deleted valued texts_at are_values are_texts may made =
       let one = one-kept t st.document (root-kept t may) in
       let code = codes-joined A W [] names taken texts_at are_texts (more t none) (value G) 0 W.start NoText false st.code (λ k low high. refl) in
       let lawful : IsLawfulTree t = st.document.lawful in
       let words = texts-joined A W [] names taken valued texts_at are_values are_texts (more t none) (value G) 0 W.start NoText false st.code (λ k low high. refl) (lawful, tt) in
-      let F = fates A W valued texts_at (value G) [] (Some (W.start, NoText)) in
+      let F = fates A W valued texts_at (value G) [] (At W.start NoText) in
       record {
         document = document-deleted taken t st.document may;
         distinct = st.distinct;
         lawful = st.lawful;
-        code = rw made (subst (λ ts. Codes names ts (rewritten A (joining_run W texts_at) (joining texts_at) (value G) [] (Some (W.start, NoText)))) one code);
+        code = rw made (subst (λ ts. Codes names ts (rewritten A (joining_run W texts_at) (joining texts_at) (value G) [] (At W.start NoText))) one code);
         texts = ap (λ vs. (redone F vs).values) (st.texts ∙ sym (texts-one t)) ∙ ap (λ (r : Redone). r.values) words ∙ ap texts_all one ∙ texts-one (deleted taken 0 t);
       }

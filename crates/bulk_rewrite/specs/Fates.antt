@@ -1,20 +1,16 @@
 -- What becomes of the texts of a document whose nodes are taken out.
-use Rattle.std.specs.Prelude.{ℕ, ◌&&◌, List, [], ◌∷◌, ◌++◌, Bool, true, false, Some, None, if◌then◌else◌}
+use Rattle.std.specs.Prelude.{ℕ, ◌&&◌, List, [], ◌∷◌, ◌++◌, Bool, true, false, if◌then◌else◌}
 use Rattle.plain_tree.specs.Joined.{front_text}
 use Rattle.slt_grammar.specs.Algebras.{Algebra}
 use Rattle.slt_grammar.specs.Automata.{Downward}
 use Rattle.slt_grammar.specs.Terms.{Term, Leaf, Node, Hole, up}
-use Rattle.bulk_rewrite.specs.Joining.{Before, NoText, JustText, GapText, is_gap, Marked, step_joining, Rests, begins_met, joined_rests}
-
--- a text stays, or goes to the end of the text before it, or is dropped
-pub data Fate : Type 0 where
-  Stays : Fate
-  Joins : Fate
-  Drops : Fate
+use Rattle.bulk_rewrite.specs.Joining.{Before, NoText, JustText, GapText, is_gap, Marked, Lost, At, step_joining, Rests, begins_met, joined_rests}
+pub use Rattle.bulk_rewrite.specs.declared.tagging.Fate.{Fate}
+pub use Rattle.bulk_rewrite.specs.declared.tagging.Fate.TheVariants.{Stays, Joins, Drops}
 
 abbrev pub fate_of : {D : Type 0} → Marked D → Bool → Bool → Fate
-fate_of None hit text = Drops
-fate_of (Some (d, m)) hit text = if hit then Drops else (if text && is_gap m then Joins else Stays)
+fate_of Lost hit text = Drops
+fate_of (At d m) hit text = if hit then Drops else (if text && is_gap m then Joins else Stays)
 
 abbrev pub one_fate : Bool → Fate → List Fate
 one_fate true x = x ∷ []

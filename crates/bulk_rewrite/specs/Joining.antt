@@ -1,18 +1,20 @@
 -- Nodes that are taken out, where texts that meet become one.
-use Rattle.std.specs.Prelude.{◌≡◌, ℕ, suc, ◌+◌, ◌&&◌, List, [], ◌∷◌, Bool, true, false, Option, Some, None, is_none, if◌then◌else◌}
+use Rattle.std.specs.Prelude.{◌≡◌, ℕ, suc, ◌+◌, ◌&&◌, List, [], ◌∷◌, Bool, true, false, Option, Some, None, slice_index_or, if◌then◌else◌}
 use Rattle.plain_tree.specs.declared.kind.Kind.{Kind}
 use Rattle.plain_tree.specs.declared.kind.Kind.TheVariants.{Document, Element, Attribute, Text, Comment, Instruction}
+use Rattle.plain_tree.specs.Numbers.{has_value}
 use Rattle.plain_tree.specs.Tree.{Tree, node, Trees, none, more, node_count, node_count_all}
 use Rattle.plain_tree.specs.Joined.{behind_text, join_front}
 use Rattle.slt_grammar.specs.Automata.{Downward}
 use Rattle.slt_grammar.specs.declared.automata.Fell.{Fell}
 use Rattle.bulk_rewrite.specs.Rewriting.{Rewriting}
-
--- the nearest kept sibling before: no text, a text, or a text with a node taken out since
-pub data Before : Type 0 where
-  NoText : Before
-  JustText : Before
-  GapText : Before
+pub use Rattle.bulk_rewrite.specs.declared.joining.Before.{Before}
+pub use Rattle.bulk_rewrite.specs.declared.joining.Before.TheVariants.{NoText, JustText, GapText}
+pub use Rattle.bulk_rewrite.specs.declared.joining.Marked.{Marked}
+pub use Rattle.bulk_rewrite.specs.declared.joining.Marked.TheVariants.{Lost, At}
+pub use Rattle.bulk_rewrite.specs.declared.sparing.Depth.{Depth}
+pub use Rattle.bulk_rewrite.specs.declared.sparing.Depth.TheVariants.{AtTop, AtRoot, Below}
+pub use Rattle.bulk_rewrite.specs.declared.sparing.AtDepth.{AtDepth}
 
 -- a node is taken out
 abbrev pub gapped : Before → Before
@@ -33,9 +35,10 @@ is_text Attribute = false
 is_text Comment = false
 is_text Instruction = false
 
--- a down state with what stands before
-abbrev pub Marked : Type 0 → Type 0
-Marked D = Option (D × Before)
+-- it stands below a node that is taken out
+abbrev pub is_lost : {D : Type 0} → Marked D → Bool
+is_lost Lost = true
+is_lost (At d m) = false
 
 -- whether a node gives way to what is behind it: it is hit, or a text that meets the text before
 abbrev pub gives_way : Bool → Bool → Before → Bool
@@ -48,24 +51,24 @@ before_rest hit text m = if hit then gapped m else (if text then JustText else N
 abbrev pub joining_step : {D : Type 0} → Bool → Before → Fell D → Fell (Marked D)
 joining_step text m s = record {
   hit = s.hit;
-  left = if gives_way s.hit text m then None else Some (s.left, NoText);
-  right = Some (s.right, before_rest s.hit text m);
+  left = if gives_way s.hit text m then Lost else At s.left NoText;
+  right = At s.right (before_rest s.hit text m);
 }
 
 module _ {S D : Type 0} (W : Downward S D) (texts : ℕ → Bool) where
   abbrev pub step_joining : ℕ → Marked D → S → S → Fell (Marked D)
-  step_joining f None k r = record { hit = false; left = None; right = None }
-  step_joining f (Some (d, m)) k r = joining_step (texts f) m (W.step f d k r)
+  step_joining f Lost k r = record { hit = false; left = Lost; right = Lost }
+  step_joining f (At d m) k r = joining_step (texts f) m (W.step f d k r)
 
   abbrev pub joining_run : Downward S (Marked D)
-  joining_run = record { start = Some (W.start, NoText); step = step_joining }
+  joining_run = record { start = At W.start NoText; step = step_joining }
 
 abbrev pub kept_symbol : {D : Type 0} → (ℕ → Bool) → ℕ → Marked D → Bool → Option ℕ
-kept_symbol texts f None hit = None
-kept_symbol texts f (Some (d, m)) hit = if gives_way hit (texts f) m then None else Some f
+kept_symbol texts f Lost hit = None
+kept_symbol texts f (At d m) hit = if gives_way hit (texts f) m then None else Some f
 
 abbrev pub joining : {D : Type 0} → (ℕ → Bool) → Rewriting (Marked D)
-joining texts = record { lost = λ o. is_none o; becomes = kept_symbol texts }
+joining texts = record { lost = is_lost; becomes = kept_symbol texts }
 
 -- trees that are kept, each with whether a node was taken out since the one before it
 abbrev pub Rests : Type 0
@@ -129,12 +132,6 @@ is_element Text = false
 is_element Comment = false
 is_element Instruction = false
 
--- where a node stands: it is the document, among the document's kids, or below
-pub data Depth : Type 0 where
-  AtTop : Depth
-  AtRoot : Depth
-  Below : Depth
-
 abbrev pub deeper : Depth → Depth
 deeper AtTop = AtRoot
 deeper AtRoot = Below
@@ -147,8 +144,18 @@ must_stay AtRoot element = element
 must_stay Below element = false
 
 -- the run that hits what is hit and must stay
-abbrev pub sparing_run : {S D : Type 0} → Downward S D → (ℕ → Bool) → Downward S (D × Depth)
+abbrev pub sparing_run : {S D : Type 0} → Downward S D → (ℕ → Bool) → Downward S (AtDepth D)
 sparing_run W elements = record {
-  start = (W.start, AtTop);
-  step = λ f o k r. let s = W.step f o.0 k r in record { hit = s.hit && must_stay o.1 (elements f); left = (s.left, deeper o.1); right = (s.right, o.1) };
+  start = record { down = W.start; depth = AtTop };
+  step = λ f o k r. let s = W.step f o.down k r in record { hit = s.hit && must_stay o.depth (elements f); left = record { down = s.left; depth = deeper o.depth }; right = record { down = s.right; depth = o.depth } };
 }
+
+-- which symbols are of texts, which of elements, and which of nodes with a value, by the kinds of the first symbols
+abbrev pub texts_in : List Kind → ℕ → Bool
+texts_in kinds f = is_text (slice_index_or kinds f Document)
+
+abbrev pub elements_in : List Kind → ℕ → Bool
+elements_in kinds f = is_element (slice_index_or kinds f Document)
+
+abbrev pub valued_in : List Kind → ℕ → Bool
+valued_in kinds f = has_value (slice_index_or kinds f Document)

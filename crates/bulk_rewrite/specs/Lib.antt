@@ -4,11 +4,14 @@ pub mod Numbered
 pub mod Renaming
 pub mod Joining
 pub mod Fates
+pub mod Tags
+pub mod Redoing
 pub mod Refusing
 pub mod SameStates
 pub mod FirstHits
 pub mod NewNames
 pub mod RenamedAll
+pub mod DeletedAll
 pub mod Lawful
 pub mod Frames
 pub mod Laws

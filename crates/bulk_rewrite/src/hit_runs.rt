@@ -47,7 +47,7 @@ pub(crate) fn first_hit<A: Falling, L: Ledger>(
 }
 
 // No down state from which nothing is hit is known.
-fn unspent<'a, D>() -> Option<&'a Spent<'a, D>>
+pub(crate) fn unspent<'a, D>() -> Option<&'a Spent<'a, D>>
     ensures { result ≡ None }
 {
     None

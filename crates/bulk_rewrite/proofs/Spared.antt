@@ -86,7 +86,7 @@ module _ {S D : Type 0} (A : Algebra S) (W : Downward S D) (names : List (Kind �
 
   module _ (elements : ℕ → Bool) (known : (f : ℕ) (kind : Kind) (n : List ℕ) → slice_get names f ≡ Some (kind, n) → elements f ≡ is_element kind) where
     abbrev Spared : Term → D → Depth → Type 0
-    Spared u d m = NoneHit A (sparing_run W elements) u [] (d, m)
+    Spared u d m = NoneHit A (sparing_run W elements) u [] (record { down = d; depth = m })
 
     below-spared : (u : Term) (d : D) → Spared u d Below
     below-spared Leaf d = tt
@@ -154,7 +154,7 @@ module _ {S D : Type 0} (A : Algebra S) (W : Downward S D) (names : List (Kind �
 
     -- the run that spares hits nothing exactly where neither the document nor its root is taken
     pub spares-none : hits A (sparing_run W elements) term ≡ [] → MayDelete hit_there t
-    spares-none e = by_tree t doc code (hits-none A (sparing_run W elements) [] term 0 (W.start, AtTop) e)
+    spares-none e = by_tree t doc code (hits-none A (sparing_run W elements) [] term 0 (record { down = W.start; depth = AtTop }) e)
       where
         by_tree : (u : Tree) → IsDocument u → Codes names (more u none) term → Spared term W.start AtTop → MayDelete hit_there u
         by_tree (node Document old value kids) d (f, below, behind, at, cb, cr, e) free =
@@ -172,7 +172,7 @@ module _ {S D : Type 0} (A : Algebra S) (W : Downward S D) (names : List (Kind �
         by_tree (node Instruction old value kids) d c free = let f = d.is_document in absurd (cc)
 
     pub none-where-stays : MayDelete hit_there t → hits A (sparing_run W elements) term ≡ []
-    none-where-stays m = none-hits A (sparing_run W elements) [] term 0 (W.start, AtTop) (by_tree t doc code m)
+    none-where-stays m = none-hits A (sparing_run W elements) [] term 0 (record { down = W.start; depth = AtTop }) (by_tree t doc code m)
       where
         start-hits : AreHits A W hit_there 0 term [] W.start
         start-hits k low high = refl

@@ -11,7 +11,7 @@ use Rattle.slt_grammar.specs.Terms.{Term, Leaf, Node, up}
 use Rattle.slt_grammar.specs.declared.automata.Fell.{Fell}
 use Rattle.bulk_rewrite.specs.Rewriting.{rewritten, placed}
 use Rattle.bulk_rewrite.specs.Numbered.{AreHits}
-use Rattle.bulk_rewrite.specs.Joining.{Before, NoText, JustText, GapText, is_gap, is_text, Marked, gives_way, before_rest, joining_run, joining, Rests, begins_met, joined_rests, kept_rests, behind_met, behind_mark, gap_of}
+use Rattle.bulk_rewrite.specs.Joining.{Before, NoText, JustText, GapText, is_gap, is_text, Marked, Lost, At, gives_way, before_rest, joining_run, joining, Rests, begins_met, joined_rests, kept_rests, behind_met, behind_mark, gap_of}
 use Rattle.bulk_rewrite.proofs.Numbered.{hits-here, hits-below, hits-after}
 use Rattle.bulk_rewrite.proofs.Trees.{count-code}
 
@@ -59,26 +59,26 @@ module _ (names : List (Kind × List ℕ)) where
 
   -- what is left of a node and what is behind it
   joined-node : {D : Type 0} (hit : Bool) (m : Before) (gap : Bool) (f : ℕ) (l : D) (below : Marked D → Term) (behind : Before → Term) (kind : Kind) (name value : List ℕ) (kids : Trees) (K : Bool → Rests) → slice_get names f ≡ Some (kind, name)
-      → Codes names kids (below (Some (l, NoText))) → ((m' : Before) (g : Bool) → Codes names (behind_mark m' (K (gap_of m' g))) (behind m'))
-      → Codes names (behind_mark m (if hit then K true else (gap_of m gap, node kind name value kids) ∷ K false)) (placed (if gives_way hit (is_text kind) m then None else Some f) (below (if gives_way hit (is_text kind) m then None else Some (l, NoText))) (behind (before_rest hit (is_text kind) m)))
+      → Codes names kids (below (At l NoText)) → ((m' : Before) (g : Bool) → Codes names (behind_mark m' (K (gap_of m' g))) (behind m'))
+      → Codes names (behind_mark m (if hit then K true else (gap_of m gap, node kind name value kids) ∷ K false)) (placed (if gives_way hit (is_text kind) m then None else Some f) (below (if gives_way hit (is_text kind) m then Lost else At l NoText)) (behind (before_rest hit (is_text kind) m)))
   joined-node true NoText gap f l below behind kind name value kids K at first rest = rest NoText true
   joined-node true JustText gap f l below behind kind name value kids K at first rest = rest GapText true
   joined-node true GapText gap f l below behind kind name value kids K at first rest = rest GapText true
-  joined-node false NoText gap f l below behind Text name value kids K at first rest = more-code NoText gap f (below (Some (l, NoText))) (behind JustText) Text name value kids (K false) at refl first (rest JustText false)
-  joined-node false JustText gap f l below behind Text name value kids K at first rest = more-code JustText gap f (below (Some (l, NoText))) (behind JustText) Text name value kids (K false) at refl first (rest JustText false)
+  joined-node false NoText gap f l below behind Text name value kids K at first rest = more-code NoText gap f (below (At l NoText)) (behind JustText) Text name value kids (K false) at refl first (rest JustText false)
+  joined-node false JustText gap f l below behind Text name value kids K at first rest = more-code JustText gap f (below (At l NoText)) (behind JustText) Text name value kids (K false) at refl first (rest JustText false)
   joined-node false GapText gap f l below behind Text name value kids K at first rest = met-code (behind JustText) name value kids (K false) (rest JustText false)
-  joined-node false m gap f l below behind Document name value kids K at first rest = more-code m gap f (below (Some (l, NoText))) (behind NoText) Document name value kids (K false) at refl first (rest NoText false)
-  joined-node false m gap f l below behind Element name value kids K at first rest = more-code m gap f (below (Some (l, NoText))) (behind NoText) Element name value kids (K false) at refl first (rest NoText false)
-  joined-node false m gap f l below behind Attribute name value kids K at first rest = more-code m gap f (below (Some (l, NoText))) (behind NoText) Attribute name value kids (K false) at refl first (rest NoText false)
-  joined-node false m gap f l below behind Comment name value kids K at first rest = more-code m gap f (below (Some (l, NoText))) (behind NoText) Comment name value kids (K false) at refl first (rest NoText false)
-  joined-node false m gap f l below behind Instruction name value kids K at first rest = more-code m gap f (below (Some (l, NoText))) (behind NoText) Instruction name value kids (K false) at refl first (rest NoText false)
+  joined-node false m gap f l below behind Document name value kids K at first rest = more-code m gap f (below (At l NoText)) (behind NoText) Document name value kids (K false) at refl first (rest NoText false)
+  joined-node false m gap f l below behind Element name value kids K at first rest = more-code m gap f (below (At l NoText)) (behind NoText) Element name value kids (K false) at refl first (rest NoText false)
+  joined-node false m gap f l below behind Attribute name value kids K at first rest = more-code m gap f (below (At l NoText)) (behind NoText) Attribute name value kids (K false) at refl first (rest NoText false)
+  joined-node false m gap f l below behind Comment name value kids K at first rest = more-code m gap f (below (At l NoText)) (behind NoText) Comment name value kids (K false) at refl first (rest NoText false)
+  joined-node false m gap f l below behind Instruction name value kids K at first rest = more-code m gap f (below (At l NoText)) (behind NoText) Instruction name value kids (K false) at refl first (rest NoText false)
 
 module _ {S D : Type 0} (A : Algebra S) (W : Downward S D) (states : List S) (names : List (Kind × List ℕ)) (taken texts : ℕ → Bool) (known : (f : ℕ) (kind : Kind) (name : List ℕ) → slice_get names f ≡ Some (kind, name) → texts f ≡ is_text kind) where
   abbrev left : Term → Marked D → Term
   left t o = rewritten A (joining_run W texts) (joining texts) t states o
 
   -- the code of what is left of trees, where the nodes that are hit are taken out and texts that meet are one
-  pub codes-joined : (ts : Trees) (term : Term) (n : ℕ) (d : D) (m : Before) (gap : Bool) → Codes names ts term → AreHits A W taken n term states d → Codes names (behind_mark m (kept_rests taken n (gap_of m gap) ts)) (left term (Some (d, m)))
+  pub codes-joined : (ts : Trees) (term : Term) (n : ℕ) (d : D) (m : Before) (gap : Bool) → Codes names ts term → AreHits A W taken n term states d → Codes names (behind_mark m (kept_rests taken n (gap_of m gap) ts)) (left term (At d m))
   codes-joined none term n d m gap c h = rw c (none-code names m)
   codes-joined (more (node kind name value kids) ts) term n d m gap (f, below, behind, at, cb, cr, e) h =
       let s : Fell D = W.step f d (up A below states) (up A behind states) in
@@ -87,8 +87,8 @@ module _ {S D : Type 0} (A : Algebra S) (W : Downward S D) (states : List S) (na
       let next : ℕ = n + (node_count_all kids + 1) in
       let z : next ≡ suc n + nodes_in below = (let k = count-code names kids below cb in omega arith) in
       let K : Bool → Rests = λ g. kept_rests taken next g ts in
-      let rest : (m' : Before) (g : Bool) → Codes names (behind_mark m' (K (gap_of m' g))) (left behind (Some (s.right, m'))) = λ m' g. rw z (codes-joined ts behind (suc n + nodes_in below) s.right m' g cr (hits-after A W states taken n f below behind d h')) in
-      let first : Codes names (joined_rests (kept_rests taken (suc n) false kids)) (left below (Some (s.left, NoText))) = codes-joined kids below (suc n) s.left NoText false cb (hits-below A W states taken n f below behind d h') in
-      let found : Codes names (behind_mark m (kept_rests taken n (gap_of m gap) (more (node kind name value kids) ts))) (left (Node f below behind) (Some (d, m))) =
-      rw (here, known f kind name at) (joined-node names s.hit m gap f s.left (λ o. left below o) (λ b. left behind (Some (s.right, b))) kind name value (joined_rests (kept_rests taken (suc n) false kids)) K at first rest) in
-      subst (λ t. Codes names (behind_mark m (kept_rests taken n (gap_of m gap) (more (node kind name value kids) ts))) (left t (Some (d, m)))) (sym e) found
+      let rest : (m' : Before) (g : Bool) → Codes names (behind_mark m' (K (gap_of m' g))) (left behind (At s.right m')) = λ m' g. rw z (codes-joined ts behind (suc n + nodes_in below) s.right m' g cr (hits-after A W states taken n f below behind d h')) in
+      let first : Codes names (joined_rests (kept_rests taken (suc n) false kids)) (left below (At s.left NoText)) = codes-joined kids below (suc n) s.left NoText false cb (hits-below A W states taken n f below behind d h') in
+      let found : Codes names (behind_mark m (kept_rests taken n (gap_of m gap) (more (node kind name value kids) ts))) (left (Node f below behind) (At d m)) =
+      rw (here, known f kind name at) (joined-node names s.hit m gap f s.left (λ o. left below o) (λ b. left behind (At s.right b)) kind name value (joined_rests (kept_rests taken (suc n) false kids)) K at first rest) in
+      subst (λ t. Codes names (behind_mark m (kept_rests taken n (gap_of m gap) (more (node kind name value kids) ts))) (left t (At d m))) (sym e) found

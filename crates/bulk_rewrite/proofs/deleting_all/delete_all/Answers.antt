@@ -1,0 +1,47 @@
+use Rattle.std.proofs.Common.{subst, ◌∙◌}
+use Rattle.slt_grammar.specs.Grammars.{value}
+use Rattle.slt_grammar.specs.Keyed.{rules_of}
+use Rattle.bulk_rewrite.specs.Joining.{joining, joining_run, texts_in}
+use Rattle.bulk_rewrite.specs.Lawful.{joining-lawful}
+use Rattle.bulk_rewrite.specs.Making.{AreFew}
+use Rattle.bulk_rewrite.proofs.DeletingAll.{all-deleted, may-spared, spared-may}
+use Rattle.bulk_rewrite.proofs.RenamingAll.{few-made, few-nodes}
+use Rattle.bulk_rewrite.proofs.deleting_all.delete_all.Goals as goal
+
+pub spares-requires : goal.spares-requires
+spares-requires g c =
+    let r = c.requires.stands in
+    record { run = c.in_ok-risen.ensures.run; small = few-nodes c.args.names.now (value (rules_of c.args.grammar.now.rules)) r.0 r.1.code r.2 }
+
+pub take_out-requires : goal.take_out-requires
+take_out-requires g c =
+    let r = c.requires.stands in
+    record { run = c.in_ok-risen.ensures.run; small = few-nodes c.args.names.now (value (rules_of c.args.grammar.now.rules)) r.0 r.1.code r.2 }
+
+pub returns-then-not-spared-clause-refused : goal.returns-then-not-spared-clause-refused
+returns-then-not-spared-clause-refused g c = λ t st may.
+    let A = g.A.Rising.algebra c.args.automaton.now in
+    let W = g.A.Falling.downward c.args.automaton.now in
+    let h = c.in_ok-spared.ensures.1 (may-spared A W (rules_of c.args.grammar.now.rules) c.args.names.now c.args.texts.now.texts t st c.as_slice-kinds.result.now (c.as_slice-kinds.ensures.value ∙ c.in_ok-table.ensures) may) in
+    let no = c.if-not-spared.true in
+    absurd (cc)
+
+pub returns-in-Ok-clause-deleted : goal.returns-in-Ok-clause-deleted
+returns-in-Ok-clause-deleted g c = λ t st.
+    let A = g.A.Rising.algebra c.args.automaton.now in
+    let W = g.A.Falling.downward c.args.automaton.now in
+    let G = rules_of c.args.grammar.now.rules in
+    let kinds = c.as_slice-kinds.result.now in
+    let are = c.as_slice-kinds.ensures.value ∙ c.in_ok-table.ensures in
+    let new = c.in-Ok.ensures in
+    all-deleted A W G c.args.names.now c.args.texts.now.texts t st kinds are (rules_of c.in-Ok.new.grammar.rules) c.in-Ok.new.texts.texts (spared-may A W G c.args.names.now c.args.texts.now.texts t st kinds are (c.in_ok-spared.ensures.0 c.if-not-spared.false)) new.value new.texts
+
+pub returns-in-Ok-clause-few : goal.returns-in-Ok-clause-few
+returns-in-Ok-clause-few g c =
+    let A = g.A.Rising.algebra c.args.automaton.now in
+    let W = g.A.Falling.downward c.args.automaton.now in
+    let G = rules_of c.args.grammar.now.rules in
+    let H = rules_of c.in-Ok.new.grammar.rules in
+    let kinds = c.as_slice-kinds.result.now in
+    let few = few-made A (joining_run W (texts_in kinds)) G c.rules-rules.ensures.grammar (joining (texts_in kinds)) (joining-lawful W (texts_in kinds)) H c.in-Ok.ensures.made in
+    subst (λ ks. AreFew A (joining_run W (texts_in ks)) G H) (c.as_slice-kinds.ensures.value ∙ c.in_ok-table.ensures) few

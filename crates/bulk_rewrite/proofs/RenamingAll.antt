@@ -119,6 +119,12 @@ gets-names old new name symbols keeps z (f ∷ fs) (node k o v ks ∷ ss) a i =
 one-tree : (t : Tree) → nodes_all (more t none) ≡ nodes t
 one-tree t = append-nil (nodes t)
 
+-- the pairs of nodes that may be renamed are lawful
+pub renamed-lawful : (numbers name : List ℕ) (t : Tree) → MayRename numbers name t → AreLawful (renamed_pairs numbers name t)
+renamed-lawful numbers name t may =
+    pairs-lawful name (nodes_with numbers t)
+    (subst (λ ns. All (λ s. IsLawfulName (kind_of s) name) (taken_nodes (has numbers) 0 ns)) (one-tree t) (taken-lawful (has numbers) name 0 (more t none) (may.document.lawful, tt)))
+
 module _ {S D : Type 0} (A : Algebra S) (W : Downward S D) where
   -- the symbols that are hit are those of the nodes with these numbers
   pub hits-of-tree : (names : List Pair) (term : Term) (t : Tree) → Codes names (more t none) term → AllZip (IsOf names) (hit_symbols A W [] term W.start) (nodes_with (hits A W term) t)
@@ -143,9 +149,6 @@ module _ {S D : Type 0} (A : Algebra S) (W : Downward S D) where
     abbrev M : List ℕ
     M = hits A W (value G)
 
-    may-lawful : (u : Tree) → AreLawfulTrees (renamed_all (has M) name 0 (more u none)) → AreLawful (renamed_pairs M name u)
-    may-lawful u l = pairs-lawful name (nodes_with M u) (subst (λ ns. All (λ s. IsLawfulName (kind_of s) name) (taken_nodes (has M) 0 ns)) (one-tree u) (taken-lawful (has M) name 0 (more u none) l))
-
     pub all-renamed : MayRename M name t → Interns names (renamed_pairs M name t) new → AllZip (IsRenamedSymbol new name) new symbols → value H ≡ rewritten A W (renaming (λ f. slice_index_or symbols f f)) (value G) [] W.start → AreRenamed M name names new H values t
     all-renamed may come z made =
         let keeps = Interns-keeps names (renamed_pairs M name t) new come in
@@ -154,7 +157,7 @@ module _ {S D : Type 0} (A : Algebra S) (W : Downward S D) where
         record {
           allowed = may;
           stand = stands-renamed A W G H names values t st new name change keeps (Interns-distinct names (renamed_pairs M name t) new come st.distinct)
-              (Interns-lawful names (renamed_pairs M name t) new come st.lawful (may-lawful t (may.document.lawful, tt)))
+              (Interns-lawful names (renamed_pairs M name t) new come st.lawful (renamed-lawful M name t may))
               (each-hit A W [] (GetsName names new name change) (value G) W.start each) may.document made;
           names = come;
         }

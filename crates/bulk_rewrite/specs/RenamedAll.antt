@@ -1,5 +1,5 @@
 -- Documents all of whose nodes with some numbers are renamed.
-use Rattle.std.specs.Prelude.{◌≡◌, ℕ, suc, List, [], ◌∷◌, ◌++◌, Bool, true, All, map, take, if◌then◌else◌}
+use Rattle.std.specs.Prelude.{◌≡◌, ◌⊎◌, ℕ, suc, List, [], ◌∷◌, ◌++◌, Bool, true, All, map, take, if◌then◌else◌}
 use Rattle.plain_tree.specs.Lawful.{IsDocument}
 use Rattle.plain_tree.specs.NodePairs.{Pair}
 use Rattle.plain_tree.specs.Numbers.{kind_of, nodes}
@@ -38,7 +38,8 @@ pub record AreRenamed (numbers name : List ℕ) (old new : List Pair) (H : List 
   pub stand : StandsFor H new values (renamed (has numbers) name 0 t)
   pub names : Interns old (renamed_pairs numbers name t) new
 
--- Why the nodes are not renamed, and what becomes of the names then: some first ones of the pairs may have come where memory was wanting.
+-- Why the nodes are not renamed, and what becomes of the names then: where memory was wanting they are as before, or the nodes may be renamed
+-- and some first ones of the pairs have come.
 abbrev pub IsRefusedFor : BulkError → List ℕ → List ℕ → List Pair → List Pair → Tree → Type 0
 IsRefusedFor NotAllowed numbers name old new t = (MayRename numbers name t → ⊥) × (new ≡ old)
-IsRefusedFor Memory numbers name old new t = (k : ℕ) × Interns old (take k (renamed_pairs numbers name t)) new
+IsRefusedFor Memory numbers name old new t = (new ≡ old) ⊎ (MayRename numbers name t × ((k : ℕ) × Interns old (take k (renamed_pairs numbers name t)) new))

@@ -50,7 +50,7 @@ impl From<AllocError> for BulkError {
 ///
 /// There is one rule for each rule, states of its arguments and down state that a run downward meets, no larger than the rule that it comes
 /// from, whatever the number of hits. The names grow by the pairs of the kinds of these nodes with the name, in document order. It is refused
-/// for want of memory at any time, and some first ones of the pairs may be in the table then.
+/// for want of memory at any time, and some first ones of the pairs may be in the table then if the nodes may be renamed.
 pub fn rename_all<A: Falling, L: Ledger>(
     alloc: Global,
     grammar: &Grammar,

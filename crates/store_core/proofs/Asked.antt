@@ -6,7 +6,8 @@ use Rattle.std.proofs.lemmas.Bool.{cases_lt}
 use Rattle.std.proofs.lemmas.List.{length-map, map-append}
 use Rattle.std.proofs.lemmas.Option.{same_Some}
 use Rattle.plain_tree.specs.Tree.{Tree}
-use Rattle.slt_grammar.specs.Automata.{nodes_in}
+use Rattle.slt_grammar.specs.Algebras.{Algebra}
+use Rattle.slt_grammar.specs.Automata.{Downward, nodes_in}
 use Rattle.slt_grammar.specs.Grammars.{value}
 use Rattle.slt_grammar.specs.declared.rules.Rule.{Rule}
 use Rattle.segment_counts.specs.Weights.{node_weight}
@@ -16,6 +17,9 @@ use Rattle.rule_runs.specs.declared.listing.Hit.{Hit}
 use Rattle.rule_runs.proofs.Answering.{of-listed}
 use Rattle.rule_runs.proofs.Lists.{all-split}
 use Rattle.rule_runs.proofs.Sizes.{nodes-weigh}
+use Rattle.selecting_automaton.specs.Bounds.{HasFewStates}
+use Rattle.selecting_automaton.specs.declared.states.Up.{Up}
+use Rattle.selecting_automaton.specs.declared.states.Down.{Down}
 use Rattle.selecting_automaton.specs.Sizes.{parts_inside, steps_outside}
 use Rattle.selecting_automaton.proofs.QuerySizes.{inside-meant, outside-meant}
 use Rattle.tree_outside.specs.Outside.{Gets, GetsFront}
@@ -28,7 +32,7 @@ use Rattle.xpath_parser.specs.Trees.{Paths}
 use Rattle.xpath_parser.specs.Queries as queries
 use Rattle.xpath_parser.specs.declared.error.QueryError.{QueryError}
 use Rattle.xpath_parser.specs.declared.error.QueryError.TheVariants as error
-use Rattle.store_core.specs.Acts.{Act, Query, Count, query_asked}
+use Rattle.store_core.specs.Acts.{Act, Query, Count, RenameAll, DeleteAll, query_asked}
 use Rattle.store_core.specs.Errors.{IsNoQuery, SaysOfQuery}
 use Rattle.store_core.specs.Machine.{Comes, Queries, Counts, PrintsFirst, Refuses}
 use Rattle.store_core.specs.Printed.{Gathers, hit_line, hit_lines}
@@ -54,6 +58,8 @@ some-held (Some h) parts held = refl
 pub asks_ready : (act : Act) (query : List ℕ) (parts : Parts) (old : World) → query_asked act ≡ Some query → parts_in old.state ≡ Some parts → IsReady act old
 asks_ready (Query q) query parts old asked held = record { document = λ needs. some-held old.state parts held; file = λ name same. absurd (cc) }
 asks_ready (Count q) query parts old asked held = record { document = λ needs. some-held old.state parts held; file = λ name same. absurd (cc) }
+asks_ready (RenameAll name q) query parts old asked held = record { document = λ needs. some-held old.state parts held; file = λ name same. absurd (cc) }
+asks_ready (DeleteAll q) query parts old asked held = record { document = λ needs. some-held old.state parts held; file = λ name same. absurd (cc) }
 asks_ready act query parts old asked held = absurd (cc)
 
 -- why the text is no query is a cause to refuse the command
@@ -89,16 +95,18 @@ pub within-outside : (bytes : List ℕ) (ps : Paths) (qs : queries.Paths) → Sp
 within-outside bytes ps qs spelled small same =
     rw (same, outside-meant bytes ps) (not_more (outside ps) (λ h. small (inl h)))
 
--- reads that are few for the query as it is written out are few for what was spelled
-pub reads-spelled : (bytes : List ℕ) (ps : Paths) (qs : queries.Paths) (G : List Rule) (before now : ℕ) → Spells bytes ps → qs ≡ meant_paths bytes ps → now ≤ before + most_reads G (parts_inside qs) (steps_outside qs) → now ≤ before + most_reads G (inside ps) (outside ps)
-reads-spelled bytes ps qs G before now spelled same h =
-    subst (λ (n : ℕ). now ≤ before + most_reads G n (outside ps)) (ap parts_inside same ∙ inside-meant bytes ps spelled)
-    (subst (λ (n : ℕ). now ≤ before + most_reads G (parts_inside qs) n) (ap steps_outside same ∙ outside-meant bytes ps) h)
+-- few states for the query as it is written out are few for what was spelled
+pub states-spelled : (bytes : List ℕ) (ps : Paths) (qs : queries.Paths) (A : Algebra Up) (W : Downward Up Down) → Spells bytes ps → qs ≡ meant_paths bytes ps → HasFewStates A W (parts_inside qs) (steps_outside qs) → HasFewStates A W (inside ps) (outside ps)
+states-spelled bytes ps qs A W spelled same h =
+    subst (λ (n : ℕ). HasFewStates A W n (outside ps)) (ap parts_inside same ∙ inside-meant bytes ps spelled)
+    (subst (λ (n : ℕ). HasFewStates A W (parts_inside qs) n) (ap steps_outside same ∙ outside-meant bytes ps) h)
 
 -- where the bytes are a query, its reads are few
-pub reads-found : (bytes : List ℕ) (ps : Paths) (qs : queries.Paths) (G : List Rule) (before now : ℕ) → SpellsOne → Spells bytes ps → qs ≡ meant_paths bytes ps → now ≤ before + most_reads G (parts_inside qs) (steps_outside qs) → ReadsFew bytes G before now
-reads-found bytes ps qs G before now one spelled same h = record {
-  few = λ paths other. reads-spelled bytes paths qs G before now other (same ∙ (one bytes ps paths spelled other).0) h;
+pub reads-found : (bytes : List ℕ) (ps : Paths) (G : List Rule) (before now : ℕ) → SpellsOne → Spells bytes ps → now ≤ before + most_reads G (inside ps) (outside ps) → ReadsFew bytes G before now
+reads-found bytes ps G before now one spelled h = record {
+  few = λ paths other.
+      let same = one bytes ps paths spelled other in
+      subst (λ (n : ℕ). now ≤ before + most_reads G n (outside paths)) same.2 (subst (λ (n : ℕ). now ≤ before + most_reads G (inside ps) n) same.1 h);
   none = λ never. absurd (never ps spelled);
 }
 

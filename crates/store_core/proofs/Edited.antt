@@ -40,6 +40,14 @@ held-store s t i g = record { tree = t; stand = i.stand; small = i.small; gramma
 pub counted-store : (s : Store) (t : Tree) → IsStoreFor s t → IsCounted s
 counted-store s t i = record { counts = i.counts; index = i.index }
 
+-- a store with the same rules and texts, and with other names
+pub held-still : (l : Loaded) (s : Store) (names : List Pair) → s.names ≡ names → rules_of s.grammar.rules ≡ rules_of l.store.grammar.rules → s.texts.texts ≡ l.store.texts.texts
+    → Some (held_of (record { store = s; edits = l.edits })) ≡ Some (record { parts = with_names (parts_of l.store) names; edits = l.edits })
+held-still l s names n g x =
+    ap (λ (ns : List Pair). Some (record { parts = record { names = ns; rules = rules_of s.grammar.rules; texts = s.texts.texts }; edits = l.edits })) n
+    ∙ ap (λ (G : List Rule). Some (record { parts = record { names = names; rules = G; texts = s.texts.texts }; edits = l.edits })) g
+    ∙ ap (λ (ts : List (List ℕ)). Some (record { parts = record { names = names; rules = rules_of l.store.grammar.rules; texts = ts }; edits = l.edits })) x
+
 -- an edit that a command asks for gives what is lawful
 pub asked-parts : (act : Act) (e : Edit) → AsksEdit act e → AreLawfulEditParts e
 asked-parts (Rename number name) e (is, same) = rw same is
@@ -121,7 +129,7 @@ module _ (settings : Settings) (act : Act) (is : IsEdit act) (l : Loaded) (told 
     where
       cause : (refusal : Refusal) → IsNoEdit refusal act total → Cause refusal act before before
       cause no.NoNode (number, asked, past) = (number, asked, record { parts = parts_of l.store; tree = t; held = refl; stand = i.stand; past = omega (arith, many, past) })
-      cause no.BadName ((number, asked, low), none) = ((number, asked, record { parts = parts_of l.store; tree = t; held = refl; stand = i.stand; there = omega (arith, many, low) }), none)
+      cause no.BadName ((number, asked, low), none) = (inl (number, asked, record { parts = parts_of l.store; tree = t; held = refl; stand = i.stand; there = omega (arith, many, low) }), none)
       cause no.BadFragment ((number, asked, low), none) = ((number, asked, record { parts = parts_of l.store; tree = t; held = refl; stand = i.stand; there = omega (arith, many, low) }), none)
       cause no.BadValue ((number, asked, low), none) = ((number, asked, record { parts = parts_of l.store; tree = t; held = refl; stand = i.stand; there = omega (arith, many, low) }), none)
       cause no.Memory why = ready-to-edit act (held_of l) told count is
@@ -155,32 +163,25 @@ module _ (settings : Settings) (act : Act) (is : IsEdit act) (l : Loaded) (told 
     abbrev after : Store → World
     after s = world (Some (held_of (record { store = s; edits = l.edits }))) told count
 
-    held-still : (s : Store) (names : List Pair) → s.names ≡ names → rules_of s.grammar.rules ≡ rules_of l.store.grammar.rules → s.texts.texts ≡ l.store.texts.texts
-        → Some (held_of (record { store = s; edits = l.edits })) ≡ Some (record { parts = with_names (parts_of l.store) names; edits = l.edits })
-    held-still s names n g x =
-        ap (λ (ns : List Pair). Some (record { parts = record { names = ns; rules = rules_of s.grammar.rules; texts = s.texts.texts }; edits = l.edits })) n
-        ∙ ap (λ (G : List Rule). Some (record { parts = record { names = names; rules = G; texts = s.texts.texts }; edits = l.edits })) g
-        ∙ ap (λ (ts : List (List ℕ)). Some (record { parts = record { names = names; rules = rules_of l.store.grammar.rules; texts = ts }; edits = l.edits })) x
-
     -- it was refused
     pub edit-refused : (s : Store) (err : EditError) → IsRefused t e err l.store s → Refuses act (refusal_of err) before [] (after s)
     edit-refused s (error.NoNode n) r = record {
       begins = begins-nothing act no.NoNode before is;
       cause = (number_of e, asked-node act e asked, record { parts = parts_of l.store; tree = t; held = refl; stand = i.stand; past = r.cause.1 });
-      leaves = inl (record { state = held-still s l.store.names r.names r.rules r.texts; files = Stays-refl (told_files told) });
+      leaves = inl (record { state = held-still l s l.store.names r.names r.rules r.texts; files = Stays-refl (told_files told) });
     }
     edit-refused s (error.NotAllowed kind) r = record {
       begins = begins-nothing act no.NotAllowed before is;
-      cause = (wants, r.cause.1);
-      leaves = inl (record { state = held-still s l.store.names r.names r.rules r.texts; files = Stays-refl (told_files told) });
+      cause = inl (wants, r.cause.1);
+      leaves = inl (record { state = held-still l s l.store.names r.names r.rules r.texts; files = Stays-refl (told_files told) });
     }
     edit-refused s error.TooMany r = record {
       begins = begins-nothing act no.TooMany before is;
       cause = inr (wants, r.cause.0, r.cause.1);
-      leaves = inl (record { state = held-still s l.store.names r.names r.rules r.texts; files = Stays-refl (told_files told) });
+      leaves = inl (record { state = held-still l s l.store.names r.names r.rules r.texts; files = Stays-refl (told_files told) });
     }
     edit-refused s error.Memory r = record {
       begins = begins-nothing act no.Memory before is;
       cause = ready-to-edit act (held_of l) told count is;
-      leaves = inr (refl, record { wants = wants; names = s.names; grown = r.names; state = held-still s s.names refl r.rules r.texts; files = Stays-refl (told_files told) });
+      leaves = inr (refl, inl (record { wants = wants; names = s.names; grown = r.names; state = held-still l s s.names refl r.rules r.texts; files = Stays-refl (told_files told) }));
     }

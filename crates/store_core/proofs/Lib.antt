@@ -15,6 +15,8 @@ pub mod Shown
 pub mod Printing
 pub mod Distinct
 pub mod Edited
+pub mod BulkCounts
+pub mod BulkEdits
 pub mod StatesWithin
 pub mod StateCounts
 pub mod Finding

@@ -30,6 +30,10 @@ pub data Act : Type 0 where
   Attr : (number : ℕ) (name bytes : List ℕ) → Act
   -- an equal node comes to stand before the node with this number, with all below it
   Copy : (number : ℕ) → Act
+  -- the nodes that the query selects get this name
+  RenameAll : (name query : List ℕ) → Act
+  -- they are deleted, with all below them
+  DeleteAll : (query : List ℕ) → Act
   -- the grammar is settled
   Repair : Act
   -- the document becomes the one that is made with so many records
@@ -80,12 +84,21 @@ node_asked act = None
 abbrev pub query_asked : Act → Option (List ℕ)
 query_asked (Query query) = Some query
 query_asked (Count query) = Some query
+query_asked (RenameAll name query) = Some query
+query_asked (DeleteAll query) = Some query
 query_asked act = None
 
--- the name that the command gives a node, or the attribute of one
+-- the query whose nodes it lists or counts
+abbrev pub query_answered : Act → Option (List ℕ)
+query_answered (Query query) = Some query
+query_answered (Count query) = Some query
+query_answered act = None
+
+-- the name that the command gives a node, the attribute of one, or all nodes of a query
 abbrev pub name_given : Act → Option (List ℕ)
 name_given (Rename number name) = Some name
 name_given (Attr number name bytes) = Some name
+name_given (RenameAll name query) = Some name
 name_given act = None
 
 -- the bytes of the nodes that it brings

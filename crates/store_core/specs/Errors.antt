@@ -6,6 +6,8 @@ use Rattle.xml_nodes.specs.Spelling.{SpellsList, SpellsValue}
 use Rattle.xml_profile.specs.declared.error.XmlError.{XmlError}
 use Rattle.xml_profile.specs.declared.error.XmlError.TheVariants as xml
 use Rattle.xml_profile.specs.Reading.{IsBad}
+use Rattle.bulk_rewrite.specs.declared.renaming_all.BulkError.{BulkError}
+use Rattle.bulk_rewrite.specs.declared.renaming_all.BulkError.TheVariants as bulk
 use Rattle.tree_updates.specs.declared.store.EditError.{EditError}
 use Rattle.tree_updates.specs.declared.store.EditError.TheVariants as edit
 use Rattle.grammar_file.specs.declared.error.FileError.{FileError}
@@ -64,6 +66,11 @@ refusal_of (edit.NoNode count) = no.NoNode
 refusal_of (edit.NotAllowed kind) = no.NotAllowed
 refusal_of edit.TooMany = no.TooMany
 refusal_of edit.Memory = no.Memory
+
+-- what an edit of all nodes of a query is told that is refused
+abbrev pub refusal_of_all : BulkError → Refusal
+refusal_of_all bulk.NotAllowed = no.NotAllowed
+refusal_of_all bulk.Memory = no.Memory
 
 -- why a name is not taken, and why no fragment and no value is read of bytes
 abbrev pub IsNoName : Refusal → List ℕ → Type 0

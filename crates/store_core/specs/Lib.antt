@@ -1,4 +1,6 @@
 pub mod Acts
+pub mod BulkEditing
+pub mod BulkStores
 pub mod CommandOf
 pub mod Editing
 pub mod Errors

@@ -14,7 +14,8 @@ use Rattle.slt_grammar.specs.Ranks.{greatest_rank}
 use Rattle.fcns_encoding.specs.Interning.{Interns, pairs_of_tree}
 use Rattle.record_generator.specs.Records.{generated}
 use Rattle.grammar_file.specs.FileBytes.{file_bytes}
-use Rattle.store_core.specs.Acts.{Act, Load, LoadGrammar, Save, SaveGrammar, Show, Query, Count, Rename, Insert, Append, Delete, Value, Attr, Copy, Repair, Generate}
+use Rattle.store_core.specs.Acts.{Act, Load, LoadGrammar, Save, SaveGrammar, Show, Query, Count, Rename, Insert, Append, Delete, Value, Attr, Copy, RenameAll, DeleteAll, Repair, Generate}
+use Rattle.store_core.specs.BulkEditing.{EditsAll, KeepsNamesOfAll}
 use Rattle.store_core.specs.Editing.{Edits, KeepsNames}
 use Rattle.store_core.specs.GrammarFiles.{IsFileOfDocument}
 use Rattle.store_core.specs.Selecting.{Selects}
@@ -157,6 +158,8 @@ Does settings (Delete number) old out new = Edits settings (Delete number) old o
 Does settings (Value number bytes) old out new = Edits settings (Value number bytes) old out new
 Does settings (Attr number name bytes) old out new = Edits settings (Attr number name bytes) old out new
 Does settings (Copy number) old out new = Edits settings (Copy number) old out new
+Does settings (RenameAll name query) old out new = EditsAll settings (RenameAll name query) old out new
+Does settings (DeleteAll query) old out new = EditsAll settings (DeleteAll query) old out new
 Does settings Repair old out new = Repairs settings.rank old out new
 Does settings (Generate records) old out new = Generates settings.rank records old out new
 
@@ -175,7 +178,7 @@ Begins act refusal old text = text ≡ []
 
 -- what a refused command leaves: all is as before, but that an edit which found no memory may leave names
 abbrev pub Leaves : Act → Refusal → World → World → Type 0
-Leaves act refusal old new = Same old new ⊎ ((refusal ≡ no.Memory) × KeepsNames act old new)
+Leaves act refusal old new = Same old new ⊎ ((refusal ≡ no.Memory) × (KeepsNames act old new ⊎ KeepsNamesOfAll act old new))
 
 -- the command is refused for this cause; it printed this text before its line
 pub record Refuses (act : Act) (refusal : Refusal) (old : World) (text : List ℕ) (new : World) : Type 0 where

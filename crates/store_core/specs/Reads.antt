@@ -6,7 +6,7 @@ use Rattle.slt_grammar.specs.declared.rules.Rule.{Rule}
 use Rattle.xpath_parser.specs.Limits.{inside, outside}
 use Rattle.xpath_parser.specs.Spelled.{Spells}
 use Rattle.xpath_parser.specs.Trees.{Paths}
-use Rattle.store_core.specs.Acts.{Act, query_asked}
+use Rattle.store_core.specs.Acts.{Act, query_answered}
 use Rattle.store_core.specs.Selecting.{SpellsNoQuery}
 use Rattle.store_core.specs.Worlds.{Parts, State, parts_in}
 
@@ -20,6 +20,6 @@ pub record ReadsFew (query : List ℕ) (G : List Rule) (before now : ℕ) : Type
   pub few : (paths : Paths) → Spells query paths → now ≤ before + most_reads G (inside paths) (outside paths)
   pub none : SpellsNoQuery query → now ≡ before
 
--- a command that asks for the nodes of a query takes so few reads
+-- a command that lists or counts the nodes of a query takes so few reads
 abbrev pub AsksFew : Act → State → ℕ → ℕ → Type 0
-AsksFew act state before now = (query : List ℕ) (parts : Parts) → query_asked act ≡ Some query → parts_in state ≡ Some parts → ReadsFew query parts.rules before now
+AsksFew act state before now = (query : List ℕ) (parts : Parts) → query_answered act ≡ Some query → parts_in state ≡ Some parts → ReadsFew query parts.rules before now

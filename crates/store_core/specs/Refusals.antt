@@ -8,8 +8,9 @@ use Rattle.plain_tree.specs.Tree.{node_count}
 use Rattle.xml_profile.specs.Reading.{IsBad}
 use Rattle.store_core.specs.GrammarFiles.{IsNoFile, IsFileOfMany}
 use Rattle.store_core.specs.Acts.{Act, needs_document, document_read, grammar_read, file_read, node_asked, query_asked, writes_file}
+use Rattle.store_core.specs.BulkEditing.{MayEditAll, WantsBulkEdit}
 use Rattle.store_core.specs.Editing.{GivesNoFragment, GivesNoName, GivesNoValue, WantsEdit}
-use Rattle.store_core.specs.Selecting.{SpellsNoQuery, SpellsLarge}
+use Rattle.store_core.specs.Selecting.{SpellsNoQuery, SpellsLarge, SpellsWithin}
 use Rattle.store_core.specs.Worlds.{World, HasFile, HasNoFile, HasNode, LacksNode}
 use Rattle.store_core.specs.declared.answer.Refusal.{Refusal}
 use Rattle.store_core.specs.declared.answer.Refusal.TheVariants as no
@@ -34,6 +35,14 @@ pub record IsShortInput (read : Option (List ℕ)) (old : World) (bytes : List �
 abbrev pub FindsNode : Act → World → Type 0
 FindsNode act old = (number : ℕ) × (node_asked act ≡ Some number) × HasNode old number
 
+-- there is one, and the query whose nodes the command asks for is one within the limits
+abbrev pub FindsQuery : Act → World → Type 0
+FindsQuery act old = (query : List ℕ) × (query_asked act ≡ Some query) × IsReady act old × SpellsWithin query
+
+-- the command asks for an edit of all nodes of a query that may not be made
+abbrev pub AsksForbidden : Act → World → Type 0
+AsksForbidden act old = (wants : WantsBulkEdit act old) × (MayEditAll wants.edit wants.numbers wants.tree → ⊥)
+
 -- the command is refused so only where this holds
 abbrev pub Cause : Refusal → Act → World → World → Type 0
 Cause no.NoDocument act old new = IsTrue (needs_document act) × IsNone old.state
@@ -46,10 +55,10 @@ Cause no.BadGrammar act old new = (bytes : List ℕ) × IsShortInput (grammar_re
 Cause no.BadQuery act old new = (query : List ℕ) × (query_asked act ≡ Some query) × IsReady act old × SpellsNoQuery query
 Cause no.LargeQuery act old new = (query : List ℕ) × (query_asked act ≡ Some query) × IsReady act old × SpellsLarge query
 Cause no.NoNode act old new = (number : ℕ) × (node_asked act ≡ Some number) × LacksNode old number
-Cause no.BadName act old new = FindsNode act old × GivesNoName act
+Cause no.BadName act old new = (FindsNode act old ⊎ FindsQuery act old) × GivesNoName act
 Cause no.BadFragment act old new = FindsNode act old × GivesNoFragment act
 Cause no.BadValue act old new = FindsNode act old × GivesNoValue act
-Cause no.NotAllowed act old new = (wants : WantsEdit act old) × (IsAllowed wants.tree wants.edit → ⊥)
+Cause no.NotAllowed act old new = ((wants : WantsEdit act old) × (IsAllowed wants.tree wants.edit → ⊥)) ⊎ AsksForbidden act old
 Cause no.TooMany act old new =
     ((bytes : List ℕ) × IsShortInput (grammar_read act) old bytes × IsFileOfMany bytes)
     ⊎ ((wants : WantsEdit act old) × IsAllowed wants.tree wants.edit × (2 ^ 63 ≤ node_count (edited wants.tree wants.edit)))

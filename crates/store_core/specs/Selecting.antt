@@ -1,12 +1,16 @@
 -- What queries select in the document that is held.
 use Rattle.std.specs.Prelude.{◌≡◌, ◌↔◌, ℕ, Bool, List, All, Some, IfSome, IsSome, IsTrue, length, slice_get}
-use Rattle.plain_tree.specs.Tree.{Tree}
+use Rattle.plain_tree.specs.NodePairs.{Pair}
+use Rattle.plain_tree.specs.Tree.{Tree, none, more}
 use Rattle.slt_grammar.specs.Algebras.{Algebra}
 use Rattle.slt_grammar.specs.Automata.{Downward, hits}
+use Rattle.slt_grammar.specs.Coding.{Codes}
 use Rattle.slt_grammar.specs.Terms.{Term}
+use Rattle.selecting_automaton.specs.Bounds.{HasFewStates}
+use Rattle.selecting_automaton.specs.Words.{Selection, word_algebra, word_downward}
 use Rattle.rule_runs.specs.Answering.{Fallen}
 use Rattle.rule_runs.specs.Hits.{numbers, symbols_in}
-use Rattle.xpath_parser.specs.Limits.{IsLarge}
+use Rattle.xpath_parser.specs.Limits.{IsLarge, inside, outside}
 use Rattle.xpath_parser.specs.Meaning.{selected}
 use Rattle.xpath_parser.specs.Meant.{meant_paths}
 use Rattle.xpath_parser.specs.Spelled.{Spells}
@@ -27,6 +31,19 @@ SpellsNoQuery query = (paths : Paths) → Spells query paths → ⊥
 -- they are one that passes the limits
 abbrev pub SpellsLarge : List ℕ → Type 0
 SpellsLarge query = (paths : Paths) × Spells query paths × IsLarge paths
+
+-- they are one within the limits
+abbrev pub SpellsWithin : List ℕ → Type 0
+SpellsWithin query = (paths : Paths) × Spells query paths × (IsLarge paths → ⊥)
+
+-- Over codes with these names the selector hits the nodes that the query selects, which is within the limits. It has few states for the query's
+-- parts of filters and steps.
+pub record IsSelectorOf (query : List ℕ) (names : List Pair) (selector : Selection) : Type 0 where
+  pub paths : Paths
+  pub spelled : Spells query paths
+  pub within : IsLarge paths → ⊥
+  pub selects : (tree : Tree) (term : Term) → Codes names (more tree none) term → hits (word_algebra selector) (word_downward selector) term ≡ selected tree (meant_paths query paths)
+  pub states : HasFewStates (word_algebra selector) (word_downward selector) (inside paths) (outside paths)
 
 -- the query, which is within the limits, selects the nodes with these numbers of the document that is held
 pub record Selects (query : List ℕ) (w : World) (tree : Tree) (numbers : List ℕ) : Type 0 where

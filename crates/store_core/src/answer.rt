@@ -6,6 +6,7 @@ ghost use Rattle.tree_outside.specs.Shelf.{Keeps};
 ghost use Rattle.store_core.specs.Texts.{line_of, answer_line, refusal_line};
 
 use arrayvec::ArrayVec;
+use bulk_rewrite::BulkError;
 use grammar_file::FileError;
 use itoa::{Buffer, Integer};
 use std::alloc::AllocError;
@@ -116,6 +117,20 @@ impl From<EditError> for Refusal {
             EditError::NotAllowed { .. } => Refusal::NotAllowed,
             EditError::TooMany => Refusal::TooMany,
             EditError::Memory => Refusal::Memory,
+        }
+    }
+}
+
+impl From<BulkError> for Refusal {
+    ghost use Rattle.std.specs.Prelude.{◌≡◌};
+    ghost use Rattle.store_core.specs.Errors.{refusal_of_all};
+
+    ghost from_gives = { λ error refusal. refusal ≡ refusal_of_all error };
+
+    fn from(error: BulkError) -> Refusal {
+        match error {
+            BulkError::NotAllowed => Refusal::NotAllowed,
+            BulkError::Memory => Refusal::Memory,
         }
     }
 }

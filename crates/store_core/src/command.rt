@@ -66,6 +66,15 @@ pub enum Command<'a> {
     Copy {
         number: u64,
     },
+    /// All nodes that the query selects get this name.
+    RenameAll {
+        name: &'a [u8],
+        query: &'a [u8],
+    },
+    /// All nodes that the query selects are deleted, with all below them.
+    DeleteAll {
+        query: &'a [u8],
+    },
     /// The grammar is settled.
     Repair,
     /// The document becomes the one that `record_generator` makes with so many records, 1 to 200,000.

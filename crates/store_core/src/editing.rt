@@ -177,14 +177,15 @@ fn value_of(alloc: Global, bytes: &[u8]) -> Result<Bytes, Refusal>
     }
 }
 
-// Counts an edit that was made, and settles the grammar where that is due.
-fn settle_where_due(alloc: Global, loaded: &mut Loaded, settings: Settings) -> Answer
+/// Counts an edit that was made, and settles the grammar where that is due.
+pub(crate) fn settle_where_due(alloc: Global, loaded: &mut Loaded, settings: Settings) -> Answer
     requires rank { settings.rank ≤ 8 }
     requires store { (t : Tree) × IsStoreFor loaded.old.store t }
     ensures store { (t : Tree) → IsStoreFor loaded.old.store t → IsStoreFor loaded.new.store t }
     ensures grammar { IsGrammar (rules_of loaded.new.store.grammar.rules) }
     ensures names { loaded.new.store.names ≡ loaded.old.store.names }
     ensures size { size (rules_of loaded.new.store.grammar.rules) ≤ size (rules_of loaded.old.store.grammar.rules) }
+    ensures kept { (IsDue settings (one_more loaded.old.edits) → ⊥) → rules_of loaded.new.store.grammar.rules ≡ rules_of loaded.old.store.grammar.rules }
     ensures few { loaded.new.edits < 2 ^ 64 }
     ensures settled { (t : Tree) → IsStoreFor loaded.old.store t → IsSettledWhereDue settings (one_more loaded.old.edits) (held_of loaded.new) (node_count t) result }
 {

@@ -12,12 +12,14 @@ ghost use Rattle.store_core.specs.Acts.{Act, query_asked};
 ghost use Rattle.store_core.specs.Printed.{hit_line};
 ghost use Rattle.store_core.specs.Reads.{ReadsFew, most_reads};
 ghost use Rattle.store_core.specs.Refusals.{Cause};
-ghost use Rattle.store_core.specs.Selecting.{Finds, HasSelected};
+ghost use Rattle.store_core.specs.Errors.{IsNoQuery};
+ghost use Rattle.store_core.specs.Selecting.{Finds, HasSelected, IsSelectorOf};
 ghost use Rattle.store_core.specs.Texts.{selected_line};
 ghost use Rattle.store_core.specs.StoreOf.{IsCounted, parts_of};
 ghost use Rattle.store_core.specs.Worlds.{AreLawfulParts, PartsStandFor, World, parts_in};
 
 use crate::answer::Refusal;
+use plain_tree::Names;
 use read_steps::Steps;
 use rule_runs::{FallTable, Spent, fall, rise, rise_in_one_state};
 use segment_counts::Counts;
@@ -50,8 +52,7 @@ pub(crate) fn select<L: Ledger>(
 {
     // The call tells that the text spells one query alone.
     spells_one();
-    let query = parse(alloc, text)?;
-    let selector = compile(alloc, &query, &store.names)?;
+    let selector = selector_of(alloc, text, &store.names)?;
     let found = run(
         alloc,
         &selector,
@@ -61,6 +62,16 @@ pub(crate) fn select<L: Ledger>(
         steps,
     )?;
     Ok(found)
+}
+
+/// The selector of the query that the text spells. It is refused as `select` is.
+pub(crate) fn selector_of(alloc: Global, text: &[u8], names: &Names) -> Result<Selector, Refusal>
+    ensures selector { IfOk result (IsSelectorOf text.now names.now) }
+    ensures refused { IfErr result (λ refusal. IsNoQuery refusal text.now) }
+{
+    let query = parse(alloc, text)?;
+    let selector = compile(alloc, &query, names)?;
+    Ok(selector)
 }
 
 // What the selector hits of all that the grammar stands for. It is refused only for want of memory.

@@ -6,6 +6,7 @@ ghost use Rattle.tree_outside.specs.Shelf.{Keeps};
 ghost use Rattle.store_words.specs.declared.words.Settings.{Settings};
 
 use crate::answer::{Answer, Refusal, write_line};
+use crate::bulk_editing::edit_selected;
 use crate::command::Command;
 use crate::editing::edit_document;
 use crate::generating::generate_document;
@@ -68,6 +69,7 @@ impl Session {
     ghost use Rattle.store_core.specs.Worlds.{IsIdle, IsLawfulState, parts_in, world};
     ghost use Rattle.store_core.specs.StoreOf.{IsCounted, parts_of};
     ghost use Rattle.std.specs.Option.{option_map};
+    ghost use Rattle.store_core.specs.BulkEditing.{IsBulkEdit};
     ghost use Rattle.store_core.specs.Editing.{IsEdit};
 
     /// A session without a document. It takes no memory.
@@ -155,6 +157,9 @@ impl Session {
             | Command::Value { .. }
             | Command::Attr { .. }
             | Command::Copy { .. } => { Ok(self.edit(alloc, command, settings, steps)) }
+            Command::RenameAll { .. } | Command::DeleteAll { .. } => {
+                Ok(self.edit_all(alloc, command, settings, steps))
+            }
             Command::Repair => Ok(self.repair(alloc, settings)),
             Command::Generate { records } => Ok(self.generate(alloc, records, settings)),
         }
@@ -272,6 +277,25 @@ impl Session {
         match &mut self.loaded {
             None => Err(Refusal::NoDocument),
             Some(loaded) => edit_document(alloc, loaded, command, settings, steps),
+        }
+    }
+
+    // Makes the edit that the command asks for of all nodes that its query selects.
+    fn edit_all<L: Ledger>(
+        &mut self,
+        alloc: Global,
+        command: Command<'_>,
+        settings: Settings,
+        steps: &mut Steps<L>,
+    ) -> Result<Answer, Refusal>
+        requires rank { settings.rank ≤ 8 }
+        requires edit { IsBulkEdit (act_of command) }
+        ensures lawful { IsLawfulState self.old × IsLawfulState self.new }
+        ensures comes { (told : Option Told) (count : ℕ) → Comes settings (act_of command.entry) (world self.old told count) [] result (world self.new told count) }
+    {
+        match &mut self.loaded {
+            None => Err(Refusal::NoDocument),
+            Some(loaded) => edit_selected(alloc, loaded, command, settings, steps),
         }
     }
 

@@ -10,7 +10,8 @@ use Rattle.store_shell.specs.declared.verb.Verb.TheVariants as verb
 abbrev verbs : List Verb
 verbs =
     verb.Load ∷ verb.LoadGrammar ∷ verb.Save ∷ verb.SaveGrammar ∷ verb.Show ∷ verb.Query ∷ verb.Count
-    ∷ verb.Rename ∷ verb.Insert ∷ verb.Append ∷ verb.Delete ∷ verb.Value ∷ verb.Attr ∷ verb.Copy ∷ verb.Generate ∷ []
+    ∷ verb.Rename ∷ verb.Insert ∷ verb.Append ∷ verb.Delete ∷ verb.Value ∷ verb.Attr ∷ verb.Copy
+    ∷ verb.RenameAll ∷ verb.DeleteAll ∷ verb.Generate ∷ []
 
 abbrev pub place : Verb → ℕ
 place verb.Load = 0
@@ -27,12 +28,15 @@ place verb.Delete = 10
 place verb.Value = 11
 place verb.Attr = 12
 place verb.Copy = 13
-place verb.Generate = 14
+place verb.RenameAll = 14
+place verb.DeleteAll = 15
+place verb.Generate = 16
 
 abbrev pub all_words : List (List ℕ)
 all_words =
     codes "load" ∷ codes "load-grammar" ∷ codes "save" ∷ codes "save-grammar" ∷ codes "show" ∷ codes "query" ∷ codes "count"
-    ∷ codes "rename" ∷ codes "insert" ∷ codes "append" ∷ codes "delete" ∷ codes "value" ∷ codes "attr" ∷ codes "copy" ∷ codes "generate" ∷ []
+    ∷ codes "rename" ∷ codes "insert" ∷ codes "append" ∷ codes "delete" ∷ codes "value" ∷ codes "attr" ∷ codes "copy"
+    ∷ codes "rename-all" ∷ codes "delete-all" ∷ codes "generate" ∷ []
 
 -- words up to the first space, and what stands behind it
 abbrev pub first_word : List ℕ → List ℕ
@@ -56,7 +60,7 @@ record Told (v : Verb) (rest : List ℕ) : Type 0 where
   place_is : place_of (verb_word v ++ 32 ∷ rest) ≡ place v
   rest_is : behind_word (verb_word v ++ 32 ∷ rest) ≡ rest
   verb_is : get_or verbs (place v) verb.Load ≡ v
-  low : nat_lt (place v) 15 ≡ true
+  low : nat_lt (place v) 17 ≡ true
 
 told : (v : Verb) (rest : List ℕ) → Told v rest
 told verb.Load rest = record { place_is = refl; rest_is = refl; verb_is = refl; low = refl }
@@ -73,12 +77,14 @@ told verb.Delete rest = record { place_is = refl; rest_is = refl; verb_is = refl
 told verb.Value rest = record { place_is = refl; rest_is = refl; verb_is = refl; low = refl }
 told verb.Attr rest = record { place_is = refl; rest_is = refl; verb_is = refl; low = refl }
 told verb.Copy rest = record { place_is = refl; rest_is = refl; verb_is = refl; low = refl }
+told verb.RenameAll rest = record { place_is = refl; rest_is = refl; verb_is = refl; low = refl }
+told verb.DeleteAll rest = record { place_is = refl; rest_is = refl; verb_is = refl; low = refl }
 told verb.Generate rest = record { place_is = refl; rest_is = refl; verb_is = refl; low = refl }
 
 pub place-told : (v : Verb) (words rest : List ℕ) → words ≡ verb_word v ++ 32 ∷ rest → place_of words ≡ place v
 place-told v words rest e = ap place_of e ∙ (told v rest).place_is
 
-pub place-low : (v : Verb) → nat_lt (place v) 15 ≡ true
+pub place-low : (v : Verb) → nat_lt (place v) 17 ≡ true
 place-low v = (told v []).low
 
 -- words begin with one verb

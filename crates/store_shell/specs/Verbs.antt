@@ -1,6 +1,6 @@
 -- The words that begin commands with arguments, and what ends them.
 use Rattle.std.specs.Prelude.{◌==◌, ℕ, Bool, List, Option, Some, None, codes}
-use Rattle.store_core.specs.Acts.{Act, Load, LoadGrammar, Save, SaveGrammar, Show, Query, Count, Rename, Insert, Append, Delete, Value, Attr, Copy, Repair, Generate}
+use Rattle.store_core.specs.Acts.{Act, Load, LoadGrammar, Save, SaveGrammar, Show, Query, Count, Rename, Insert, Append, Delete, Value, Attr, Copy, RenameAll, DeleteAll, Repair, Generate}
 use Rattle.store_shell.specs.declared.verb.Verb.{Verb}
 use Rattle.store_shell.specs.declared.verb.Verb.TheVariants as verb
 
@@ -19,6 +19,8 @@ verb_word verb.Delete = codes "delete"
 verb_word verb.Value = codes "value"
 verb_word verb.Attr = codes "attr"
 verb_word verb.Copy = codes "copy"
+verb_word verb.RenameAll = codes "rename-all"
+verb_word verb.DeleteAll = codes "delete-all"
 verb_word verb.Generate = codes "generate"
 
 -- the verb of a command, if it has arguments
@@ -37,6 +39,8 @@ verb_of (Delete number) = Some verb.Delete
 verb_of (Value number bytes) = Some verb.Value
 verb_of (Attr number name bytes) = Some verb.Attr
 verb_of (Copy number) = Some verb.Copy
+verb_of (RenameAll name query) = Some verb.RenameAll
+verb_of (DeleteAll query) = Some verb.DeleteAll
 verb_of Repair = None
 verb_of (Generate records) = Some verb.Generate
 

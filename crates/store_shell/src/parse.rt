@@ -109,6 +109,11 @@ fn command_of(verb: Verb, arguments: &[u8]) -> Option<Command<'_>>
             value,
         }),
         Verb::Copy => number(arguments).map(|number| Command::Copy { number }),
+        Verb::RenameAll => some_named(arguments).map(|(name, query)| Command::RenameAll {
+            name,
+            query,
+        }),
+        Verb::DeleteAll => query(arguments).map(|text| Command::DeleteAll { query: text }),
         Verb::Generate => records(arguments).map(|records| Command::Generate { records }),
     }
 }
@@ -160,6 +165,19 @@ fn named(arguments: &[u8]) -> Option<(&[u8], &[u8])>
 {
     let (name, rest) = cut_word(arguments);
     if name.is_empty() {
+        None
+    } else {
+        Some((name, rest))
+    }
+}
+
+/// A name, and what stands behind the space that ends it, at least one byte.
+fn some_named(arguments: &[u8]) -> Option<(&[u8], &[u8])>
+    ensures { MatchOption result ((name bytes : List ℕ) → bytes ≢ [] → IsNamed arguments.now name bytes → ⊥)
+        (λ read. (read.1.now ≢ []) × IsNamed arguments.now read.0.now read.1.now) }
+{
+    let (name, rest) = named(arguments)?;
+    if rest.is_empty() {
         None
     } else {
         Some((name, rest))

@@ -16,6 +16,8 @@ pub enum Verb {
     Value,
     Attr,
     Copy,
+    RenameAll,
+    DeleteAll,
     Generate,
 }
 
@@ -43,6 +45,8 @@ impl Verb {
             b"value" => Some(Verb::Value),
             b"attr" => Some(Verb::Attr),
             b"copy" => Some(Verb::Copy),
+            b"rename-all" => Some(Verb::RenameAll),
+            b"delete-all" => Some(Verb::DeleteAll),
             b"generate" => Some(Verb::Generate),
             _ => None,
         }

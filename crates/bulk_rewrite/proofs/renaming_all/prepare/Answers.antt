@@ -1,4 +1,4 @@
-use Rattle.std.proofs.Common.{refl}
+use Rattle.std.proofs.Common.{inl, inr, refl}
 use Rattle.std.proofs.lemmas.Result.{err_from_is_err_and}
 use Rattle.slt_grammar.specs.Grammars.{value}
 use Rattle.slt_grammar.specs.Keyed.{rules_of}
@@ -40,19 +40,27 @@ returns-then-not-free-clause-refused g c = λ values t st.
 pub returns-in_err-signs : goal.returns-in_err-signs
 returns-in_err-signs g c =
     let p = err_from_is_err_and c.from_residual.result c.from_residual.ensures.1 in
-    rw (p.1, p.2) (record { symbols = tt; allowed = tt; names = tt; refused = λ values t st. (0, refl) })
+    rw (p.1, p.2) (record { symbols = tt; allowed = tt; names = tt; refused = λ values t st. inl refl })
 
 pub returns-in_err-free : goal.returns-in_err-free
 returns-in_err-free g c =
     let p = err_from_is_err_and c.from_residual-in_err-free.result c.from_residual-in_err-free.ensures.1 in
-    rw (p.1, p.2) (record { symbols = tt; allowed = tt; names = tt; refused = λ values t st. (0, refl) })
+    rw (p.1, p.2) (record { symbols = tt; allowed = tt; names = tt; refused = λ values t st. inl refl })
 
 pub returns-in_err-grow_names : goal.returns-in_err-grow_names
 returns-in_err-grow_names g c =
     let p = err_from_is_err_and c.from_residual-in_err-grow_names.result c.from_residual-in_err-grow_names.ensures.1 in
-    rw (p.1, p.2) (record { symbols = tt; allowed = tt; names = tt; refused = λ values t st. c.in_err-grow_names.ensures.some t st.code })
+    let A = g.A.Rising.algebra c.args.automaton.now in
+    let W = g.A.Falling.downward c.args.automaton.now in
+    let v = value (rules_of c.args.grammar.now.rules) in
+    let signs = c.in_ok-signs.signs.items in
+    rw (p.1, p.2) (record { symbols = tt; allowed = tt; names = tt; refused = λ values t st. inr (free-may A W c.args.names.now v t st.code st.document c.args.name.now (signs_of signs) (signs-are c.args.names.now c.args.name.now signs c.in_ok-signs.ensures) (c.in_ok-free.ensures.0 c.if-not-free.false), c.in_err-grow_names.ensures.some t st.code) })
 
 pub returns-in_err-symbols : goal.returns-in_err-symbols
 returns-in_err-symbols g c =
     let p = err_from_is_err_and c.from_residual-in_err-symbols.result c.from_residual-in_err-symbols.ensures.1 in
-    rw (p.1, p.2) (record { symbols = tt; allowed = tt; names = tt; refused = λ values t st. some-grown _ _ _ (c.in_ok-grow_names.ensures.grown t st.code) })
+    let A = g.A.Rising.algebra c.args.automaton.now in
+    let W = g.A.Falling.downward c.args.automaton.now in
+    let v = value (rules_of c.args.grammar.now.rules) in
+    let signs = c.in_ok-signs.signs.items in
+    rw (p.1, p.2) (record { symbols = tt; allowed = tt; names = tt; refused = λ values t st. inr (free-may A W c.args.names.now v t st.code st.document c.args.name.now (signs_of signs) (signs-are c.args.names.now c.args.name.now signs c.in_ok-signs.ensures) (c.in_ok-free.ensures.0 c.if-not-free.false), some-grown _ _ _ (c.in_ok-grow_names.ensures.grown t st.code)) })

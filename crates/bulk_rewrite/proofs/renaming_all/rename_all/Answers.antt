@@ -1,4 +1,4 @@
-use Rattle.std.proofs.Common.{refl}
+use Rattle.std.proofs.Common.{inl, inr, refl}
 use Rattle.std.proofs.lemmas.Result.{err_from_is_err_and}
 use Rattle.slt_grammar.specs.Keyed.{rules_of}
 use Rattle.bulk_rewrite.specs.Lawful.{renaming-lawful}
@@ -21,9 +21,9 @@ returns-in-Ok-clause-few g c =
     few-made A W (rules_of c.args.grammar.now.rules) c.rules-rules.ensures.grammar _ (renaming-lawful W _) (rules_of c.in-Ok.new.rules) c.in-Ok.ensures.made
 
 pub returns-clause-refused : goal.returns-clause-refused
-returns-clause-refused g c = λ values t st. some-grown _ _ _ (c.in_ok-symbols.ensures.names values t st)
+returns-clause-refused g c = λ values t st. inr (c.in_ok-symbols.ensures.allowed values t st, some-grown _ _ _ (c.in_ok-symbols.ensures.names values t st))
 
 pub returns-in_err-risen : goal.returns-in_err-risen
 returns-in_err-risen g c =
     let p = err_from_is_err_and c.from_residual.result c.from_residual.ensures.1 in
-    rw (p.1, p.2) (record { renamed = tt; few = tt; swept = tt; refused = λ values t st. (0, refl) })
+    rw (p.1, p.2) (record { renamed = tt; few = tt; swept = tt; refused = λ values t st. inl refl })

@@ -32,6 +32,10 @@ pub returns-in-Rename-clause-prints : goal.returns-in-Rename-clause-prints
 returns-in-Rename-clause-prints g c =
     ([], Gets-nil (g.K.Sink.got c.args.sink.now), c.edit.ensures.comes (g.F.Shelf.told c.args.shelf.now) (g.F.Shelf.faults c.args.shelf.now))
 
+pub returns-in-RenameAll-clause-prints : goal.returns-in-RenameAll-clause-prints
+returns-in-RenameAll-clause-prints g c =
+    ([], Gets-nil (g.K.Sink.got c.args.sink.now), c.edit_all.ensures.comes (g.F.Shelf.told c.args.shelf.now) (g.F.Shelf.faults c.args.shelf.now))
+
 pub generate-requires-clause-few : goal.generate-requires-clause-few
 generate-requires-clause-few g c = (rw c.in-Generate.is at c.requires.records).1
 

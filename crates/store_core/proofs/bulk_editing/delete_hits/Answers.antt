@@ -1,0 +1,44 @@
+use Rattle.std.proofs.Common.{ap, inl, refl}
+use Rattle.std.proofs.lemmas.Result.{err_from_is_err_and}
+use Rattle.slt_grammar.specs.Keyed.{Keyed, rules_of}
+use Rattle.bulk_rewrite.specs.declared.renaming_all.BulkError.TheVariants.{Memory}
+use Rattle.store_core.specs.BulkEditing.{Deletion, edited_all}
+use Rattle.store_core.specs.BulkStores.{hits_in}
+use Rattle.store_core.proofs.BulkEdits.{all-deleted-store, deletion-refused, few-edited, few-weighed, left-as-it-was}
+use Rattle.store_core.proofs.bulk_editing.delete_hits.Goals as goal
+
+pub delete_all-requires : goal.delete_all-requires
+delete_all-requires g c = let s = c.requires.store in record { stands = (s.0, s.1.stand, s.1.small) }
+
+pub put_rules-requires-clause-few : goal.put_rules-requires-clause-few
+put_rules-requires-clause-few g c =
+    let s = c.args.store.now in
+    let r = c.requires.store in
+    let numbers = hits_in c.args.selector.now s in
+    let made = c.in_ok-grammar.ensures.deleted r.0 r.1.stand in
+    few-weighed (rules_of c.in_ok-grammar.field-0.grammar.rules) s.names c.in_ok-grammar.field-0.texts.texts (edited_all Deletion numbers r.0) made.stand (few-edited Deletion numbers r.0 r.1.small)
+
+pub returns-in_err-grammar : goal.returns-in_err-grammar
+returns-in_err-grammar g c =
+    let p = err_from_is_err_and c.from_residual.result c.from_residual.ensures.1 in
+    let s = c.args.store.now in
+    let error = c.in_err-grammar.field-0.0 in
+    rw (p.1, p.2) (record {
+      applies = λ t i.
+          left-as-it-was Deletion c.args.selector.now s t i error s (deletion-refused error (hits_in c.args.selector.now s) t s.names (c.in_err-grammar.ensures.refused t i.stand)) refl;
+    })
+
+pub returns-in_err-put_rules : goal.returns-in_err-put_rules
+returns-in_err-put_rules g c =
+    let p = err_from_is_err_and c.from_residual-in_err-put_rules.result c.from_residual-in_err-put_rules.ensures.1 in
+    rw (p.1, p.2) (record { applies = λ t i. left-as-it-was Deletion c.args.selector.now c.args.store.now t i Memory c.put_rules.new.store (inl refl) c.in_err-put_rules.ensures.refused })
+
+pub returns : goal.returns
+returns g c =
+    let made = c.in_ok-grammar.ensures in
+    let put = c.in_ok-put_rules.ensures in
+    record {
+      applies = λ t i.
+          all-deleted-store c.args.store.now t i c.args.selector.now (rules_of c.in_ok-grammar.field-0.grammar.rules) made.swept c.put_rules.new.store (ap (λ (x : Keyed). rules_of x.rules) put.rules) put.counts put.index
+          c.in_ok-grammar.field-0.texts (made.deleted t i.stand) made.few put.names;
+    }

@@ -1,5 +1,5 @@
-// What the program's own stored run can't show of scripts: what is refused before anything is loaded, how they end where a call fails, whatever the pieces in which they are read,
-// without a line feed at their end, and which bytes of a grammar file are saved.
+// What the program's own stored run can't show of scripts: what is refused before anything is loaded, how they end where a call fails,
+// whatever the pieces in which they are read, without a line feed at their end, and which bytes of a grammar file are saved.
 use super::memory::{DONE, Fault, Row, assert_row};
 use std::test::Fail;
 use store_shell::Status;
@@ -49,8 +49,8 @@ static ROWS: [Row<'static>; 31] = [
         ..DONE
     },
     Row {
-        script: "rename 1 1a\ninsert 1 </b>\nappend 1 t\ndelete 1\nvalue 1 <\nattr 1 k v\ncopy 1\n",
-        printed: "! no-document\n! no-document\n! no-document\n! no-document\n! no-document\n! no-document\n! no-document\n",
+        script: "rename 1 1a\ninsert 1 </b>\nappend 1 t\ndelete 1\nvalue 1 <\nattr 1 k v\ncopy 1\nrename-all 1a a[\ndelete-all a[\n",
+        printed: "! no-document\n! no-document\n! no-document\n! no-document\n! no-document\n! no-document\n! no-document\n! no-document\n! no-document\n",
         ..DONE
     },
     Row {

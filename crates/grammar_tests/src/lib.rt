@@ -16,6 +16,8 @@ mod grammar;
 #[cfg(test)]
 mod grammar_bytes;
 #[cfg(test)]
+mod marks;
+#[cfg(test)]
 mod numbers;
 #[cfg(test)]
 mod rises;

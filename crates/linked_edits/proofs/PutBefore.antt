@@ -1,5 +1,6 @@
 -- What a body that ends in its parameter makes of the start's nodes, and of an index.
-use Rattle.std.proofs.Common.{◌≡◌, ◌≢◌, ℕ, ◌+◌, List, [], ◌∷◌, ◌++◌, length, Some, None, ap, ◌∙◌, subst, arith, length-append}
+use Rattle.std.proofs.Common.{◌≡◌, ◌≢◌, ℕ, ◌+◌, List, [], ◌∷◌, ◌++◌, length, take, Some, None, ap, sym, ◌∙◌, subst, arith, length-append}
+use Rattle.std.proofs.lemmas.List.{length-take-le, take_at}
 use Rattle.rule_arena.specs.Preorder.{AreTerms, subterm, with_subterm}
 use Rattle.rule_arena.specs.Terms.{Node, kids_of}
 use Rattle.rule_arena.specs.declared.key.Key.{Key}
@@ -11,6 +12,8 @@ use Rattle.slt_grammar.specs.Copying.{copied}
 use Rattle.slt_grammar.specs.Keyed.{IsKeyed, Keyed, key_at, nodes_at, rules_of}
 use Rattle.slt_grammar.specs.KeyedEdits.{with_nodes}
 use Rattle.slt_grammar.specs.Wrapping.{IsInStart, IsWrapped, IsWrapper, nodes_of}
+use Rattle.slt_grammar.proofs.KeyedEdits.{length-with_nodes, nodes-with_nodes}
+use Rattle.slt_grammar.proofs.KeyedLemmas.{key_at-within}
 use Rattle.slt_grammar.proofs.Meanings.{params-append}
 use Rattle.digram_index.specs.Keeping.{IsIndexBut}
 use Rattle.digram_index.specs.Linked.{IsIndexOf, Linked, cell}
@@ -52,6 +55,16 @@ module _ (g h : Keyed) (K : IsKeyed g) (K' : IsKeyed h) (at : Key) (S : IsInStar
     new = W.rules ∙ ap (λ (ls : List Label). with_nodes g.rules r (with_subterm kids_of (nodes_at g.rules r) p (copied (nodes_of ranks at ls) (sub ∷ []) W.keys))) E.is
         ∙ ap (λ (xs : List Node). with_nodes g.rules r (with_subterm kids_of (nodes_at g.rules r) p xs)) copies.whole;
   }
+
+  -- what stands before the node stays
+  pub put-front : take S.here.place (nodes_at h.rules (start_of h.rules)) ≡ take S.here.place (nodes_at g.rules (start_of g.rules))
+  put-front =
+      let ns : List Node = nodes_at g.rules r in
+      let inside = key_at-within g.rules r p at S.here.there in
+      let old : start_of g.rules ≡ r = omega (arith, S.start) in
+      let new : start_of h.rules ≡ r = omega (arith, S.start, ap length W.rules ∙ length-with_nodes g.rules r _ inside.0) in
+      let nodes = ap (λ H. nodes_at H r) W.rules ∙ nodes-with_nodes g.rules r _ inside.0 in
+      ap (λ j. take p (nodes_at h.rules j)) new ∙ ap (take p) nodes ∙ take_at (take p ns) _ p (length-take-le p ns (omega (arith, inside.1))) ∙ ap (λ j. take p (nodes_at g.rules j)) (sym old)
 
   module _ (I mid : Linked) (A : IsIndexOf g I) (free : cell mid at.number ≡ None) (others : (k : ℕ) → k ≢ at.number → cell mid k ≡ cell I k) (rules : mid.rules ≡ I.rules) where
     but : IsIndexBut h mid (near g h K K' at r p S.start S.here.there put-before.pre put-before.all put-before.new)

@@ -1,9 +1,9 @@
 // A body that is put around a node of the start while an index is kept.
-ghost use Rattle.std.specs.Prelude.{◌≡◌, ◌≤◌, ◌+◌, ◌-◌, ℕ, Some, length};
+ghost use Rattle.std.specs.Prelude.{◌≡◌, ◌≤◌, ◌+◌, ◌-◌, ℕ, Some, length, take};
 ghost use Rattle.slt_grammar.specs.Bodies.{real_nodes};
 ghost use Rattle.slt_grammar.specs.ChangedValues.{StandsWithin};
 ghost use Rattle.slt_grammar.specs.Grammars.{size};
-ghost use Rattle.slt_grammar.specs.Keyed.{key_at, rules_of};
+ghost use Rattle.slt_grammar.specs.Keyed.{key_at, nodes_at, rules_of};
 ghost use Rattle.slt_grammar.specs.RuleValues.{HaveOtherValues};
 ghost use Rattle.slt_grammar.specs.Wrapping.{IsInStart, IsWrapper};
 ghost use Rattle.digram_index.specs.Linked.{IsIndexOf};
@@ -30,6 +30,8 @@ pub fn wrap_linked(grammar: &mut Grammar, index: &mut Index, at: Key, body: &Bod
     ensures value { (S : IsInStart grammar.old.rules at)
         → StandsWithin (rules_of grammar.old.rules) (rules_of grammar.new.rules) S.here.place body.now }
     ensures values { HaveOtherValues (length (rules_of grammar.old.rules) - 1) (rules_of grammar.old.rules) (rules_of grammar.new.rules) }
+    ensures front { (S : IsInStart grammar.old.rules at)
+        → take S.here.place (nodes_at grammar.new.rules (start_of grammar.new.rules)) ≡ take S.here.place (nodes_at grammar.old.rules (start_of grammar.old.rules)) }
     ensures size { size (rules_of grammar.new.rules) ≡ size (rules_of grammar.old.rules) + real_nodes body.now }
     ensures index { IsIndexOf grammar.new index.new }
     ensures spare_nodes { grammar.old.spare_nodes ≤ grammar.new.spare_nodes + length body.now }

@@ -1,6 +1,7 @@
 -- The first level of a chain, and an inlined call on the way.
 use Rattle.std.proofs.Common.{◌≡◌, ℕ, zero, suc, ◌+◌, ◌-◌, ◌<◌, ◌≤◌, ◌*◌, List, [], ◌∷◌, ◌++◌, length, get_or, take, drop, Some, slice_get, refl, sym, ap, ◌∙◌, subst, arith}
-use Rattle.rule_arena.specs.Terms.{Node, key_in}
+use Rattle.rule_arena.specs.Preorder.{span}
+use Rattle.rule_arena.specs.Terms.{Node, key_in, kids_of}
 use Rattle.rule_arena.specs.declared.key.Key.{Key}
 use Rattle.rule_arena.specs.declared.label.Label.{Label}
 use Rattle.rule_arena.specs.declared.label.Label.TheVariants.{Bottom, Call}
@@ -16,8 +17,8 @@ use Rattle.slt_grammar.proofs.Inlining.{ranks-with_body}
 use Rattle.slt_grammar.proofs.Keeping.{length-with_body}
 use Rattle.slt_grammar.proofs.KeyedLemmas.{body_at-rules_of, length-rules_of, key_at-within}
 use Rattle.slt_grammar.proofs.RuleMeanings.{rank_at-ranks_of}
-use Rattle.std.proofs.lemmas.List.{length-map}
-use Rattle.slt_grammar.specs.Copying.{holes_in, kids_at, inlined_nodes}
+use Rattle.std.proofs.lemmas.List.{length-map, length-take-le, take-append-le, take-take}
+use Rattle.slt_grammar.specs.Copying.{args_at, copied, holes_in, kids_at, inlined_nodes}
 use Rattle.slt_grammar.specs.Holding.{IsLawful}
 use Rattle.slt_grammar.specs.KeyedEdits.{IsInlined, StandsAsCall, label_at, with_nodes}
 use Rattle.slt_grammar.specs.Ways.{HaveSameRules}
@@ -25,7 +26,7 @@ use Rattle.slt_grammar.proofs.Agreeing.{agree-of}
 use Rattle.slt_grammar.proofs.InlinedRules.{holes-params, kids-label, labels-inlined, inlined-lawful, inlined-means}
 use Rattle.slt_grammar.proofs.KeyedEdits.{rules-with_nodes, nodes-with_nodes}
 use Rattle.path_isolation.specs.Chains.{IsChain, Leads, led, last_label, meaning_with, weight_of}
-use Rattle.path_isolation.specs.Isolations.{IsRestated, IsIsolated, Walk, calls_along, come_along, room_along, start_of}
+use Rattle.path_isolation.specs.Isolations.{IsRestated, IsIsolated, IsSameInFront, Walk, calls_along, come_along, first_place, room_along, start_of}
 use Rattle.slt_grammar.specs.declared.level.Level.{Level}
 use Rattle.path_isolation.proofs.Around.{around-node}
 use Rattle.path_isolation.proofs.ChainLemmas.{AreAsBefore, as-before, inner-leads, leads-same, last_label-same, weight-same, led-same, meaning_with-same, earlier, levels-before, weight-all}
@@ -44,6 +45,8 @@ walk-first G l ls (p ∷ ps) L c =
       place = p;
       ps = ps;
       there = subst (λ r. key_at G r p ≡ Some l.key) e c.1;
+      front = refl;
+      behind = omega arith;
       leads = h;
       label = ap (λ r. last_label G (label_at G r p) ls ps) (sym e);
       node = λ F. ap (λ r. meaning_with term_algebra (rules_of G) (body_at (rules_of G) r) p (led term_algebra G ls ps F) []) (sym e);
@@ -108,6 +111,12 @@ module _ (G : List KeyedRule) (r p q j : ℕ) (here follow : Key) (keys : List K
   module _ (H : List KeyedRule) (new : H ≡ with_nodes G r (inlined_nodes (nodes_at G r) p (nodes_at G q) keys)) where
     nodes-new : nodes_at H r ≡ inlined_nodes (nodes_at G r) p (nodes_at G q) keys
     nodes-new = ap (λ K. nodes_at K r) new ∙ nodes-with_nodes G r (inlined_nodes (nodes_at G r) p (nodes_at G q) keys) within
+
+    pub front-new : (n : ℕ) → n ≤ p → take n (nodes_at H r) ≡ take n (nodes_at G r)
+    front-new n h =
+        let ns : List Node = nodes_at G r in
+        let few : length (take p ns) ≡ p = length-take-le p ns (omega (arith, (key_at-within G r p here there).1)) in
+        ap (take n) nodes-new ∙ take-append-le n (take p ns) (copied (nodes_at G q) (args_at ns p) keys ++ drop (span kids_of 1 (drop p ns)) (drop p ns)) (omega (arith, h, few)) ∙ take-take n p ns h
 
     labels-new : labels_of (inlined_nodes (nodes_at G r) p (nodes_at G q) keys) ≡ inl
     labels-new =
@@ -180,15 +189,16 @@ start-below n r h = omega (arith, h)
 
 -- after the next call was inlined
 pub walk-next : (G : List KeyedRule) (levels : List Level) (qs : List ℕ) (H K : List KeyedRule) (here key : Key) (m : Level) (ls : List Level) (ps : List ℕ) (place : ℕ) (keys : List Key)
-    → IsRestated G H → IsLawful H → key_at H (start_of G) place ≡ Some here → Leads H (label_at H (start_of G) place) (m ∷ ls) ps
+    → IsRestated G H → IsLawful H → key_at H (start_of G) place ≡ Some here → take (first_place qs) (nodes_at H (start_of G)) ≡ take (first_place qs) (nodes_at G (start_of G)) → first_place qs ≤ place
+    → Leads H (label_at H (start_of G) place) (m ∷ ls) ps
     → last_label H (label_at H (start_of G) place) (m ∷ ls) ps ≡ last_label G Bottom levels qs
     → ((F : List Term → Term) → meaning_with term_algebra (rules_of H) (body_at (rules_of H) (start_of G)) place (led term_algebra H (m ∷ ls) ps F) [] ≡ led term_algebra G levels qs F [])
     → size (rules_of H) + (weight_of real_nodes H (m ∷ ls) + calls_along levels) ≡ size (rules_of G) + (come_along G levels + length (m ∷ ls))
     → K ≡ with_nodes H (start_of G) (inlined_nodes (nodes_at H (start_of G)) place (nodes_at H m.rule) keys)
     → ((j : ℕ) → key_at H m.rule j ≡ Some m.key → slice_get keys j ≡ Some key)
     → Walk G levels qs K key ls
-walk-next G levels qs H K here key m ls [] place keys S L there leads label node sz new follows = absurd leads
-walk-next G levels qs H K here key m ls (j ∷ ps) place keys S L there leads label node sz new follows =
+walk-next G levels qs H K here key m ls [] place keys S L there front behind leads label node sz new follows = absurd leads
+walk-next G levels qs H K here key m ls (j ∷ ps) place keys S L there front behind leads label node sz new follows =
     let r : ℕ = start_of G in
     let q : ℕ = m.rule in
     let inner : IsInner (label_at H q j) = inner-leads H (label_at H q j) ls ps leads.2 in
@@ -210,6 +220,8 @@ walk-next G levels qs H K here key m ls (j ∷ ps) place keys S L there leads la
       place = o;
       ps = ps;
       there = key-new H r place q j here m.key keys L there leads.0 leads.1 inner K new key (follows j leads.1);
+      front = front-new H r place q j here m.key keys L there leads.0 leads.1 inner K new (first_place qs) behind ∙ front;
+      behind = omega (arith, behind);
       leads = subst (λ l. Leads K l ls ps) (sym lab) (leads-same H K (label_at H q j) ls ps before leads.2);
       label = ap (λ l. last_label K l ls ps) lab ∙ last_label-same H K (label_at H q j) ls ps before ∙ label;
       node = λ F.
@@ -229,6 +241,17 @@ walk-end G levels qs H key w = end w.ps w.place w.there w.leads w.label w.node
         → IsIsolated G H levels qs key
     end ps place a b c d = record { place = place; there = a; label = c; around = around-node G H place key w.lawful w.restated.differ.many a ∙ d (λ _. Hole 0) }
 
+-- and before the chain's first node nothing is changed
+pub walk-front : (G : List KeyedRule) (levels ls : List Level) (qs : List ℕ) (H : List KeyedRule) (key : Key) → Walk G levels qs H key ls → IsSameInFront G H qs key
+walk-front G levels ls qs H key w =
+    let s : start_of H ≡ start_of G = ap (λ n. n - 1) w.restated.differ.many in
+    record {
+      nodes = ap (λ r. take (first_place qs) (nodes_at H r)) s ∙ w.front;
+      place = w.place;
+      there = ap (λ r. key_at H r w.place) s ∙ w.there;
+      behind = w.behind;
+    }
+
 pub calls-next : (H : List KeyedRule) (l : Label) (m : Level) (ls : List Level) (ps : List ℕ) → Leads H l (m ∷ ls) ps → l ≡ Call m.rule
 calls-next H l m ls [] h = absurd h
 calls-next H l m ls (p ∷ ps) h = h.0
@@ -246,7 +269,7 @@ pub walk-inlined : (G : List KeyedRule) (levels : List Level) (qs : List ℕ) (H
     → Inlines H K here m.key key → Walk G levels qs K key ls
 walk-inlined G levels qs H K here key m ls w f =
     let t = f (walk-call G levels qs H here m ls w) in
-    walk-next G levels qs H K here key m ls w.ps w.place t.keys w.restated w.lawful w.there w.leads w.label w.node w.size t.rules t.follows
+    walk-next G levels qs H K here key m ls w.ps w.place t.keys w.restated w.lawful w.there w.front w.behind w.leads w.label w.node w.size t.rules t.follows
 
 -- the rules of the levels still to come stay
 pub walk-kept : (G : List KeyedRule) (levels : List Level) (qs : List ℕ) (H K : List KeyedRule) (here key : Key) (m : Level) (ls : List Level) → Walk G levels qs H here (m ∷ ls)

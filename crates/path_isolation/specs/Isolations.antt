@@ -1,5 +1,5 @@
 -- What isolating one chain does.
-use Rattle.std.specs.Prelude.{◌≡◌, ℕ, ◌+◌, ◌-◌, ◌<◌, List, [], length, drop, Some, slice_get}
+use Rattle.std.specs.Prelude.{◌≡◌, ℕ, ◌+◌, ◌-◌, ◌<◌, ◌≤◌, List, [], length, drop, take, get_or, Some, slice_get}
 use Rattle.rule_arena.specs.declared.key.Key.{Key}
 use Rattle.rule_arena.specs.declared.label.Label.TheVariants.{Bottom}
 use Rattle.slt_grammar.specs.Algebras.{ranks_of, all_meanings}
@@ -7,7 +7,7 @@ use Rattle.slt_grammar.specs.Bodies.{real_nodes}
 use Rattle.slt_grammar.specs.ChangedValues.{term_around}
 use Rattle.slt_grammar.specs.Grammars.{body_at, size}
 use Rattle.slt_grammar.specs.Holding.{IsLawful}
-use Rattle.slt_grammar.specs.Keyed.{KeyedRule, key_at, rules_of}
+use Rattle.slt_grammar.specs.Keyed.{KeyedRule, key_at, nodes_at, rules_of}
 use Rattle.slt_grammar.specs.KeyedEdits.{label_at}
 use Rattle.slt_grammar.specs.Terms.{Term, Hole, term_algebra}
 use Rattle.slt_grammar.specs.declared.level.Level.{Level}
@@ -34,6 +34,17 @@ pub record IsIsolated (G H : List KeyedRule) (levels : List Level) (ps : List �
   pub label : label_at H (start_of G) place ≡ last_label G Bottom levels ps
   pub around : term_around (rules_of H) place ≡ term_around_end G levels ps
 
+-- the place of a chain's first node
+abbrev pub first_place : List ℕ → ℕ
+first_place ps = get_or ps 0 0
+
+-- the starts have the same nodes up to the first node of a chain at these places, and the key stands there or behind
+pub record IsSameInFront (G H : List KeyedRule) (ps : List ℕ) (key : Key) : Type 0 where
+  pub nodes : take (first_place ps) (nodes_at H (start_of H)) ≡ take (first_place ps) (nodes_at G (start_of G))
+  pub place : ℕ
+  pub there : key_at H (start_of H) place ≡ Some key
+  pub behind : first_place ps ≤ place
+
 -- how many nodes come, and how many calls go, where each call of a chain is inlined once
 abbrev pub come_along : List KeyedRule → List Level → ℕ
 come_along G levels = weight_of real_nodes G (drop 1 levels)
@@ -51,13 +62,16 @@ pub record IsRestated (G H : List KeyedRule) : Type 0 where
   pub ranks : ranks_of (rules_of H) ≡ ranks_of (rules_of G)
   pub means : all_meanings term_algebra (rules_of H) ≡ all_meanings term_algebra (rules_of G)
 
--- on the way from G: the key stands in the start's body of H, and from it these levels lead to where the chain led
+-- on the way from G: the key stands in the start's body of H, which is G's before the chain's first node, and from it these levels lead to where the
+-- chain led
 pub record Walk (G : List KeyedRule) (levels : List Level) (qs : List ℕ) (H : List KeyedRule) (here : Key) (ls : List Level) : Type 0 where
   pub restated : IsRestated G H
   pub lawful : IsLawful H
   pub place : ℕ
   pub ps : List ℕ
   pub there : key_at H (start_of G) place ≡ Some here
+  pub front : take (first_place qs) (nodes_at H (start_of G)) ≡ take (first_place qs) (nodes_at G (start_of G))
+  pub behind : first_place qs ≤ place
   pub leads : Leads H (label_at H (start_of G) place) ls ps
   pub label : last_label H (label_at H (start_of G) place) ls ps ≡ last_label G Bottom levels qs
   pub node : (F : List Term → Term) → meaning_with term_algebra (rules_of H) (body_at (rules_of H) (start_of G)) place (led term_algebra H ls ps F) [] ≡ led term_algebra G levels qs F []

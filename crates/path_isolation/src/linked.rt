@@ -8,7 +8,7 @@ ghost use Rattle.slt_grammar.specs.Ways.{HaveSameRules};
 ghost use Rattle.slt_grammar.specs.declared.level.Level.{Level};
 ghost use Rattle.digram_index.specs.Linked.{IsIndexOf};
 ghost use Rattle.path_isolation.specs.Chains.{IsChain};
-ghost use Rattle.path_isolation.specs.Isolations.{DifferInStart, IsIsolated, Walk, calls_along, come_along, room_along};
+ghost use Rattle.path_isolation.specs.Isolations.{DifferInStart, IsIsolated, IsSameInFront, Walk, calls_along, come_along, room_along};
 
 use crate::isolation::first_key;
 use digram_index::{Index, inline_linked};
@@ -35,6 +35,7 @@ pub fn isolate_linked<W: Way, L: Ledger>(
     ensures values { (r : ℕ) → value_at (rules_of grammar.new.rules) r ≡ value_at (rules_of grammar.old.rules) r }
     ensures node { (ps : List ℕ) → IsChain grammar.old.rules (W.levels way grammar.old.rules) ps
         → IsIsolated grammar.old.rules grammar.new.rules (W.levels way grammar.old.rules) ps result }
+    ensures front { (ps : List ℕ) → IsChain grammar.old.rules (W.levels way grammar.old.rules) ps → IsSameInFront grammar.old.rules grammar.new.rules ps result }
     ensures size { size (rules_of grammar.new.rules) + calls_along (W.levels way grammar.old.rules)
         ≡ size (rules_of grammar.old.rules) + come_along grammar.old.rules (W.levels way grammar.old.rules) }
     ensures most { size (rules_of grammar.new.rules) + real_nodes (start_body (rules_of grammar.old.rules)) ≤ 2 * size (rules_of grammar.old.rules) }

@@ -43,3 +43,6 @@ pub mod TreeSpots
 pub mod KidRanges
 pub mod RangeSums
 pub mod Extending
+pub mod TourSums
+pub mod Marking
+pub mod SameBefore

@@ -85,7 +85,7 @@ module _ (names : List (Kind × List ℕ)) (g : Keyed) (K : IsKeyed g) (C : Coun
         few = omega (arith, nodes-few g.rules (length g.rules - 1));
       }
 
-  module _ (levels : List Level) (rule : ℕ) (before : Weights) (first steps : ℕ) (s : Spotting names g n levels rule before first steps) (found : WeighedStop) (f : FallsWeighed names g.rules rule (n - before.nodes) found) (c : CallsBelow rule (found.label ∷ [])) where
+  module _ (levels : List Level) (rule : ℕ) (before : Weights) (first steps : ℕ) (s : Spotting names g n levels rule before first steps) (found : WeighedStop) (f : FallsWeighed names g.rules by.Nodes rule (n - before.nodes) found) (c : CallsBelow rule (found.label ∷ [])) where
     abbrev x : Node
     x = record { key = found.walk.key; label = found.label; kids = f.kids }
 

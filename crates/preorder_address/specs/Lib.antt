@@ -11,3 +11,4 @@ pub mod Weighing
 pub mod Parents
 pub mod Spots
 pub mod Ranges
+pub mod Marks

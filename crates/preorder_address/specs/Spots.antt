@@ -17,6 +17,8 @@ use Rattle.preorder_address.specs.Descents.{descent_to, levels_of}
 use Rattle.preorder_address.specs.Routes.{stop_weight}
 use Rattle.preorder_address.specs.Stops.{FallsAt}
 use Rattle.preorder_address.specs.TreeNumbers.{placed}
+use Rattle.preorder_address.specs.Numberings.{measure_of}
+use Rattle.preorder_address.specs.declared.numbering.Numbering.{Numbering}
 use Rattle.preorder_address.specs.declared.numbering.Numbering.TheVariants.{Nodes}
 use Rattle.preorder_address.specs.declared.spot.Spot.{Spot}
 use Rattle.preorder_address.specs.declared.spot.WeighedStop.{WeighedStop}
@@ -40,8 +42,8 @@ abbrev pub place_at : Tree → ℕ → Option ℕ
 place_at t n = option_map (λ e. e.0) (slice_get (placed 0 (more t none)) n)
 
 -- number n of a rule falls into the stop, and this is the weight of what its tour passes before
-pub record FallsWeighed (names : List (Kind × List ℕ)) (G : List KeyedRule) (r n : ℕ) (found : WeighedStop) : Type 0 where
+pub record FallsWeighed (names : List (Kind × List ℕ)) (G : List KeyedRule) (by : Numbering) (r n : ℕ) (found : WeighedStop) : Type 0 where
   pub kids : ℕ
   pub offset : ℕ
-  pub falls : FallsAt node_weight G r n found.walk (stop (record { key = found.walk.key; label = found.label; kids = kids }) found.walk.part) offset
+  pub falls : FallsAt (weigh names (measure_of by)) G r n found.walk (stop (record { key = found.walk.key; label = found.label; kids = kids }) found.walk.part) offset
   pub weights : (m : Measure) → weight_by m found.passed ≡ sum_by (stop_weight (weigh names m) G) falls.passed

@@ -6,15 +6,18 @@
 //!
 //! The other modules go along such levels. `site` adds up what stands before a node and what the code of its kids weighs, by what a
 //! `weigher` counts; `nodes` tells a node's kind, extent and text rank, `kids` the places in its list of kids and its next sibling,
-//! `parent` its parent. `spot` tells of a node what one descent finds out. `way` makes a descent a `Way`, whose rules may change between its calls.
+//! `parent` its parent. `spot` tells of a node what one descent finds out,
+//! which begins at one of the `marks` that descents leave along a long start; `place_start` begins a descent to a place there. `way` makes a descent a `Way`, whose rules may change between its calls.
 #![tactic(auto)]
 
 mod descent;
 mod kids;
 mod laws;
+mod marks;
 mod nodes;
 mod numbering;
 mod parent;
+mod place_start;
 mod site;
 mod spot;
 mod spot_extent;
@@ -25,9 +28,11 @@ mod weigher;
 pub use descent::{Descent, RuleStop, locate, locate_place};
 pub use kids::{after_attributes, end_of_kids, next_sibling};
 pub use laws::descents_arrive;
+pub use marks::{Mark, Marks};
 pub use nodes::{extent, kind_of, text_rank};
 pub use numbering::Numbering;
 pub use parent::parent_of;
-pub use spot::{Spot, find};
+pub use place_start::{PlaceStart, begin_place};
+pub use spot::{Spot, find, find_marked};
 pub use spot_way::SpotWay;
 pub use way::CountedDescent;

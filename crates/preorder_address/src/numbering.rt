@@ -3,10 +3,11 @@ ghost use Rattle.std.specs.Prelude.{◌≡◌, List, [], ◌∷◌, length, sum_
 ghost use Rattle.slt_grammar.specs.Bodies.{CallsBelow};
 ghost use Rattle.slt_grammar.specs.Segments.{part_of};
 ghost use Rattle.slt_grammar.specs.declared.rules.Rule.{Rule};
+ghost use Rattle.segment_counts.specs.Counting.{weight_by};
 ghost use Rattle.preorder_address.specs.Numberings.{measure_of};
 ghost use Rattle.preorder_address.specs.Told.{told_part};
 
-use segment_counts::{Counts, Measure};
+use segment_counts::{Counts, Measure, Weights};
 use slt_grammar::Label;
 
 /// What the numbers of a descent count.
@@ -25,6 +26,16 @@ impl Numbering {
         match self {
             Numbering::Nodes => Measure::Nodes,
             Numbering::All => Measure::All,
+        }
+    }
+
+    // How many numbers are counted by weights.
+    pub(crate) fn of(self, weights: Weights) -> u64
+        ensures { result ≡ weight_by (measure_of self) weights }
+    {
+        match self {
+            Numbering::Nodes => weights.nodes,
+            Numbering::All => weights.all,
         }
     }
 

@@ -137,7 +137,7 @@ pub(crate) fn pass_to<L: Ledger>(
 }
 
 // Whether a walk stands at this node, before its kids.
-fn begins_at(walk: &TourWalk, key: Key) -> bool
+pub(crate) fn begins_at(walk: &TourWalk, key: Key) -> bool
     ensures yes { result ≡ true → (walk.now.key ≡ key) × (walk.now.part ≡ 0) }
     ensures no { result ≡ false → walk.now.key ≡ key → walk.now.part ≡ 0 → ⊥ }
 {

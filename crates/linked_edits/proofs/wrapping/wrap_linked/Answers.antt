@@ -1,5 +1,5 @@
 use Rattle.std.proofs.Common.{arith}
-use Rattle.linked_edits.proofs.PutBefore.{put-before, put-index, put-part, put-run, run-many}
+use Rattle.linked_edits.proofs.PutBefore.{put-before, put-front, put-index, put-part, put-run, run-many}
 use Rattle.linked_edits.proofs.WrappedIndex.{first-below}
 use Rattle.linked_edits.proofs.wrapping.wrap_linked.Goals as goal
 
@@ -77,3 +77,8 @@ returns-clause-links c =
     let R = put-run g h K K' c.args.at S c.args.body.now c.requires.last c.requires.body (W S) c.node_below-first.result (c.node_below-first.ensures S.here.place B) in
     let m = run-many g h K K' c.args.at S c.args.body.now c.requires.last c.requires.body (W S) c.node_below-first.result R (c.node_below-first.ensures S.here.place B) in
     omega (arith, m, c.link_run.ensures.spare R, c.unlink_node.ensures.spares.0)
+
+pub returns-clause-front : goal.returns-clause-front
+returns-clause-front c = λ S.
+    let W = rw c.unwrap.ensures at c.wrap.ensures.rules in
+    put-front c.args.grammar.now c.wrap.new.self c.limit-before.ensures.keyed c.limit-after.ensures.keyed c.args.at S c.args.body.now c.requires.last c.requires.body (W S)

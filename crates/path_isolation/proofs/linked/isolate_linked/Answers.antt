@@ -6,7 +6,7 @@ use Rattle.slt_grammar.specs.declared.level.Level.{Level}
 use Rattle.path_isolation.specs.Chains.{IsChain, weight_of}
 use Rattle.path_isolation.specs.Isolations.{Walk, room_along}
 use Rattle.path_isolation.proofs.ChainLemmas.{as-before, weight-same}
-use Rattle.path_isolation.proofs.Walks.{walk-begin, walk-end, first-level, isolated-size, restated-values, length-body}
+use Rattle.path_isolation.proofs.Walks.{walk-begin, walk-end, walk-front, first-level, isolated-size, restated-values, length-body}
 use Rattle.path_isolation.proofs.linked.isolate_linked.Goals as goal
 
 pub loop-level-init : goal.loop-level-init
@@ -102,3 +102,10 @@ follow_linked-here-requires-clause-links g c =
     let rest : List Level = g.W.Way.levels c.next.new.self H in
     let e : g.W.Way.levels c.loop-level.way H ≡ c.in-Some.level ∷ rest = c.in-Some.ensures.levels in
     omega (arith, ap (weight_of length H) e, length-body H c.in-Some.level.rule, c.loop-level.invariant.links, c.requires.links)
+
+pub returns-clause-front : goal.returns-clause-front
+returns-clause-front g c = λ ps h.
+    let G : List KeyedRule = c.args.grammar.now.rules in
+    let lv : List Level = g.W.Way.levels c.args.way G in
+    let H : List KeyedRule = c.loop-level.grammar.rules in
+    walk-front G lv (g.W.Way.levels c.loop-level.way H) ps H c.loop-level.here (c.loop-level.invariant.walk ps h)

@@ -7,7 +7,7 @@ use Rattle.segment_counts.specs.declared.counts.Measure.TheVariants.{Nodes}
 use Rattle.preorder_address.specs.declared.numbering.Numbering.TheVariants as by
 use Rattle.preorder_address.proofs.Locating.{leads}
 use Rattle.preorder_address.proofs.Naming.{value-last}
-use Rattle.preorder_address.proofs.spot.find.Goals as goal
+use Rattle.preorder_address.proofs.spot.find_marked.Goals as goal
 
 pub descend-requires-clause-number : goal.descend-requires-clause-number
 descend-requires-clause-number g c =

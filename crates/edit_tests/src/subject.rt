@@ -15,7 +15,7 @@ use tree_outside::{MemoryShelf, MemorySink};
 
 // What a session holds: how many rules, nodes of rules, names, texts and nodes of the document, and how many edits there were since it
 // was settled.
-#[derive(Clone, Copy, PartialEq, Eq)]
+#[derive(Clone, Copy, Debug, PartialEq, Eq)]
 pub(crate) struct Holding {
     pub rules: usize,
     pub size: u64,
@@ -117,6 +117,7 @@ impl Subject {
             texts,
             counts,
             index: _,
+            marks: _,
         } = store;
         Some(Holding {
             rules: grammar.rules(),

@@ -5,7 +5,7 @@ use Rattle.tree_outside.specs.Files.{Told}
 use Rattle.plain_tree.specs.NodePairs.{Pair}
 use Rattle.plain_tree.specs.Tree.{Tree, node_count}
 use Rattle.slt_grammar.specs.Grammars.{IsGrammar, IsSwept, size, value}
-use Rattle.slt_grammar.specs.Keyed.{rules_of}
+use Rattle.slt_grammar.specs.Keyed.{KeyedRule, rules_of}
 use Rattle.slt_grammar.specs.Segments.{listed}
 use Rattle.slt_grammar.specs.Standing.{StandsFor}
 use Rattle.slt_grammar.specs.declared.rules.Rule.{Rule}
@@ -16,6 +16,8 @@ use Rattle.segment_counts.specs.Counting.{AreCounts}
 use Rattle.segment_counts.specs.Weights.{node_weight}
 use Rattle.segment_counts.proofs.Coded.{weight-coded}
 use Rattle.digram_index.specs.Linked.{IsIndexOf}
+use Rattle.preorder_address.specs.Marks.{AreMarks}
+use Rattle.preorder_address.specs.declared.marks.Marks.{Marks}
 use Rattle.selecting_automaton.specs.Words.{Selection, word_algebra, word_downward}
 use Rattle.bulk_rewrite.specs.DeletedAll.{AreDeleted, IsNotDeletedFor, deleting_run}
 use Rattle.bulk_rewrite.specs.Making.{AreFew}
@@ -25,8 +27,9 @@ use Rattle.bulk_rewrite.specs.declared.renaming_all.BulkError.TheVariants.{NotAl
 use Rattle.bulk_rewrite.proofs.GrowingNames.{some-grown}
 use Rattle.bulk_rewrite.proofs.RenamingAll.{renamed-lawful}
 use Rattle.text_list.specs.RoomyTexts.{RoomyTexts}
-use Rattle.tree_updates.specs.Stores.{IsStoreFor}
+use Rattle.tree_updates.specs.Stores.{HasMarks, IsStoreFor}
 use Rattle.tree_updates.specs.declared.store.Store.{Store}
+use Rattle.tree_updates.proofs.AppliedMarks.{marked}
 use Rattle.tree_updates.proofs.GrownNames.{stands-grown}
 use Rattle.tree_updates.proofs.RegrownNames.{counts-grown}
 use Rattle.store_core.specs.Acts.{Act, Load, LoadGrammar, Query, RenameAll, DeleteAll, file_read, query_asked}
@@ -111,6 +114,17 @@ module _ (edit : BulkEdit) (selector : Selection) (s : Store) (t : Tree) (i : Is
   -- the edit is refused, and all is as it was
   pub left-as-it-was : (error : BulkError) (new : Store) → IsRefusedForAll error edit numbers t s.names s.names → new ≡ s → IsLeftByAll edit selector t error s new
   left-as-it-was error new why same = subst (λ (x : Store). IsLeftByAll edit selector t error s x) (sym same) (record { cause = why; store = i; rules = refl; texts = refl })
+
+-- an edit of a store with other marks
+pub left-marked : (edit : BulkEdit) (selector : Selection) (s : Store) (t : Tree) (m : Marks) (error : BulkError) (new : Store) → IsLeftByAll edit selector t error (marked s m) new → IsLeftByAll edit selector t error s new
+left-marked edit selector s t m error new left = record { cause = left.cause; store = left.store; rules = left.rules; texts = left.texts }
+
+pub edited-marked : (edit : BulkEdit) (selector : Selection) (s : Store) (t : Tree) (m : Marks) (new : Store) → IsEditedAll edit selector t (marked s m) new → IsEditedAll edit selector t s new
+edited-marked edit selector s t m new made = record { allowed = made.allowed; store = made.store; names = made.names; few = made.few }
+
+-- a store whose marks were taken away has marks
+pub cleared-marks : (s : Store) (m : Marks) → s.marks ≡ m → ((names : List Pair) (G : List KeyedRule) → AreMarks names G m) → HasMarks s
+cleared-marks s m e none = subst (λ (x : Marks). AreMarks s.names s.grammar.rules x) (sym e) (none s.names s.grammar.rules)
 
 module _ (s : Store) (t : Tree) (i : IsStoreFor s t) (selector : Selection) (H : List Rule) (swept : IsSwept H) (mid : Store) (rules : rules_of mid.grammar.rules ≡ H)
     (counts : AreCounts mid.names (rules_of mid.grammar.rules) mid.counts) (index : IsIndexOf mid.grammar mid.index) where

@@ -10,7 +10,7 @@ use Rattle.plain_tree.specs.declared.edit.Edit.{Edit}
 use Rattle.slt_grammar.specs.Grammars.{IsGrammar, size}
 use Rattle.slt_grammar.specs.Keyed.{rules_of}
 use Rattle.slt_grammar.specs.declared.rules.Rule.{Rule}
-use Rattle.tree_updates.specs.Stores.{IsEdited, IsRefused, IsStoreFor}
+use Rattle.tree_updates.specs.Stores.{HasMarks, IsEdited, IsRefused, IsStoreFor}
 use Rattle.tree_updates.specs.declared.store.EditError.{EditError}
 use Rattle.tree_updates.specs.declared.store.EditError.TheVariants as error
 use Rattle.tree_updates.specs.declared.store.Store.{Store}
@@ -37,8 +37,8 @@ store-held s h c = record { stand = h.stand; small = h.small; swept = h.swept; c
 pub held-store : (s : Store) (t : Tree) → IsStoreFor s t → IsGrammar (rules_of s.grammar.rules) → AreLawfulParts (parts_of s)
 held-store s t i g = record { tree = t; stand = i.stand; small = i.small; grammar = g; swept = i.swept }
 
-pub counted-store : (s : Store) (t : Tree) → IsStoreFor s t → IsCounted s
-counted-store s t i = record { counts = i.counts; index = i.index }
+pub counted-store : (s : Store) (t : Tree) → IsStoreFor s t → HasMarks s → IsCounted s
+counted-store s t i m = record { counts = i.counts; index = i.index; marks = m }
 
 -- a store with the same rules and texts, and with other names
 pub held-still : (l : Loaded) (s : Store) (names : List Pair) → s.names ≡ names → rules_of s.grammar.rules ≡ rules_of l.store.grammar.rules → s.texts.texts ≡ l.store.texts.texts

@@ -9,7 +9,7 @@ ghost use Rattle.slt_grammar.specs.Segments.{listed};
 ghost use Rattle.digram_index.specs.Linked.{IsIndexOf};
 ghost use Rattle.segment_counts.specs.Counting.{AreCounts};
 ghost use Rattle.segment_counts.specs.Weights.{node_weight};
-ghost use Rattle.tree_updates.specs.Stores.{IsStoreFor};
+ghost use Rattle.tree_updates.specs.Stores.{HasMarks, IsStoreFor};
 ghost use Rattle.store_core.specs.Acts.{DeleteAll, RenameAll};
 ghost use Rattle.store_core.specs.BulkEditing.{Deletion, IsBulkEdit, Renaming};
 ghost use Rattle.store_core.specs.BulkStores.{AppliesToAll};
@@ -133,9 +133,11 @@ fn rename_hits<L: Ledger>(
     requires store { (t : Tree) × IsStoreFor store.old t }
     requires name { IsName name.now }
     ensures applies { (t : Tree) → IsStoreFor store.old t → AppliesToAll (Renaming name.now) selector.now t store.old result store.new }
+    ensures marks { HasMarks store.new }
 {
     // The call tells what is true of every grammar.
     let _rules = store.grammar.rules();
+    store.marks.clear();
     let grammar = rename_all(
         alloc,
         &store.grammar,
@@ -157,7 +159,9 @@ fn delete_hits<L: Ledger>(
 ) -> Result<(), BulkError>
     requires store { (t : Tree) × IsStoreFor store.old t }
     ensures applies { (t : Tree) → IsStoreFor store.old t → AppliesToAll Deletion selector.now t store.old result store.new }
+    ensures marks { HasMarks store.new }
 {
+    store.marks.clear();
     let Rewritten { grammar, texts } = delete_all(
         alloc,
         &store.grammar,
@@ -181,6 +185,7 @@ fn put_rules(alloc: Global, store: &mut Store, grammar: Grammar) -> Result<(), A
     ensures index { OnOk result (IsIndexOf store.new.grammar store.new.index) }
     ensures names { store.new.names ≡ store.old.names }
     ensures texts { store.new.texts ≡ store.old.texts }
+    ensures marks { store.new.marks ≡ store.old.marks }
     ensures refused { OnErr result (store.new ≡ store.old) }
 {
     let Tables { counts, index } = tables_of(alloc, &grammar, &store.names)?;

@@ -7,7 +7,7 @@ ghost use Rattle.plain_tree.specs.Tree.{Tree, trees, node_count};
 ghost use Rattle.xml_nodes.specs.Spelling.{SpellsList, SpellsValue};
 ghost use Rattle.slt_grammar.specs.Grammars.{IsGrammar, size};
 ghost use Rattle.slt_grammar.specs.Keyed.{rules_of};
-ghost use Rattle.tree_updates.specs.Stores.{IsStoreFor};
+ghost use Rattle.tree_updates.specs.Stores.{HasMarks, IsStoreFor};
 ghost use Rattle.store_core.specs.Acts.{node_asked};
 ghost use Rattle.store_core.specs.CommandOf.{act_of};
 ghost use Rattle.store_core.specs.Editing.{AsksEdit, IsDue, IsEdit, IsSettledWhereDue, one_more};
@@ -181,12 +181,14 @@ fn value_of(alloc: Global, bytes: &[u8]) -> Result<Bytes, Refusal>
 pub(crate) fn settle_where_due(alloc: Global, loaded: &mut Loaded, settings: Settings) -> Answer
     requires rank { settings.rank ≤ 8 }
     requires store { (t : Tree) × IsStoreFor loaded.old.store t }
+    requires marks { HasMarks loaded.old.store }
     ensures store { (t : Tree) → IsStoreFor loaded.old.store t → IsStoreFor loaded.new.store t }
     ensures grammar { IsGrammar (rules_of loaded.new.store.grammar.rules) }
     ensures names { loaded.new.store.names ≡ loaded.old.store.names }
     ensures size { size (rules_of loaded.new.store.grammar.rules) ≤ size (rules_of loaded.old.store.grammar.rules) }
     ensures kept { (IsDue settings (one_more loaded.old.edits) → ⊥) → rules_of loaded.new.store.grammar.rules ≡ rules_of loaded.old.store.grammar.rules }
     ensures few { loaded.new.edits < 2 ^ 64 }
+    ensures marks { HasMarks loaded.new.store }
     ensures settled { (t : Tree) → IsStoreFor loaded.old.store t → IsSettledWhereDue settings (one_more loaded.old.edits) (held_of loaded.new) (node_count t) result }
 {
     // The call tells what is true of every grammar.

@@ -16,6 +16,7 @@ use crate::loaded::Tables;
 use crate::loading::{ReadDocument, open_file, tables_of};
 use crate::reading::{FILE_LIMIT, PIECE};
 use grammar_file::{Parts, read};
+use preorder_address::Marks;
 use std::alloc::Global;
 use tree_outside::{Failed, Shelf};
 use tree_updates::Store;
@@ -97,5 +98,6 @@ fn store_of_file(alloc: Global, bytes: &[u8]) -> Result<Store, Refusal>
         texts,
         counts,
         index,
+        marks: Marks::new(alloc),
     })
 }

@@ -28,6 +28,7 @@ use digram_index::build;
 use fcns_encoding::Folded;
 use local_repair::settle;
 use plain_tree::Names;
+use preorder_address::Marks;
 use segment_counts::{CountError, Counts};
 use slt_grammar::Grammar;
 use std::alloc::{AllocError, Global};
@@ -117,6 +118,7 @@ pub(crate) fn store_of(alloc: Global, folded: Folded, rank: usize) -> Result<Sto
         texts,
         counts,
         index,
+        marks: Marks::new(alloc),
     })
 }
 

@@ -8,7 +8,7 @@ ghost use Rattle.slt_grammar.specs.Keyed.{rules_of};
 ghost use Rattle.slt_grammar.specs.Ranks.{greatest_rank};
 ghost use Rattle.digram_index.specs.Linked.{IsIndexOf};
 ghost use Rattle.local_repair.specs.Settling.{IsNoLarger};
-ghost use Rattle.tree_updates.specs.Stores.{IsStoreFor};
+ghost use Rattle.tree_updates.specs.Stores.{HasMarks, IsStoreFor};
 ghost use Rattle.store_core.specs.Machine.{Repairs};
 ghost use Rattle.store_core.specs.StoreOf.{IsCounted, held_of, parts_of};
 ghost use Rattle.store_core.specs.Texts.{answer_line};
@@ -48,6 +48,7 @@ pub(crate) fn repair_document(
     let size = grammar.size();
     store.grammar = grammar;
     store.index = index;
+    store.marks.clear();
     loaded.edits = 0;
     Ok(Answer::Repaired { rules, size })
 }
@@ -62,10 +63,12 @@ pub(crate) fn settle_store(alloc: Global, store: &mut Store, rank: usize) -> Res
     ensures grammar { IsGrammar (rules_of store.new.grammar.rules) }
     ensures names { store.new.names ≡ store.old.names }
     ensures size { size (rules_of store.new.grammar.rules) ≤ size (rules_of store.old.grammar.rules) }
+    ensures marks { HasMarks store.new }
 {
     // The calls tell what is true of every grammar.
     let _before = store.grammar.rules();
     let most = most_rules(&store.grammar);
+    store.marks.clear();
     store.counts.reserve(most)?;
     let settled = settle_touched(alloc, &mut store.grammar, &mut store.index, rank);
     let _behind = store.grammar.rules();

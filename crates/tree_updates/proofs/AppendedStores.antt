@@ -119,6 +119,14 @@ module _ (t : Tree) (n : ℕ) (low : n < node_count t) where
               ∙ ap (λ (i : ℕ). insert_slice (texts_all (more t none)) i (texts_all (trees F))) new-rank ∙ ap (λ xs. insert_slice xs (x.rank + x.texts) (texts_all (trees F))) (texts-one t);
         }
 
+  -- it is a place of the code
+  pub end-low : (site : Site) → IsEndSite t n site → site.place < 2 * node_count t + 1
+  end-low site h =
+      let q = place-of n t host in
+      let w = placed-within (more t none) 0 n q.0 (node host.kind host.name host.content host.kids) q.1 in
+      let is = same_Some site.place (q.0 + 2 * node_count (node host.kind host.name host.content host.kids) - 1) (sym h.place ∙ ends) in
+      omega (arith, is, w.1)
+
   -- a fragment there makes the document the one with it
   module _ (names : List Pair) (F : List Tree) (count : ℕ) (size : count ≡ node_count_all (trees F)) (site : Site) (h : IsEndSite t n site) (g : Growth) (x : IsFragmentGrowth names F count site g)
       (u : Tree) (is : made more (Append n F) (more t none) ≡ more u none) (document : IsDocument u) where

@@ -238,7 +238,7 @@ module _ (t : Tree) (n : ℕ) (name value : List ℕ) (edit : IsEditOf t (Attr n
         let q = place-of n t element in
         same_Some site.place (q.0 + 1 + attribute_places element.kids) (sym h.place ∙ ap (option_map (λ (x : ℕ × Tree). x.0 + 1 + attribute_places (kids_of x.1))) q.1)
 
-    place-fits : site.place < 2 * node_count t + 1
+    pub place-fits : site.place < 2 * node_count t + 1
     place-fits =
         let q = place-of n t element in
         let w = placed-within (more t none) 0 n q.0 (node element.kind element.name element.content element.kids) q.1 in

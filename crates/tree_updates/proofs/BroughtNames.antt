@@ -26,7 +26,7 @@ lawful-take (p ∷ ps) (suc k) a = lawful-cons p (take k ps) (a 0 p.0 p.1 refl) 
 
 -- the store with other names
 abbrev pub named : Store → List Pair → Store
-named s names = record { grammar = s.grammar; names = names; texts = s.texts; counts = s.counts; index = s.index }
+named s names = record { grammar = s.grammar; names = names; texts = s.texts; counts = s.counts; index = s.index; marks = s.marks }
 
 module _ (old : Store) (t : Tree) (i : IsStoreFor old t) (e : Edit) (edit : IsEditOf t e) (lawful : IsGrammar (rules_of old.grammar.rules)) where
   few-named : (k : ℕ) (names : List Pair) → Interns old.names (take k (new_pairs t e)) names → IsStoreFor (named old names) t

@@ -24,7 +24,7 @@ some-came (Ok x) old pairs new l a b = (pairs, a, l)
 some-came (Err e) old pairs new l a b = (take b.0 pairs, b.1, λ i kind name e. l i kind name (front-there b.0 i pairs (kind, name) e))
 
 pub grown-store : (s : Store) (t : Tree) → IsStoreFor s t → IsGrammar (rules_of s.grammar.rules) → (ps new : List Pair) → Interns s.names ps new → AreLawful ps
-    → IsStoreFor (record { grammar = s.grammar; names = new; texts = s.texts; counts = s.counts; index = s.index }) t
+    → IsStoreFor (record { grammar = s.grammar; names = new; texts = s.texts; counts = s.counts; index = s.index; marks = s.marks }) t
 grown-store s t i g ps new grown lawful = record {
   stand = stands-grown (rules_of s.grammar.rules) s.names ps new s.texts.texts t i.stand grown lawful;
   small = i.small;

@@ -96,7 +96,7 @@ growth-few names t u g x = omega (arith, x.small, texts-few u, ap length x.texts
 
 -- a store with names that have grown
 pub with-names : (s : Store) (t : Tree) (i : IsStoreFor s t) (pairs new : List Pair) → Interns s.names pairs new → AreLawful pairs → IsGrammar (rules_of s.grammar.rules)
-    → IsStoreFor (record { grammar = s.grammar; names = new; texts = s.texts; counts = s.counts; index = s.index }) t
+    → IsStoreFor (record { grammar = s.grammar; names = new; texts = s.texts; counts = s.counts; index = s.index; marks = s.marks }) t
 with-names s t i pairs new grown lawful g = record {
   stand = stands-grown (rules_of s.grammar.rules) s.names pairs new s.texts.texts t i.stand grown lawful;
   small = i.small;

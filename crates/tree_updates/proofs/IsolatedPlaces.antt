@@ -9,7 +9,7 @@ use Rattle.slt_grammar.specs.Algebras.{all_meanings, ranks_of}
 use Rattle.slt_grammar.specs.Bodies.{CallsBelow}
 use Rattle.slt_grammar.specs.ChangedValues.{StandsWithin, term_around}
 use Rattle.slt_grammar.specs.Coding.{Codes}
-use Rattle.slt_grammar.specs.Grammars.{IsGrammar, value}
+use Rattle.slt_grammar.specs.Grammars.{value}
 use Rattle.slt_grammar.specs.Keyed.{IsKeyed, Keyed, KeyedRule, key_at, rules_of}
 use Rattle.slt_grammar.specs.KeyedEdits.{label_at}
 use Rattle.slt_grammar.specs.Terms.{Term, substitute, term_algebra}
@@ -17,13 +17,9 @@ use Rattle.slt_grammar.specs.Wrapping.{IsInStart, IsWrapper}
 use Rattle.slt_grammar.specs.declared.level.Level.{Level}
 use Rattle.slt_grammar.specs.declared.rules.Rule.{Rule}
 use Rattle.slt_grammar.proofs.KeyedLemmas.{key_at-within}
-use Rattle.segment_counts.specs.Counting.{CountTable, told}
 use Rattle.segment_counts.specs.Weights.{all_weight}
-use Rattle.segment_counts.specs.declared.counts.Measure.TheVariants as measure
-use Rattle.segment_counts.proofs.Telling.{total-told}
 use Rattle.path_isolation.specs.Chains.{IsChain, IsOfValue, last_label}
 use Rattle.path_isolation.specs.Isolations.{IsIsolated, start_of}
-use Rattle.preorder_address.specs.Numberings.{AreCountsOf}
 use Rattle.preorder_address.specs.declared.numbering.Numbering.TheVariants.{All}
 use Rattle.preorder_address.proofs.Naming.{value-last}
 use Rattle.preorder_address.proofs.TreePlaces.{all-coded}
@@ -52,10 +48,6 @@ place-isolated K sound n ls L H key m I =
       label = subst (λ r. IsOfValue (label_at H r I.place)) e (subst IsOfValue (sym I.label) v);
       before = number-isolated All K sound H n ls key N I;
     }
-
--- a place of the value is below the kept total
-pub told-place : (G : List KeyedRule) (C : CountTable) (n : ℕ) → AreCountsOf (rules_of G) C → IsGrammar (rules_of G) → n < places_in G → n < told measure.All C.rows (C.rules - 1) 0
-told-place G C n a g low = omega (arith, low, total-told a.0 (rules_of G) C a.1 g measure.All, ap (sum_by all_weight) (value-last G))
 
 -- a document has a place for each node and for each bottom, of which there is one more
 pub places-coded : (names : List (Kind × List ℕ)) (G : List KeyedRule) (t : Tree) → Codes names (more t none) (value (rules_of G)) → places_in G ≡ 2 * node_count t + 1

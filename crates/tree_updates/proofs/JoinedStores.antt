@@ -37,7 +37,7 @@ use Rattle.tree_updates.proofs.Texts.{rank_in}
 
 -- the store with other texts
 abbrev pub with_texts : Store → RoomyTexts → Store
-with_texts a T = record { grammar = a.grammar; names = a.names; texts = T; counts = a.counts; index = a.index }
+with_texts a T = record { grammar = a.grammar; names = a.names; texts = T; counts = a.counts; index = a.index; marks = a.marks }
 
 -- a text gets a value
 module _ (t : Tree) (b : ℕ) (x : List ℕ) (us : Trees) (here : from_node b (more t none) ≡ more (text x) us) (w : List ℕ) (L : LeavesDocument t (Value b w)) where

@@ -42,7 +42,6 @@ pub mod NodeWays
 pub mod BetweenTexts
 pub mod BetweenStores
 pub mod IsolatedPlaces
-pub mod FoundPlaces
 pub mod GrownStores
 pub mod AttributePlaces
 pub mod OldAttributes
@@ -73,3 +72,6 @@ pub mod CopiedStores
 pub mod CopiedCodes
 pub mod CopiedNodes
 pub mod UncountedCopies
+pub mod Fronts
+pub mod SweptMarks
+pub mod AppliedMarks

@@ -1,5 +1,5 @@
 -- The value of an attribute that an element has.
-use Rattle.std.proofs.Common.{◌≡◌, ℕ, zero, suc, ◌+◌, ◌<◌, ◌^◌, List, [], ◌∷◌, take, length, true, false, refl, ap, sym, ◌∙◌, subst, arith, inl, inr, Some, length-append}
+use Rattle.std.proofs.Common.{◌≡◌, ℕ, zero, suc, ◌+◌, ◌<◌, ◌^◌, List, [], ◌∷◌, take, true, false, refl, ap, sym, ◌∙◌, subst, arith, inl, inr, Some, length-append}
 use Rattle.std.specs.Prelude.{Result, Ok, Err}
 use Rattle.std.proofs.Math.Bool.{true≢false}
 use Rattle.std.proofs.lemmas.Nat.{mul-le}

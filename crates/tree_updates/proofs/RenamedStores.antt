@@ -84,7 +84,7 @@ module _ (old : Store) (t : Tree) (i : IsStoreFor old t) (n : ℕ) (x : List ℕ
   counts-still = counts-grown G old.names ((kind, x) ∷ []) names t old.counts lawful i.swept i.stand.code grown i.counts
 
   -- memory was wanting once the name was there
-  pub refused-grown : (grammar : Keyed) (index : Linked) → grammar.rules ≡ old.grammar.rules → IsIndexOf grammar index → IsRefused t e Memory old (record { grammar = grammar; names = names; texts = old.texts; counts = old.counts; index = index })
+  pub refused-grown : (grammar : Keyed) (index : Linked) → grammar.rules ≡ old.grammar.rules → IsIndexOf grammar index → IsRefused t e Memory old (record { grammar = grammar; names = names; texts = old.texts; counts = old.counts; index = index; marks = old.marks })
   refused-grown grammar index same indexed = record {
     cause = tt;
     store = record {
@@ -129,7 +129,7 @@ module _ (old : Store) (t : Tree) (i : IsStoreFor old t) (n : ℕ) (x : List ℕ
               (placed-becomes t i.stand.document e allowed name)
 
     pub renamed-store : (grammar : Keyed) (index : Linked) (counts : CountTable) → value (rules_of grammar.rules) ≡ value H → IsSwept (rules_of grammar.rules) → AreCounts names (rules_of grammar.rules) counts → IsIndexOf grammar index
-        → size (rules_of grammar.rules) ≤ 2 * size G → IsEdited t e old (record { grammar = grammar; names = names; texts = old.texts; counts = counts; index = index })
+        → size (rules_of grammar.rules) ≤ 2 * size G → IsEdited t e old (record { grammar = grammar; names = names; texts = old.texts; counts = counts; index = index; marks = old.marks })
     renamed-store grammar index counts same swept counted indexed small = record {
       allowed = allowed;
       store = record {

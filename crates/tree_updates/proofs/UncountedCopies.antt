@@ -30,7 +30,7 @@ module _ (a : Store) (t : Tree) (u : IsUnsweptFor a t) (n : ℕ) (x : Extent) (M
     twin-code = alone-code a.grammar.rules a.names a.texts.texts t u.stand n low x M s S alone body twin
 
     pub alone-uncounted : IsGrammar (rules_of a.grammar.rules) → GetsBefore (rules_of a.grammar.rules) (rules_of H.rules) n twin-code.front → HaveOtherValues (length (rules_of a.grammar.rules) - 1) (rules_of a.grammar.rules) (rules_of H.rules)
-        → HasUncountedCopy (record { grammar = H; names = a.names; texts = a.texts; counts = a.counts; index = I }) t n x
+        → HasUncountedCopy (record { grammar = H; names = a.names; texts = a.texts; counts = a.counts; index = I; marks = a.marks }) t n x
     alone-uncounted lawful gets others = record {
       may = M;
       before = rules_of a.grammar.rules;
@@ -46,7 +46,7 @@ module _ (a : Store) (t : Tree) (u : IsUnsweptFor a t) (n : ℕ) (x : Extent) (M
 
   -- where what is below it became a rule
   pub whole-uncounted : (rule : ℕ) (X : SharesBelow (rules_of a.grammar.rules) (rules_of H.rules) rule n s.symbol) → 1 < x.nodes → (C : CountTable) → (IsWeighed a.names (value_at X.shared rule) (x.nodes - 1) x.texts → AreCounts a.names X.shared C)
-      → HasUncountedCopy (record { grammar = H; names = a.names; texts = a.texts; counts = C; index = I }) t n x
+      → HasUncountedCopy (record { grammar = H; names = a.names; texts = a.texts; counts = C; index = I; marks = a.marks }) t n x
   whole-uncounted rule X some C counted = record {
     may = M;
     before = X.shared;

@@ -7,6 +7,7 @@ pub mod Extents
 pub mod FragmentGrowths
 pub mod Growths
 pub mod Fragments
+pub mod Fronts
 pub mod Joinings
 pub mod Marked
 pub mod NewAttributes

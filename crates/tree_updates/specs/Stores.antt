@@ -12,6 +12,7 @@ use Rattle.slt_grammar.specs.Standing.{StandsFor}
 use Rattle.digram_index.specs.Linked.{IsIndexOf}
 use Rattle.fcns_encoding.specs.Interning.{Interns}
 use Rattle.segment_counts.specs.Counting.{AreCounts}
+use Rattle.preorder_address.specs.Marks.{AreMarks}
 use Rattle.preorder_address.specs.TreeNumbers.{kind_at}
 use Rattle.tree_updates.specs.declared.store.Store.{Store}
 use Rattle.tree_updates.specs.declared.store.EditError.{EditError}
@@ -25,6 +26,10 @@ pub record IsStoreFor (s : Store) (t : Tree) : Type 0 where
   pub swept : IsSwept (rules_of s.grammar.rules)
   pub counts : AreCounts s.names (rules_of s.grammar.rules) s.counts
   pub index : IsIndexOf s.grammar s.index
+
+-- the store's marks are marks of its start
+abbrev pub HasMarks : Store → Type 0
+HasMarks s = AreMarks s.names s.grammar.rules s.marks
 
 -- The store for a document became one for the edited document. Its names grew by those that the edit brings, and its grammar by no more than
 -- twice what it was, once more for each text that was merged, and what the edit adds.

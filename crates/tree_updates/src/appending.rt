@@ -6,9 +6,12 @@ ghost use Rattle.plain_tree.specs.EditLaws.{IsEditOf};
 ghost use Rattle.plain_tree.specs.Edits.{edited, placed};
 ghost use Rattle.plain_tree.specs.Lawful.{IsFragment};
 ghost use Rattle.plain_tree.specs.Tree.{Tree, trees};
+ghost use Rattle.preorder_address.specs.Marks.{AreMarks, MarksFirst};
 ghost use Rattle.preorder_address.specs.Spots.{IsSpot};
+ghost use Rattle.tree_updates.specs.CodePlaces.{IsPlaceSpot};
 ghost use Rattle.tree_updates.specs.Extents.{IsCodedBy};
 ghost use Rattle.tree_updates.specs.FragmentGrowths.{IsEndSite};
+ghost use Rattle.tree_updates.specs.Fronts.{KeepsMarks};
 ghost use Rattle.tree_updates.specs.Stores.{Applies, IsRefusedFor, IsStoreFor};
 
 use crate::appending_joined::{append_joined, meeting_kid};
@@ -18,9 +21,10 @@ use crate::fragment_nodes::count_nodes;
 use crate::growing::{Site, TOO_MANY, grow};
 use crate::node_extent::extent_of;
 use crate::node_spots::spot_at;
+use crate::place_spots::{PlaceSpot, find_place};
 use crate::store::{EditError, Store};
 use plain_tree::Nodes;
-use preorder_address::Spot;
+use preorder_address::{Marks, Spot};
 use read_steps::Steps;
 use std::alloc::Global;
 use std::sync::ledger::Ledger;
@@ -32,20 +36,28 @@ use std::sync::ledger::Ledger;
 pub(crate) fn append<L: Ledger>(
     alloc: Global,
     store: &mut Store,
+    marks: &mut Marks,
     number: u64,
     fragment: &Nodes,
     steps: &mut Steps<L>,
 ) -> Result<(), EditError>
     requires store { (t : Tree) × IsStoreFor store.old t }
     requires fragment { IsFragment (trees fragment.now) }
+    requires marks { AreMarks store.old.names store.old.grammar.rules marks.old }
     ensures applies { (t : Tree) → IsStoreFor store.old t → Applies t (Append number fragment.now) store.old result store.new }
+    ensures marks { AreMarks store.old.names store.new.grammar.rules marks.new }
 {
-    let spot = host_spot(alloc, store, number, fragment, steps)?;
-    let extent = extent_of(alloc, store, number, &spot, steps)?;
+    // The call tells what is true of every grammar.
+    let _limit = store.grammar.limit();
+    let spot = host_spot(alloc, store, marks, number, fragment, steps)?;
+    let extent = extent_of(alloc, store, marks, number, &spot, steps)?;
     let site = end_site(store, number, &spot, extent);
-    match meeting_kid(alloc, store, number, &spot, extent, fragment, steps)? {
-        None => append_apart(alloc, store, number, site, fragment, steps),
-        Some(last) => append_joined(alloc, store, number, &last, site, fragment, steps),
+    let meeting = meeting_kid(alloc, store, marks, number, &spot, extent, fragment, steps)?;
+    let end = find_place(alloc, store, marks, site.place, steps)?;
+    marks.cut(end.first());
+    match meeting {
+        None => append_apart(alloc, store, number, site, &end, fragment, steps),
+        Some(last) => append_joined(alloc, store, number, &last, site, &end, fragment, steps),
     }
 }
 
@@ -53,15 +65,19 @@ pub(crate) fn append<L: Ledger>(
 fn host_spot<L: Ledger>(
     alloc: Global,
     store: &Store,
+    marks: &mut Marks,
     number: u64,
     fragment: &Nodes,
     steps: &mut Steps<L>,
 ) -> Result<Spot, EditError>
     requires store { (t : Tree) × IsStoreFor store.now t }
+    requires marks { AreMarks store.now.names store.now.grammar.rules marks.old }
     ensures spot { IfOk result (IsSpot store.now.names store.now.grammar.rules number) }
     ensures answer { (t : Tree) → IsStoreFor store.now t → MatchResult result (λ _. IsAllowed t (Append number fragment.now)) (λ error. IsRefusedFor error t (Append number fragment.now)) }
+    ensures marks { AreMarks store.now.names store.now.grammar.rules marks.new }
+    ensures first { IfOk result (λ spot. MarksFirst store.now.names store.now.grammar.rules spot.levels.items spot.first) }
 {
-    let spot = spot_at(alloc, store, number, steps)?;
+    let spot = spot_at(alloc, store, marks, number, steps)?;
     let Some(kind) = spot.kind(&store.names) else {
         unreachable!()
     };
@@ -77,13 +93,16 @@ fn append_apart<L: Ledger>(
     store: &mut Store,
     number: u64,
     site: Site,
+    spot: &PlaceSpot,
     fragment: &Nodes,
     steps: &mut Steps<L>,
 ) -> Result<(), EditError>
     requires store { (t : Tree) × IsStoreFor store.old t × IsEditOf t (Append number fragment.now) }
     requires site { (t : Tree) → IsCodedBy store.old t → IsEndSite t number site }
+    requires spot { IsPlaceSpot store.old.grammar.rules site.place spot.now }
     ensures applies { (t : Tree) → IsStoreFor store.old t → IsEditOf t (Append number fragment.now) → edited t (Append number fragment.now) ≡ placed t (Append number fragment.now)
         → Applies t (Append number fragment.now) store.old result store.new }
+    ensures marks { KeepsMarks spot.now.levels.items store.old.grammar.rules store.new.grammar.rules }
 {
     // The call tells what is true of every grammar.
     let _limit = store.grammar.limit();
@@ -93,6 +112,6 @@ fn append_apart<L: Ledger>(
         return Err(EditError::TooMany);
     }
     let growth = fragment_growth(alloc, &mut store.names, site, count, nodes)?;
-    grow(alloc, store, growth, steps)?;
+    grow(store, growth, spot, steps)?;
     Ok(())
 }

@@ -5,9 +5,12 @@ ghost use Rattle.plain_tree.specs.EditLaws.{IsEditOf};
 ghost use Rattle.plain_tree.specs.Edits.{edited, placed};
 ghost use Rattle.plain_tree.specs.Siblings.{begins_text};
 ghost use Rattle.plain_tree.specs.Tree.{Tree, trees};
+ghost use Rattle.preorder_address.specs.Marks.{AreMarks};
 ghost use Rattle.preorder_address.specs.Spots.{IsSpot};
 ghost use Rattle.preorder_address.specs.TreeNumbers.{text_rank_at};
+ghost use Rattle.tree_updates.specs.CodePlaces.{IsPlaceSpot};
 ghost use Rattle.tree_updates.specs.Extents.{IsCodedBy, IsExtentOf};
+ghost use Rattle.tree_updates.specs.Fronts.{KeepsMarks};
 ghost use Rattle.tree_updates.specs.FragmentGrowths.{IsEndSite, MeetsAtEnd};
 ghost use Rattle.tree_updates.specs.Stores.{Applies, IsStoreFor};
 
@@ -18,9 +21,10 @@ use crate::growing::{Site, TOO_MANY, grow_joined};
 use crate::meeting::is_text;
 use crate::node_extent::Extent;
 use crate::node_spots::spot_there;
+use crate::place_spots::PlaceSpot;
 use crate::store::{EditError, Store};
 use plain_tree::{Node, Nodes};
-use preorder_address::Spot;
+use preorder_address::{Marks, Spot};
 use read_steps::Steps;
 use std::alloc::{AllocError, Global};
 use std::sync::ledger::Ledger;
@@ -36,6 +40,7 @@ pub(crate) struct LastText {
 pub(crate) fn meeting_kid<L: Ledger>(
     alloc: Global,
     store: &Store,
+    marks: &mut Marks,
     number: u64,
     spot: &Spot,
     extent: Extent,
@@ -45,11 +50,13 @@ pub(crate) fn meeting_kid<L: Ledger>(
     requires store { (t : Tree) × IsStoreFor store.now t × IsEditOf t (Append number fragment.now) }
     requires spot { IsSpot store.now.names store.now.grammar.rules number spot.now }
     requires extent { (t : Tree) → IsCodedBy store.now t → IsExtentOf t number extent }
+    requires marks { AreMarks store.now.names store.now.grammar.rules marks.old }
     ensures apart { IfOk result (λ kid. IfNone kid ((t : Tree) → IsStoreFor store.now t → IsEditOf t (Append number fragment.now)
         → edited t (Append number fragment.now) ≡ placed t (Append number fragment.now))) }
     ensures meets { IfOk result (λ kid. IfSome kid (λ last. (t : Tree) → IsStoreFor store.now t → IsEditOf t (Append number fragment.now)
         → MeetsAtEnd t number last.number fragment.now)) }
     ensures spot { IfOk result (λ kid. IfSome kid (λ last. IsSpot store.now.names store.now.grammar.rules last.number last.spot)) }
+    ensures marks { AreMarks store.now.names store.now.grammar.rules marks.new }
 {
     if !begins_with_text(fragment) {
         return Ok(None);
@@ -59,7 +66,7 @@ pub(crate) fn meeting_kid<L: Ledger>(
         return Ok(None);
     }
     let last = number + below;
-    let kid = spot_there(alloc, store, last, steps)?;
+    let kid = spot_there(alloc, store, marks, last, steps)?;
     if !is_text(kid.kind(&store.names)) {
         return Ok(None);
     }
@@ -91,14 +98,17 @@ pub(crate) fn append_joined<L: Ledger>(
     number: u64,
     last: &LastText,
     site: Site,
+    spot: &PlaceSpot,
     fragment: &Nodes,
     steps: &mut Steps<L>,
 ) -> Result<(), EditError>
     requires store { (t : Tree) × IsStoreFor store.old t × IsEditOf t (Append number fragment.now) × MeetsAtEnd t number last.now.number fragment.now }
     requires site { (t : Tree) → IsCodedBy store.old t → IsEndSite t number site }
     requires last { IsSpot store.old.names store.old.grammar.rules last.now.number last.now.spot }
+    requires spot { IsPlaceSpot store.old.grammar.rules site.place spot.now }
     ensures applies { (t : Tree) → IsStoreFor store.old t → IsEditOf t (Append number fragment.now) → MeetsAtEnd t number last.now.number fragment.now
         → Applies t (Append number fragment.now) store.old result store.new }
+    ensures marks { KeepsMarks spot.now.levels.items store.old.grammar.rules store.new.grammar.rules }
 {
     // The call tells what is true of every grammar.
     let _limit = store.grammar.limit();
@@ -111,7 +121,7 @@ pub(crate) fn append_joined<L: Ledger>(
     }
     let joined = join_end(alloc, store, last, first)?;
     let growth = fragment_growth(alloc, &mut store.names, site, count, others)?;
-    grow_joined(alloc, store, joined, growth, steps)?;
+    grow_joined(store, joined, growth, spot, steps)?;
     Ok(())
 }
 

@@ -8,19 +8,23 @@ ghost use Rattle.plain_tree.specs.Lawful.{AreChars, IsName};
 ghost use Rattle.plain_tree.specs.Siblings.{first_kids, from_node};
 ghost use Rattle.plain_tree.specs.Tree.{Tree, none, more};
 ghost use Rattle.fcns_encoding.specs.Interning.{Interns};
+ghost use Rattle.preorder_address.specs.Marks.{AreMarks, MarksFirst};
 ghost use Rattle.preorder_address.specs.Spots.{IsSpot};
 ghost use Rattle.tree_updates.specs.ElementAttributes.{IsAttributePlace};
+ghost use Rattle.tree_updates.specs.CodePlaces.{IsPlaceSpot};
+ghost use Rattle.tree_updates.specs.Fronts.{KeepsMarks};
 ghost use Rattle.tree_updates.specs.NewAttributes.{IsAttributeBody, IsAttributeGrowth, IsAttributeSite};
 ghost use Rattle.tree_updates.specs.Stores.{Applies, IsRefusedFor, IsStoreFor};
 
 use crate::growing::{Growth, Site, TOO_MANY, grow};
 use crate::kid_attributes::{AttributePlace, find_attribute};
 use crate::node_spots::spot_at;
+use crate::place_spots::{PlaceSpot, find_place};
 use crate::spare_node::is_element;
 use crate::store::{EditError, Store};
 use crate::valuing::put_value;
 use plain_tree::{Bytes, Kind, Names, Texts};
-use preorder_address::Spot;
+use preorder_address::{Marks, Spot};
 use read_steps::Steps;
 use slt_grammar::{Body, Label};
 use std::alloc::{AllocError, Global};
@@ -33,6 +37,7 @@ use std::sync::ledger::Ledger;
 pub(crate) fn set_attribute<L: Ledger>(
     alloc: Global,
     store: &mut Store,
+    marks: &mut Marks,
     number: u64,
     name: &[u8],
     value: &[u8],
@@ -41,31 +46,41 @@ pub(crate) fn set_attribute<L: Ledger>(
     requires store { (t : Tree) × IsStoreFor store.old t }
     requires name { IsName name.now }
     requires chars { AreChars value.now }
+    requires marks { AreMarks store.old.names store.old.grammar.rules marks.old }
     ensures applies { (t : Tree) → IsStoreFor store.old t → Applies t (Attr number name.now value.now) store.old result store.new }
+    ensures marks { AreMarks store.old.names store.new.grammar.rules marks.new }
 {
-    let spot = element_spot(alloc, store, number, steps)?;
+    // The call tells what is true of every grammar.
+    let _limit = store.grammar.limit();
+    let spot = element_spot(alloc, store, marks, number, steps)?;
     let place = find_attribute(alloc, store, number, name, steps)?;
     if place.found {
         let rank = spot.text_rank() + place.before;
         return put_value(alloc, store, number + 1 + place.before, rank, value);
     }
     let site = attribute_site(store, number, &spot, place, name);
-    add_attribute(alloc, store, site, name, value, steps)
+    let end = find_place(alloc, store, marks, site.place, steps)?;
+    marks.cut(end.first());
+    add_attribute(alloc, store, site, &end, name, value, steps)
 }
 
 // The spot of the element with this number.
 fn element_spot<L: Ledger>(
     alloc: Global,
     store: &Store,
+    marks: &mut Marks,
     number: u64,
     steps: &mut Steps<L>,
 ) -> Result<Spot, EditError>
     requires store { (t : Tree) × IsStoreFor store.now t }
+    requires marks { AreMarks store.now.names store.now.grammar.rules marks.old }
     ensures spot { IfOk result (IsSpot store.now.names store.now.grammar.rules number) }
     ensures answer { (t : Tree) (name value : List ℕ) → IsStoreFor store.now t
         → MatchResult result (λ _. IsAllowed t (Attr number name value)) (λ error. IsRefusedFor error t (Attr number name value)) }
+    ensures marks { AreMarks store.now.names store.now.grammar.rules marks.new }
+    ensures first { IfOk result (λ spot. MarksFirst store.now.names store.now.grammar.rules spot.levels.items spot.first) }
 {
-    let spot = spot_at(alloc, store, number, steps)?;
+    let spot = spot_at(alloc, store, marks, number, steps)?;
     let Some(kind) = spot.kind(&store.names) else {
         unreachable!()
     };
@@ -101,13 +116,16 @@ fn add_attribute<L: Ledger>(
     alloc: Global,
     store: &mut Store,
     site: Site,
+    spot: &PlaceSpot,
     name: &[u8],
     value: &[u8],
     steps: &mut Steps<L>,
 ) -> Result<(), EditError>
     requires store { (t : Tree) × (n : ℕ) × IsStoreFor store.old t × IsEditOf t (Attr n name.now value.now) × IsAttributeSite t n name.now value.now site }
+    requires spot { IsPlaceSpot store.old.grammar.rules site.place spot.now }
     ensures applies { (t : Tree) (n : ℕ) → IsStoreFor store.old t → IsEditOf t (Attr n name.now value.now) → IsAttributeSite t n name.now value.now site
         → Applies t (Attr n name.now value.now) store.old result store.new }
+    ensures marks { KeepsMarks spot.now.levels.items store.old.grammar.rules store.new.grammar.rules }
 {
     // The call tells what is true of every grammar.
     let _limit = store.grammar.limit();
@@ -115,7 +133,7 @@ fn add_attribute<L: Ledger>(
         return Err(EditError::TooMany);
     }
     let growth = attribute_growth(alloc, &mut store.names, site, name, value)?;
-    grow(alloc, store, growth, steps)?;
+    grow(store, growth, spot, steps)?;
     Ok(())
 }
 

@@ -9,6 +9,7 @@ ghost use Rattle.slt_grammar.specs.Terms.{Term};
 ghost use Rattle.digram_index.specs.Linked.{IsIndexOf};
 ghost use Rattle.path_isolation.specs.Isolations.{DifferInStart, room_along};
 ghost use Rattle.tree_updates.specs.CodePlaces.{ComesAround, IsBodyOf, IsPlaceIsolated, LeadToPlace};
+ghost use Rattle.tree_updates.specs.Fronts.{IsSameBeforeFirst, StandsBehindFirst};
 
 use digram_index::Index;
 use linked_edits::wrap_linked;
@@ -40,8 +41,11 @@ pub(crate) fn wrap_place<W: Way, L: Ledger>(
     ensures most { size (rules_of grammar.new.rules) + real_nodes (start_body (rules_of grammar.old.rules))
         ≤ 2 * size (rules_of grammar.old.rules) + real_nodes body.now }
     ensures index { IsIndexOf grammar.new index.new }
+    ensures front { IsSameBeforeFirst (W.levels way grammar.old.rules) grammar.old.rules grammar.new.rules }
 {
     let at = isolate_place(grammar, index, way, steps);
+    // The call tells what is true of every grammar.
+    let _limit = grammar.limit();
     wrap_linked(grammar, index, at, body);
 }
 
@@ -68,6 +72,7 @@ fn isolate_place<W: Way, L: Ledger>(
     ensures limit { grammar.new.limit ≡ grammar.old.limit }
     ensures links { index.old.spare_links ≤ index.new.spare_links + room_along grammar.old.rules (W.levels way grammar.old.rules) }
     ensures cells { length index.old.cells ≤ length index.new.cells }
+    ensures front { StandsBehindFirst (W.levels way grammar.old.rules) grammar.old.rules grammar.new.rules result }
 {
     // The call tells what is true of every grammar.
     let _limit = grammar.limit();

@@ -10,10 +10,12 @@ ghost use Rattle.slt_grammar.specs.Grammars.{size};
 ghost use Rattle.slt_grammar.specs.Keyed.{rules_of};
 ghost use Rattle.slt_grammar.specs.Names.{Bottom, Call};
 ghost use Rattle.path_isolation.specs.Isolations.{room_along};
+ghost use Rattle.preorder_address.specs.Marks.{AreMarks, MarksFirst};
 ghost use Rattle.preorder_address.specs.Spots.{IsSpot};
 ghost use Rattle.preorder_address.specs.TreeNumbers.{kind_at};
 ghost use Rattle.tree_updates.specs.Copies.{HasUncountedCopy, IsTwinBody, MayCopy};
 ghost use Rattle.tree_updates.specs.Extents.{IsUnsweptFor};
+ghost use Rattle.tree_updates.specs.Fronts.{IsSameBeforeFirst, KeepsMarks};
 ghost use Rattle.tree_updates.specs.Stores.{Applies, IsRefusedFor, IsStoreFor};
 
 use crate::copying_code::{twin_body, wrap_shared};
@@ -26,7 +28,7 @@ use crate::room::reserve_at;
 use crate::spare_node::{is_attribute, spare_spot};
 use crate::store::{EditError, Store};
 use crate::sweeping::sweep;
-use preorder_address::Spot;
+use preorder_address::{Marks, Spot};
 use read_steps::Steps;
 use slt_grammar::{Body, Label};
 use std::alloc::{AllocError, Global};
@@ -39,17 +41,20 @@ use std::sync::ledger::Ledger;
 pub(crate) fn copy<L: Ledger>(
     alloc: Global,
     store: &mut Store,
+    marks: &mut Marks,
     number: u64,
     steps: &mut Steps<L>,
 ) -> Result<(), EditError>
     requires store { (t : Tree) × IsStoreFor store.old t }
+    requires marks { AreMarks store.old.names store.old.grammar.rules marks.old }
     ensures applies { (t : Tree) → IsStoreFor store.old t → Applies t (Copy number) store.old result store.new }
+    ensures marks { AreMarks store.old.names store.new.grammar.rules marks.new }
 {
-    let spot = copied_spot(alloc, store, number, steps)?;
+    let spot = copied_spot(alloc, store, marks, number, steps)?;
     if is_text(spot.kind(&store.names)) {
-        copy_text(alloc, store, number, &spot, steps)
+        copy_text(alloc, store, marks, number, &spot, steps)
     } else {
-        copy_other(alloc, store, number, &spot, steps)
+        copy_other(alloc, store, marks, number, &spot, steps)
     }
 }
 
@@ -57,14 +62,18 @@ pub(crate) fn copy<L: Ledger>(
 fn copied_spot<L: Ledger>(
     alloc: Global,
     store: &Store,
+    marks: &mut Marks,
     number: u64,
     steps: &mut Steps<L>,
 ) -> Result<Spot, EditError>
     requires store { (t : Tree) × IsStoreFor store.now t }
+    requires marks { AreMarks store.now.names store.now.grammar.rules marks.old }
     ensures spot { IfOk result (IsSpot store.now.names store.now.grammar.rules number) }
     ensures answer { (t : Tree) → IsStoreFor store.now t → MatchResult result (λ _. IsAllowed t (Copy number)) (λ error. IsRefusedFor error t (Copy number)) }
+    ensures marks { AreMarks store.now.names store.now.grammar.rules marks.new }
+    ensures first { IfOk result (λ spot. MarksFirst store.now.names store.now.grammar.rules spot.levels.items spot.first) }
 {
-    let spot = spare_spot(alloc, store, number, steps)?;
+    let spot = spare_spot(alloc, store, marks, number, steps)?;
     let Some(kind) = spot.kind(&store.names) else {
         unreachable!()
     };
@@ -78,21 +87,26 @@ fn copied_spot<L: Ledger>(
 fn copy_other<L: Ledger>(
     alloc: Global,
     store: &mut Store,
+    marks: &mut Marks,
     number: u64,
     spot: &Spot,
     steps: &mut Steps<L>,
 ) -> Result<(), EditError>
     requires store { (t : Tree) × IsStoreFor store.old t × IsAllowed t (Copy number) × (kind_at t number ≡ Some Text → ⊥) }
     requires spot { IsSpot store.old.names store.old.grammar.rules number spot.now }
+    requires marks { AreMarks store.old.names store.old.grammar.rules marks.old }
+    requires first { MarksFirst store.old.names store.old.grammar.rules spot.now.levels.items spot.now.first }
     ensures applies { (t : Tree) → IsStoreFor store.old t → IsAllowed t (Copy number) → (kind_at t number ≡ Some Text → ⊥)
         → Applies t (Copy number) store.old result store.new }
+    ensures marks { AreMarks store.old.names store.new.grammar.rules marks.new }
 {
     // The call tells what is true of every grammar.
     let _limit = store.grammar.limit();
-    let extent = extent_of(alloc, store, number, spot, steps)?;
+    let extent = extent_of(alloc, store, marks, number, spot, steps)?;
     if extent.nodes >= TOO_MANY - store.counts.total() {
         return Err(EditError::TooMany);
     }
+    marks.cut(spot.first());
     if extent.nodes == 1 {
         Ok(copy_alone(alloc, store, number, spot, extent, steps)?)
     } else {
@@ -118,6 +132,7 @@ fn copy_alone<L: Ledger>(
     ensures texts { OnErr result (store.new.texts.texts ≡ store.old.texts.texts) }
     ensures names { store.new.names ≡ store.old.names }
     ensures size { OnOk result (size (rules_of store.new.grammar.rules) ≤ 2 * size (rules_of store.old.grammar.rules) + 3) }
+    ensures marks { KeepsMarks spot.now.levels.items store.old.grammar.rules store.new.grammar.rules }
 {
     let body = twin_body(alloc, spot.symbol(), Label::Bottom)?;
     reserve_copy(store, spot, extent.texts, steps)?;
@@ -144,6 +159,7 @@ fn copy_whole<L: Ledger>(
     ensures texts { OnErr result (store.new.texts.texts ≡ store.old.texts.texts) }
     ensures names { store.new.names ≡ store.old.names }
     ensures size { OnOk result (size (rules_of store.new.grammar.rules) ≤ 2 * size (rules_of store.old.grammar.rules) + 3) }
+    ensures marks { KeepsMarks spot.now.levels.items store.old.grammar.rules store.new.grammar.rules }
 {
     // The call tells what is true of every grammar.
     let _limit = store.grammar.limit();
@@ -203,6 +219,7 @@ fn put_alone<L: Ledger>(
     ensures store { (t : Tree) → IsUnsweptFor store.old t → MayCopy t number extent → IsUnsweptFor store.new (placed t (Copy number)) }
     ensures names { store.new.names ≡ store.old.names }
     ensures size { size (rules_of store.new.grammar.rules) ≤ 2 * size (rules_of store.old.grammar.rules) + 3 }
+    ensures front { IsSameBeforeFirst spot.now.levels.items store.old.grammar.rules store.new.grammar.rules }
 {
     // The call tells what is true of every grammar.
     let _limit = store.grammar.limit();
@@ -233,6 +250,7 @@ fn put_whole<L: Ledger>(
     ensures store { (t : Tree) → IsUnsweptFor store.old t → MayCopy t number extent → IsUnsweptFor store.new (placed t (Copy number)) }
     ensures names { store.new.names ≡ store.old.names }
     ensures size { size (rules_of store.new.grammar.rules) ≤ 2 * size (rules_of store.old.grammar.rules) + 3 }
+    ensures front { IsSameBeforeFirst spot.now.levels.items store.old.grammar.rules store.new.grammar.rules }
 {
     // The call tells what is true of every grammar.
     let _limit = store.grammar.limit();

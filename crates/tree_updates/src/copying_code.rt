@@ -8,6 +8,7 @@ ghost use Rattle.digram_index.specs.Linked.{IsIndexOf};
 ghost use Rattle.path_isolation.specs.Isolations.{room_along};
 ghost use Rattle.preorder_address.specs.Spots.{IsSpot};
 ghost use Rattle.tree_updates.specs.Copies.{IsTwinBody, SharesBelow};
+ghost use Rattle.tree_updates.specs.Fronts.{IsSameBeforeFirst};
 
 use crate::isolating::isolate_node;
 use digram_index::{Index, following};
@@ -52,6 +53,7 @@ pub(crate) fn wrap_shared<L: Ledger>(
         → SharesBelow (rules_of grammar.old.rules) (rules_of grammar.new.rules) (length grammar.old.rules - 1) number symbol }
     ensures size { size (rules_of grammar.new.rules) ≤ 2 * size (rules_of grammar.old.rules) + 3 }
     ensures index { IsIndexOf grammar.new index.new }
+    ensures front { IsSameBeforeFirst spot.now.levels.items grammar.old.rules grammar.new.rules }
 {
     let at = isolate_node(grammar, index, spot, steps);
     // The calls tell what is true of every grammar.

@@ -7,8 +7,10 @@ ghost use Rattle.plain_tree.specs.Tree.{Tree};
 ghost use Rattle.slt_grammar.specs.Grammars.{size};
 ghost use Rattle.slt_grammar.specs.Keyed.{rules_of};
 ghost use Rattle.path_isolation.specs.Isolations.{room_along};
+ghost use Rattle.preorder_address.specs.Marks.{AreMarks};
 ghost use Rattle.preorder_address.specs.Spots.{IsSpot};
 ghost use Rattle.tree_updates.specs.Extents.{IsExtentOf, IsUnsweptFor, LeavesDocument};
+ghost use Rattle.tree_updates.specs.Fronts.{KeepsMarks};
 ghost use Rattle.tree_updates.specs.Stores.{Applies, IsStoreFor};
 
 use crate::deleting_between::delete_between;
@@ -19,7 +21,7 @@ use crate::spare_node::spare_spot;
 use crate::store::{EditError, Store};
 use crate::sweeping::sweep;
 use crate::taking_out::take_out;
-use preorder_address::Spot;
+use preorder_address::{Marks, Spot};
 use read_steps::Steps;
 use std::alloc::Global;
 use std::sync::ledger::Ledger;
@@ -30,19 +32,30 @@ use std::sync::ledger::Ledger;
 pub(crate) fn delete<L: Ledger>(
     alloc: Global,
     store: &mut Store,
+    marks: &mut Marks,
     number: u64,
     steps: &mut Steps<L>,
 ) -> Result<(), EditError>
     requires store { (t : Tree) × IsStoreFor store.old t }
+    requires marks { AreMarks store.old.names store.old.grammar.rules marks.old }
     ensures applies { (t : Tree) → IsStoreFor store.old t → Applies t (Delete number) store.old result store.new }
+    ensures marks { AreMarks store.old.names store.new.grammar.rules marks.new }
 {
-    let spot = spare_spot(alloc, store, number, steps)?;
-    let span = span_of(alloc, store, number, &spot, steps)?;
+    // The call tells what is true of every grammar.
+    let _limit = store.grammar.limit();
+    let spot = spare_spot(alloc, store, marks, number, steps)?;
+    let span = span_of(alloc, store, marks, number, &spot, steps)?;
     let extent = span.extent;
-    let found = meeting_texts(alloc, store, number, &spot, span, steps)?;
+    let found = meeting_texts(alloc, store, marks, number, &spot, span, steps)?;
     match found {
-        None => delete_apart(store, number, &spot, extent, steps),
-        Some(beside) => delete_between(alloc, store, number, extent, &beside, steps),
+        None => {
+            marks.cut(spot.first());
+            delete_apart(store, number, &spot, extent, steps)
+        }
+        Some(beside) => {
+            marks.clear();
+            delete_between(alloc, store, number, extent, &beside, steps)
+        }
     }
 }
 
@@ -58,6 +71,7 @@ fn delete_apart<L: Ledger>(
     requires spot { IsSpot store.old.names store.old.grammar.rules number spot.now }
     ensures applies { (t : Tree) → IsStoreFor store.old t → IsAllowed t (Delete number) → IsExtentOf t number extent → edited t (Delete number) ≡ placed t (Delete number)
         → Applies t (Delete number) store.old result store.new }
+    ensures marks { KeepsMarks spot.now.levels.items store.old.grammar.rules store.new.grammar.rules }
 {
     reserve_at(store, spot, 0, 0, steps)?;
     delete_plain(store, number, spot, extent, steps);
@@ -81,6 +95,7 @@ fn delete_plain<L: Ledger>(
     ensures store { (t : Tree) → IsUnsweptFor store.old t → IsExtentOf t number extent → LeavesDocument t (Delete number) → IsStoreFor store.new (placed t (Delete number)) }
     ensures names { store.new.names ≡ store.old.names }
     ensures size { size (rules_of store.new.grammar.rules) ≤ 2 * size (rules_of store.old.grammar.rules) }
+    ensures marks { KeepsMarks spot.now.levels.items store.old.grammar.rules store.new.grammar.rules }
 {
     take_out(store, number, spot, extent, steps);
     sweep(store);

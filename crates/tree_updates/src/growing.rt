@@ -6,12 +6,13 @@ ghost use Rattle.slt_grammar.specs.Grammars.{size};
 ghost use Rattle.slt_grammar.specs.Keyed.{rules_of};
 ghost use Rattle.tree_updates.specs.CodePlaces.{IsPlaceSpot, room_to_place};
 ghost use Rattle.tree_updates.specs.Extents.{IsUnsweptFor};
+ghost use Rattle.tree_updates.specs.Fronts.{IsSameBeforeFirst, KeepsMarks};
 ghost use Rattle.tree_updates.specs.Growths.{GetsText, GrowsInto};
 ghost use Rattle.tree_updates.specs.Stores.{IsStoreFor};
 
 use crate::code_places::wrap_place;
 use crate::deleting_between::JoinedText;
-use crate::place_spots::{PlaceSpot, find_place};
+use crate::place_spots::PlaceSpot;
 use crate::room::reserve_room;
 use crate::store::Store;
 use crate::sweeping::sweep;
@@ -19,7 +20,7 @@ use path_isolation::nodes_along;
 use plain_tree::Texts;
 use read_steps::Steps;
 use slt_grammar::Body;
-use std::alloc::{AllocError, Global};
+use std::alloc::AllocError;
 use std::sync::ledger::Ledger;
 
 // A document has fewer nodes than this.
@@ -47,58 +48,65 @@ pub(crate) struct Growth {
 // Puts what comes into the store's document, whose names are in the table. It is refused for want of memory, which is asked for before the
 // first change.
 pub(crate) fn grow<L: Ledger>(
-    alloc: Global,
     store: &mut Store,
     growth: Growth,
+    spot: &PlaceSpot,
     steps: &mut Steps<L>,
 ) -> Result<(), AllocError>
     requires store { (t : Tree) × (u : Tree) × IsStoreFor store.old t × GrowsInto store.old.names t u growth }
+    requires spot { IsPlaceSpot store.old.grammar.rules growth.site.place spot.now }
     ensures grown { OnOk result ((t u : Tree) → IsStoreFor store.old t → GrowsInto store.old.names t u growth → IsStoreFor store.new u) }
     ensures size { OnOk result (size (rules_of store.new.grammar.rules) ≤ 2 * size (rules_of store.old.grammar.rules) + real_nodes growth.body) }
     ensures names { store.new.names ≡ store.old.names }
     ensures kept { OnErr result ((t : Tree) → IsStoreFor store.old t → IsStoreFor store.new t) }
     ensures rules { OnErr result (store.new.grammar.rules ≡ store.old.grammar.rules) }
     ensures texts { OnErr result (store.new.texts.texts ≡ store.old.texts.texts) }
+    ensures marks { KeepsMarks spot.now.levels.items store.old.grammar.rules store.new.grammar.rules }
 {
-    let spot = reserve_growth(alloc, store, &growth, steps)?;
-    put_in(store, growth, &spot, steps);
+    // The call tells what is true of every grammar.
+    let _limit = store.grammar.limit();
+    reserve_growth(store, &growth, spot, steps)?;
+    put_in(store, growth, spot, steps);
     sweep(store);
     Ok(())
 }
 
 // The same once a text has got another value.
 pub(crate) fn grow_joined<L: Ledger>(
-    alloc: Global,
     store: &mut Store,
     joined: JoinedText,
     growth: Growth,
+    spot: &PlaceSpot,
     steps: &mut Steps<L>,
 ) -> Result<(), AllocError>
     requires store { (t : Tree) × (one : Tree) × (u : Tree) × IsStoreFor store.old t × GetsText store.old t joined one × GrowsInto store.old.names one u growth }
+    requires spot { IsPlaceSpot store.old.grammar.rules growth.site.place spot.now }
     ensures grown { OnOk result ((t one u : Tree) → IsStoreFor store.old t → GetsText store.old t joined one → GrowsInto store.old.names one u growth → IsStoreFor store.new u) }
     ensures size { OnOk result (size (rules_of store.new.grammar.rules) ≤ 2 * size (rules_of store.old.grammar.rules) + real_nodes growth.body) }
     ensures names { store.new.names ≡ store.old.names }
     ensures kept { OnErr result ((t : Tree) → IsStoreFor store.old t → IsStoreFor store.new t) }
     ensures rules { OnErr result (store.new.grammar.rules ≡ store.old.grammar.rules) }
     ensures texts { OnErr result (store.new.texts.texts ≡ store.old.texts.texts) }
+    ensures marks { KeepsMarks spot.now.levels.items store.old.grammar.rules store.new.grammar.rules }
 {
-    let spot = reserve_growth(alloc, store, &growth, steps)?;
+    // The call tells what is true of every grammar.
+    let _limit = store.grammar.limit();
+    reserve_growth(store, &growth, spot, steps)?;
     store.texts.set(joined.rank, joined.value);
-    put_in(store, growth, &spot, steps);
+    put_in(store, growth, spot, steps);
     sweep(store);
     Ok(())
 }
 
-// Finds the place where something comes, and makes room for isolating it, for what comes, and for one text more. The store stays.
+// Makes room for isolating the place where something comes, which has this spot, for what comes, and for one text more. The store stays.
 fn reserve_growth<L: Ledger>(
-    alloc: Global,
     store: &mut Store,
     growth: &Growth,
+    spot: &PlaceSpot,
     steps: &mut Steps<L>,
-) -> Result<PlaceSpot, AllocError>
-    requires store { (t : Tree) × IsStoreFor store.old t × (growth.now.site.place < 2 * node_count t + 1) }
+) -> Result<(), AllocError>
+    requires spot { IsPlaceSpot store.old.grammar.rules growth.now.site.place spot.now }
     requires few { length growth.now.texts < 2 ^ 63 }
-    ensures spot { IfOk result (IsPlaceSpot store.new.grammar.rules growth.now.site.place) }
     ensures nodes { OnOk result (room_to_place store.new.grammar.rules growth.now.site.place + length growth.now.body ≤ store.new.grammar.spare_nodes) }
     ensures links { OnOk result (room_to_place store.new.grammar.rules growth.now.site.place + length growth.now.body ≤ store.new.index.spare_links) }
     ensures cells { OnOk result (store.new.grammar.limit ≤ length store.new.index.cells) }
@@ -114,12 +122,10 @@ fn reserve_growth<L: Ledger>(
     if labels >= MOST_LABELS {
         return Err(AllocError);
     }
-    let place = growth.site.place;
-    let spot = find_place(alloc, &store.grammar, &store.counts, place, steps)?;
     let nodes = nodes_along(&store.grammar, spot.way(), steps);
     reserve_room(store, nodes + labels)?;
     store.texts.reserve(growth.texts.len() as u64 + 1)?;
-    Ok(spot)
+    Ok(())
 }
 
 // Puts what comes in at its place, which has this spot. There is room for it and for isolating the place, so it takes no memory. Rules that
@@ -134,6 +140,7 @@ fn put_in<L: Ledger>(store: &mut Store, growth: Growth, spot: &PlaceSpot, steps:
     ensures store { (t u : Tree) → IsUnsweptFor store.old t → GrowsInto store.old.names t u growth → IsUnsweptFor store.new u }
     ensures names { store.new.names ≡ store.old.names }
     ensures size { size (rules_of store.new.grammar.rules) ≤ 2 * size (rules_of store.old.grammar.rules) + real_nodes growth.body }
+    ensures front { IsSameBeforeFirst spot.now.levels.items store.old.grammar.rules store.new.grammar.rules }
 {
     // The call tells what is true of every grammar.
     let _limit = store.grammar.limit();

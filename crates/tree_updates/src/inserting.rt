@@ -11,9 +11,11 @@ ghost use Rattle.slt_grammar.specs.Bodies.{real_nodes};
 ghost use Rattle.slt_grammar.specs.Grammars.{size};
 ghost use Rattle.slt_grammar.specs.Keyed.{rules_of};
 ghost use Rattle.path_isolation.specs.Isolations.{room_along};
+ghost use Rattle.preorder_address.specs.Marks.{AreMarks, MarksFirst};
 ghost use Rattle.preorder_address.specs.Spots.{IsSpot};
 ghost use Rattle.tree_updates.specs.Extents.{IsUnsweptFor};
 ghost use Rattle.tree_updates.specs.Fragments.{IsCodeOf, MayComeBefore};
+ghost use Rattle.tree_updates.specs.Fronts.{IsSameBeforeFirst, KeepsMarks};
 ghost use Rattle.tree_updates.specs.Joinings.{AreApart, MayInsert, MayJoin, back_value, ends, front_value, joined_edits, valued_texts};
 ghost use Rattle.tree_updates.specs.Stores.{Applies, IsStoreFor};
 
@@ -29,7 +31,7 @@ use crate::store::{EditError, Store};
 use crate::sweeping::sweep;
 use fcns_encoding::Coded;
 use plain_tree::{Bytes, Nodes};
-use preorder_address::Spot;
+use preorder_address::{Marks, Spot};
 use read_steps::Steps;
 use slt_grammar::Label;
 use std::alloc::{AllocError, Global};
@@ -46,22 +48,26 @@ const MOST_NODES: u64 = (1 << 63) - 1;
 pub(crate) fn insert<L: Ledger>(
     alloc: Global,
     store: &mut Store,
+    marks: &mut Marks,
     number: u64,
     fragment: &Nodes,
     steps: &mut Steps<L>,
 ) -> Result<(), EditError>
     requires store { (t : Tree) × IsStoreFor store.old t }
     requires fragment { IsFragment (trees fragment.now) }
+    requires marks { AreMarks store.old.names store.old.grammar.rules marks.old }
     ensures applies { (t : Tree) → IsStoreFor store.old t → Applies t (Insert number fragment.now) store.old result store.new }
+    ensures marks { AreMarks store.old.names store.new.grammar.rules marks.new }
 {
-    let spot = spot_beside(alloc, store, number, fragment, steps)?;
-    insert_beside(alloc, store, number, &spot, fragment, steps)
+    let spot = spot_beside(alloc, store, marks, number, fragment, steps)?;
+    insert_beside(alloc, store, marks, number, &spot, fragment, steps)
 }
 
 // The same where the fragment may come before the spot's node.
 pub(crate) fn insert_beside<L: Ledger>(
     alloc: Global,
     store: &mut Store,
+    marks: &mut Marks,
     number: u64,
     spot: &Spot,
     fragment: &Nodes,
@@ -70,16 +76,20 @@ pub(crate) fn insert_beside<L: Ledger>(
     requires store { (t : Tree) × IsStoreFor store.old t × IsAllowed t (Insert number fragment.now) }
     requires fragment { IsFragment (trees fragment.now) }
     requires spot { IsSpot store.old.names store.old.grammar.rules number spot.now }
+    requires marks { AreMarks store.old.names store.old.grammar.rules marks.old }
+    requires first { MarksFirst store.old.names store.old.grammar.rules spot.now.levels.items spot.now.first }
     ensures applies { (t : Tree) → IsStoreFor store.old t → IsAllowed t (Insert number fragment.now) → Applies t (Insert number fragment.now) store.old result store.new }
+    ensures marks { AreMarks store.old.names store.new.grammar.rules marks.new }
 {
     // The call tells what is true of every grammar.
     let _limit = store.grammar.limit();
-    let seams = find_seams(alloc, store, number, spot, fragment, steps)?;
+    let seams = find_seams(alloc, store, marks, number, spot, fragment, steps)?;
     if !fits(alloc, store, fragment, seams)? {
         return Err(EditError::TooMany);
     }
     let rank = spot.text_rank();
     let coded = encode_in(alloc, store, fragment)?;
+    marks.cut(spot.first());
     put_fragment(alloc, store, number, spot, rank, seams, coded, steps)?;
     Ok(())
 }
@@ -117,6 +127,7 @@ fn put_fragment<L: Ledger>(
     ensures texts { OnErr result (store.new.texts.texts ≡ store.old.texts.texts) }
     ensures names { store.new.names ≡ store.old.names }
     ensures size { OnOk result (size (rules_of store.new.grammar.rules) ≤ 2 * size (rules_of store.old.grammar.rules) + real_nodes coded.body) }
+    ensures marks { KeepsMarks spot.now.levels.items store.old.grammar.rules store.new.grammar.rules }
 {
     if is_one_between(seams, coded.body.len()) {
         return join_three(alloc, store, number, spot, rank, &coded.texts, steps);
@@ -152,6 +163,7 @@ fn place_coded<L: Ledger>(
     ensures texts { OnErr result (store.new.texts.texts ≡ store.old.texts.texts) }
     ensures names { store.new.names ≡ store.old.names }
     ensures size { OnOk result (size (rules_of store.new.grammar.rules) ≤ 2 * size (rules_of store.old.grammar.rules) + real_nodes coded.body) }
+    ensures marks { KeepsMarks spot.now.levels.items store.old.grammar.rules store.new.grammar.rules }
 {
     let joined = join_ends(alloc, &store.texts, rank, seams, coded)?;
     place(store, number, spot, rank, joined, steps)
@@ -174,6 +186,7 @@ fn place<L: Ledger>(
     ensures texts { OnErr result (store.new.texts.texts ≡ store.old.texts.texts) }
     ensures names { store.new.names ≡ store.old.names }
     ensures size { OnOk result (size (rules_of store.new.grammar.rules) ≤ 2 * size (rules_of store.old.grammar.rules) + real_nodes joined.rest.body) }
+    ensures marks { KeepsMarks spot.now.levels.items store.old.grammar.rules store.new.grammar.rules }
 {
     let labels = count_labels(joined.rest.body.as_slice());
     let texts = (joined.rest.texts.len() as u64).saturating_add(2);
@@ -211,6 +224,7 @@ fn put_joined<L: Ledger>(
     ensures store { (t : Tree) (F : List Tree) → IsUnsweptFor store.old t → MayJoin store.old t number rank F joined → IsUnsweptFor store.new (in_turn t (joined_edits number joined.front joined.back F)) }
     ensures names { store.new.names ≡ store.old.names }
     ensures size { size (rules_of store.new.grammar.rules) ≤ 2 * size (rules_of store.old.grammar.rules) + real_nodes joined.rest.body }
+    ensures front { IsSameBeforeFirst spot.now.levels.items store.old.grammar.rules store.new.grammar.rules }
 {
     let Joined { front, back, rest } = joined;
     set_text(&mut store.texts, rank.saturating_sub(1), front);
@@ -249,6 +263,7 @@ fn put_rest<L: Ledger>(
         → IsUnsweptFor store.new (in_turn t (insert_any number F)) }
     ensures names { store.new.names ≡ store.old.names }
     ensures size { size (rules_of store.new.grammar.rules) ≤ 2 * size (rules_of store.old.grammar.rules) + real_nodes rest.body }
+    ensures front { IsSameBeforeFirst spot.now.levels.items store.old.grammar.rules store.new.grammar.rules }
 {
     if rest.body.len() == 1 {
         return;
@@ -276,6 +291,7 @@ fn put_before<L: Ledger>(
     ensures store { (t : Tree) (F : List Tree) → IsUnsweptFor store.old t → MayComeBefore store.old t number rank F coded → IsUnsweptFor store.new (placed t (Insert number F)) }
     ensures names { store.new.names ≡ store.old.names }
     ensures size { size (rules_of store.new.grammar.rules) ≤ 2 * size (rules_of store.old.grammar.rules) + real_nodes coded.body }
+    ensures front { IsSameBeforeFirst spot.now.levels.items store.old.grammar.rules store.new.grammar.rules }
 {
     // The calls tell what is true of every grammar, and how few texts there are.
     let _limit = store.grammar.limit();

@@ -11,6 +11,7 @@ ghost use Rattle.digram_index.specs.Linked.{IsIndexOf};
 ghost use Rattle.path_isolation.specs.Isolations.{DifferInStart, room_along};
 ghost use Rattle.preorder_address.specs.Spots.{IsSpot};
 ghost use Rattle.tree_updates.specs.Fragments.{GetsBefore, IsCodeOf};
+ghost use Rattle.tree_updates.specs.Fronts.{IsSameBeforeFirst, StandsBehindFirst};
 ghost use Rattle.tree_updates.specs.Numbered.{GetsSymbol, IsNodeIsolated, LosesNode};
 ghost use Rattle.tree_updates.specs.Ways.{LeadToNode};
 
@@ -49,6 +50,7 @@ pub fn lift_node<L: Ledger>(
     ensures numbers { index.new.spare_rules ≡ index.old.spare_rules }
     ensures cells { length index.old.cells ≤ length index.new.cells }
     ensures steps { steps.new ≤ steps.old }
+    ensures front { IsSameBeforeFirst spot.now.levels.items grammar.old.rules grammar.new.rules }
 {
     lift_along(grammar, index, spot.way(), steps);
 }
@@ -79,8 +81,11 @@ pub(crate) fn lift_along<W: Way, L: Ledger>(
     ensures numbers { index.new.spare_rules ≡ index.old.spare_rules }
     ensures cells { length index.old.cells ≤ length index.new.cells }
     ensures steps { steps.new ≤ steps.old + W.most way grammar.old.rules }
+    ensures front { IsSameBeforeFirst (W.levels way grammar.old.rules) grammar.old.rules grammar.new.rules }
 {
     let at = isolate_along(grammar, index, way, steps);
+    // The call tells what is true of every grammar.
+    let _limit = grammar.limit();
     lift_linked(grammar, index, at);
 }
 
@@ -110,8 +115,11 @@ pub fn relabel_node<L: Ledger>(
     ensures numbers { index.new.spare_rules ≡ index.old.spare_rules }
     ensures cells { length index.old.cells ≤ length index.new.cells }
     ensures steps { steps.new ≤ steps.old }
+    ensures front { IsSameBeforeFirst spot.now.levels.items grammar.old.rules grammar.new.rules }
 {
     let at = isolate_node(grammar, index, spot, steps);
+    // The call tells what is true of every grammar.
+    let _limit = grammar.limit();
     relabel_linked(grammar, index, at, symbol);
 }
 
@@ -140,6 +148,7 @@ pub fn wrap_node<L: Ledger>(
     ensures numbers { index.new.spare_rules ≡ index.old.spare_rules }
     ensures cells { length index.old.cells ≤ length index.new.cells }
     ensures steps { steps.new ≤ steps.old }
+    ensures front { IsSameBeforeFirst spot.now.levels.items grammar.old.rules grammar.new.rules }
 {
     let at = isolate_node(grammar, index, spot, steps);
     // The call tells what is true of every grammar.
@@ -171,6 +180,7 @@ pub(crate) fn isolate_node<L: Ledger>(
     ensures numbers { index.new.spare_rules ≡ index.old.spare_rules }
     ensures cells { length index.old.cells ≤ length index.new.cells }
     ensures steps { steps.new ≤ steps.old }
+    ensures front { StandsBehindFirst spot.now.levels.items grammar.old.rules grammar.new.rules result }
 {
     isolate_along(grammar, index, spot.way(), steps)
 }
@@ -200,6 +210,7 @@ fn isolate_along<W: Way, L: Ledger>(
     ensures numbers { index.new.spare_rules ≡ index.old.spare_rules }
     ensures cells { length index.old.cells ≤ length index.new.cells }
     ensures steps { steps.new ≤ steps.old + W.most way grammar.old.rules }
+    ensures front { StandsBehindFirst (W.levels way grammar.old.rules) grammar.old.rules grammar.new.rules result }
 {
     // The call tells what is true of every grammar.
     let _limit = grammar.limit();

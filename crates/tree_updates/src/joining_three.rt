@@ -7,6 +7,7 @@ ghost use Rattle.plain_tree.specs.declared.kind.Kind.{Kind};
 ghost use Rattle.slt_grammar.specs.Grammars.{size};
 ghost use Rattle.slt_grammar.specs.Keyed.{rules_of};
 ghost use Rattle.preorder_address.specs.Spots.{IsSpot};
+ghost use Rattle.tree_updates.specs.Fronts.{KeepsMarks};
 ghost use Rattle.tree_updates.specs.Joinings.{MayInsertBetween};
 ghost use Rattle.tree_updates.specs.Stores.{IsStoreFor};
 
@@ -41,6 +42,7 @@ pub(crate) fn join_three<L: Ledger>(
     ensures texts { OnErr result (store.new.texts.texts ≡ store.old.texts.texts) }
     ensures names { store.new.names ≡ store.old.names }
     ensures size { OnOk result (size (rules_of store.new.grammar.rules) ≤ 2 * size (rules_of store.old.grammar.rules)) }
+    ensures marks { KeepsMarks spot.now.levels.items store.old.grammar.rules store.new.grammar.rules }
 {
     // The call tells what is true of every grammar.
     let _limit = store.grammar.limit();

@@ -3,6 +3,7 @@ ghost use Rattle.std.specs.Prelude.{◌≡◌, ◌<◌, IfNone, IfOk, IfSome};
 ghost use Rattle.plain_tree.specs.Edits.{edited, placed};
 ghost use Rattle.plain_tree.specs.Tree.{Tree};
 ghost use Rattle.plain_tree.specs.declared.edit.Edit.TheVariants.{Delete};
+ghost use Rattle.preorder_address.specs.Marks.{AreMarks};
 ghost use Rattle.preorder_address.specs.Spots.{IsSpot};
 ghost use Rattle.tree_updates.specs.CallAnswers.{is_text};
 ghost use Rattle.tree_updates.specs.Extents.{AreBeside, IsSpanOf};
@@ -11,7 +12,7 @@ ghost use Rattle.tree_updates.specs.Stores.{IsStoreFor};
 use crate::meeting::{is_text, text_before};
 use crate::node_extent::Span;
 use crate::store::Store;
-use preorder_address::Spot;
+use preorder_address::{Marks, Spot};
 use read_steps::Steps;
 use std::alloc::{AllocError, Global};
 use std::sync::ledger::Ledger;
@@ -28,6 +29,7 @@ pub(crate) struct Neighbours {
 pub(crate) fn meeting_texts<L: Ledger>(
     alloc: Global,
     store: &Store,
+    marks: &mut Marks,
     number: u64,
     spot: &Spot,
     span: Span,
@@ -36,10 +38,12 @@ pub(crate) fn meeting_texts<L: Ledger>(
     requires store { (t : Tree) × IsStoreFor store.now t × IsSpanOf store.now t number span }
     requires behind { 0 < number }
     requires spot { IsSpot store.now.names store.now.grammar.rules number spot.now }
+    requires marks { AreMarks store.now.names store.now.grammar.rules marks.old }
     ensures apart { IfOk result (λ found. IfNone found ((t : Tree) → IsStoreFor store.now t → IsSpanOf store.now t number span
         → edited t (Delete number) ≡ placed t (Delete number))) }
     ensures meets { IfOk result (λ found. IfSome found (λ beside. (t : Tree) → IsStoreFor store.now t → IsSpanOf store.now t number span
         → AreBeside store.now t number beside)) }
+    ensures marks { AreMarks store.now.names store.now.grammar.rules marks.new }
 {
     let Span { extent, behind } = span;
     let Some(right) = behind else {
@@ -51,7 +55,7 @@ pub(crate) fn meeting_texts<L: Ledger>(
     if spot.place() + 2 * extent.nodes != right.place() {
         return Ok(None);
     }
-    let Some(left) = text_before(alloc, store, number, spot, steps)? else {
+    let Some(left) = text_before(alloc, store, marks, number, spot, steps)? else {
         return Ok(None);
     };
     Ok(Some(Neighbours {

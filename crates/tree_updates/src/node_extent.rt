@@ -1,11 +1,12 @@
 // Which nodes and texts of a document a node has with all below it.
 ghost use Rattle.std.specs.Prelude.{◌≡◌, IfOk};
 ghost use Rattle.plain_tree.specs.Tree.{Tree};
+ghost use Rattle.preorder_address.specs.Marks.{AreMarks};
 ghost use Rattle.preorder_address.specs.Spots.{IsSpot};
 ghost use Rattle.tree_updates.specs.Extents.{IsCodedBy, IsExtentOf, IsSpanOf, IsUnsweptFor};
 
 use crate::store::Store;
-use preorder_address::{Spot, find};
+use preorder_address::{Marks, Spot, find_marked};
 use read_steps::Steps;
 use std::alloc::{AllocError, Global};
 use std::sync::ledger::Ledger;
@@ -29,24 +30,28 @@ pub(crate) struct Span {
 pub(crate) fn span_of<L: Ledger>(
     alloc: Global,
     store: &Store,
+    marks: &mut Marks,
     number: u64,
     spot: &Spot,
     steps: &mut Steps<L>,
 ) -> Result<Span, AllocError>
     requires store { (t : Tree) × IsUnsweptFor store.now t }
     requires spot { IsSpot store.now.names store.now.grammar.rules number spot.now }
+    requires marks { AreMarks store.now.names store.now.grammar.rules marks.old }
     ensures span { IfOk result (λ span. (t : Tree) → IsCodedBy store.now t → IsSpanOf store.now t number span) }
+    ensures marks { AreMarks store.now.names store.now.grammar.rules marks.new }
 {
     // The call tells what is true of every grammar.
     let _limit = store.grammar.limit();
     let rank = spot.text_rank();
     let nodes = spot.extent(&store.grammar, &store.counts, steps) + 1;
-    let found = find(
+    let found = find_marked(
         alloc,
         &store.grammar,
         &store.counts,
         &store.names,
         number + nodes,
+        marks,
         steps,
     )?;
     let Some(behind) = found else {
@@ -67,15 +72,18 @@ pub(crate) fn span_of<L: Ledger>(
 pub(crate) fn extent_of<L: Ledger>(
     alloc: Global,
     store: &Store,
+    marks: &mut Marks,
     number: u64,
     spot: &Spot,
     steps: &mut Steps<L>,
 ) -> Result<Extent, AllocError>
     requires store { (t : Tree) × IsUnsweptFor store.now t }
     requires spot { IsSpot store.now.names store.now.grammar.rules number spot.now }
+    requires marks { AreMarks store.now.names store.now.grammar.rules marks.old }
     ensures extent { IfOk result (λ extent. (t : Tree) → IsCodedBy store.now t → IsExtentOf t number extent) }
+    ensures marks { AreMarks store.now.names store.now.grammar.rules marks.new }
 {
-    let span = span_of(alloc, store, number, spot, steps)?;
+    let span = span_of(alloc, store, marks, number, spot, steps)?;
     Ok(span.extent)
 }
 

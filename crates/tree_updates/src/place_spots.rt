@@ -1,20 +1,25 @@
 // Places of the code, found once: the levels that lead there are kept.
-ghost use Rattle.std.specs.Prelude.{◌≡◌, ◌≤◌, ◌<◌, refl, drop, ⊤, IfOk};
+ghost use Rattle.std.specs.Prelude.{◌≡◌, ◌<◌, ◌++◌, refl, drop, ⊤, IfOk, OnOk};
 ghost use Rattle.slt_grammar.specs.Keyed.{KeyedRule, rules_of};
+ghost use Rattle.segment_counts.specs.Counting.{AreCounts};
+ghost use Rattle.preorder_address.specs.Descents.{IsInside, levels_of};
+ghost use Rattle.preorder_address.specs.Marks.{AreMarks, MarksFirst};
 ghost use Rattle.preorder_address.specs.Numberings.{AreCountsOf};
 ghost use Rattle.tree_updates.specs.CodePlaces.{IsPlaceSpot, places_in};
 
-use preorder_address::locate_place;
+use crate::store::Store;
+use preorder_address::{Descent, Mark, Marks, PlaceStart, begin_place};
 use read_steps::Steps;
 use segment_counts::Counts;
 use slt_grammar::{Grammar, Level, Way};
 use std::alloc::{AllocError, Global};
 use std::sync::ledger::Ledger;
 
-// The levels that lead to a place, the start rule's first.
+// The levels that lead to a place, the start rule's first, and the mark of its node.
 #[derive(Drop)]
 pub(crate) struct PlaceSpot {
     levels: Vec<Level>,
+    first: Option<Mark>,
 }
 
 // The levels of a place's spot, one after another. It reads neither rules nor counts.
@@ -27,23 +32,49 @@ pub(crate) struct PlaceWay<'a> {
 // The spot of a place. Memory is asked for its levels alone.
 pub(crate) fn find_place<L: Ledger>(
     alloc: Global,
-    grammar: &Grammar,
-    counts: &Counts,
+    store: &Store,
+    marks: &mut Marks,
     place: u64,
     steps: &mut Steps<L>,
 ) -> Result<PlaceSpot, AllocError>
-    requires counts { AreCountsOf (rules_of grammar.now.rules) counts.now }
-    requires low { place < places_in grammar.now.rules }
-    ensures spot { IfOk result (IsPlaceSpot grammar.now.rules place) }
+    requires counts { AreCounts store.now.names (rules_of store.now.grammar.rules) store.now.counts }
+    requires marks { AreMarks store.now.names store.now.grammar.rules marks.old }
+    requires low { place < places_in store.now.grammar.rules }
+    ensures spot { IfOk result (IsPlaceSpot store.now.grammar.rules place) }
+    ensures marks { AreMarks store.now.names store.now.grammar.rules marks.new }
+    ensures first { IfOk result (λ spot. MarksFirst store.now.names store.now.grammar.rules spot.levels.items spot.first) }
 {
-    // The call tells what is true of every grammar.
-    let _limit = grammar.limit();
-    let mut descent = locate_place(counts, place).unwrap();
+    let PlaceStart { level, first, rest } = begin_place(
+        &store.grammar,
+        &store.counts,
+        &store.names,
+        place,
+        marks,
+        steps,
+    );
     let mut levels = Vec::new(alloc);
+    levels.push(level)?;
+    push_levels(&store.grammar, &store.counts, rest, &mut levels, steps)?;
+    Ok(PlaceSpot { levels, first })
+}
+
+// Puts the levels that a descent still gives behind others.
+fn push_levels<L: Ledger>(
+    grammar: &Grammar,
+    counts: &Counts,
+    rest: Descent,
+    levels: &mut Vec<Level>,
+    steps: &mut Steps<L>,
+) -> Result<(), AllocError>
+    requires counts { AreCountsOf (rules_of grammar.now.rules) counts.now }
+    requires inside { IsInside grammar.now.rules rest }
+    ensures levels { OnOk result (levels.new.items ≡ levels.old.items ++ levels_of grammar.now.rules rest) }
+{
+    let mut descent = rest;
     while let Some(level) = descent.next(grammar, counts, steps) {
         levels.push(level)?;
     }
-    Ok(PlaceSpot { levels })
+    Ok(())
 }
 
 impl PlaceSpot {
@@ -55,6 +86,13 @@ impl PlaceSpot {
             levels: self.levels.as_slice(),
             given: 0,
         }
+    }
+
+    // The mark of the first level's node.
+    pub(crate) fn first(&self) -> Option<Mark>
+        ensures { result ≡ self.now.first }
+    {
+        self.first
     }
 }
 

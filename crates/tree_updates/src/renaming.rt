@@ -7,6 +7,7 @@ ghost use Rattle.plain_tree.specs.Tree.{Tree};
 ghost use Rattle.plain_tree.specs.declared.edit.Edit.TheVariants.{Rename};
 ghost use Rattle.digram_index.specs.Linked.{IsIndexOf};
 ghost use Rattle.path_isolation.specs.Isolations.{room_along};
+ghost use Rattle.preorder_address.specs.Marks.{AreMarks, MarksFirst};
 ghost use Rattle.preorder_address.specs.Spots.{IsSpot};
 ghost use Rattle.preorder_address.specs.TreeNumbers.{kind_at};
 ghost use Rattle.tree_updates.specs.Stores.{Applies, IsRefusedFor, IsStoreFor};
@@ -19,7 +20,7 @@ use crate::sweeping::sweep_uncalled;
 use digram_index::Index;
 use path_isolation::nodes_along;
 use plain_tree::Kind;
-use preorder_address::{Spot, parent_of};
+use preorder_address::{Marks, Spot, parent_of};
 use read_steps::Steps;
 use slt_grammar::Grammar;
 use std::alloc::{AllocError, Global};
@@ -40,19 +41,23 @@ struct Nameable {
 pub(crate) fn rename<L: Ledger>(
     alloc: Global,
     store: &mut Store,
+    marks: &mut Marks,
     number: u64,
     name: &[u8],
     steps: &mut Steps<L>,
 ) -> Result<(), EditError>
     requires store { (t : Tree) × IsStoreFor store.old t }
     requires name { IsName name.now }
+    requires marks { AreMarks store.old.names store.old.grammar.rules marks.old }
     ensures applies { (t : Tree) → IsStoreFor store.old t → Applies t (Rename number name.now) store.old result store.new }
+    ensures marks { AreMarks store.old.names store.new.grammar.rules marks.new }
 {
     // The call tells what is true of every grammar.
     let _limit = store.grammar.limit();
-    let found = find_nameable(alloc, store, number, name, steps)?;
+    let found = find_nameable(alloc, store, marks, number, name, steps)?;
     let symbol = store.names.intern(alloc, found.kind, name)?;
     make_room(&mut store.grammar, &mut store.index, &found.spot, steps)?;
+    marks.cut(found.spot.first());
     relabel_node(
         &mut store.grammar,
         &mut store.index,
@@ -91,18 +96,22 @@ fn make_room<L: Ledger>(
 fn find_nameable<L: Ledger>(
     alloc: Global,
     store: &Store,
+    marks: &mut Marks,
     number: u64,
     name: &[u8],
     steps: &mut Steps<L>,
 ) -> Result<Nameable, EditError>
     requires store { (t : Tree) × IsStoreFor store.now t }
     requires name { IsName name.now }
+    requires marks { AreMarks store.now.names store.now.grammar.rules marks.old }
     ensures spot { IfOk result (λ found. IsSpot store.now.names store.now.grammar.rules number found.spot) }
     ensures kind { IfOk result (λ found. (t : Tree) → IsStoreFor store.now t → Some found.kind ≡ kind_at t number) }
     ensures allowed { IfOk result (λ found. (t : Tree) → IsStoreFor store.now t → IsAllowed t (Rename number name.now)) }
     ensures refused { IfErr result (λ error. (t : Tree) → IsStoreFor store.now t → IsRefusedFor error t (Rename number name.now)) }
+    ensures marks { AreMarks store.now.names store.now.grammar.rules marks.new }
+    ensures first { IfOk result (λ found. MarksFirst store.now.names store.now.grammar.rules found.spot.levels.items found.spot.first) }
 {
-    let spot = spot_at(alloc, store, number, steps)?;
+    let spot = spot_at(alloc, store, marks, number, steps)?;
     let Some(kind) = spot.kind(&store.names) else {
         unreachable!()
     };

@@ -5,6 +5,7 @@ ghost use Rattle.plain_tree.specs.Lawful.{IsDocument};
 ghost use Rattle.plain_tree.specs.Tree.{Tree, node_count};
 ghost use Rattle.plain_tree.specs.declared.edit.Edit.TheVariants.{Delete};
 ghost use Rattle.plain_tree.specs.declared.kind.Kind.TheVariants.{Attribute, Document, Element};
+ghost use Rattle.preorder_address.specs.Marks.{AreMarks, MarksFirst};
 ghost use Rattle.preorder_address.specs.Spots.{IsSpot, place_at};
 ghost use Rattle.preorder_address.specs.TreeNumbers.{kind_at};
 ghost use Rattle.tree_updates.specs.Stores.{IsRefusedFor, IsStoreFor};
@@ -13,7 +14,7 @@ use crate::node_spots::spot_at;
 use crate::spot_places::kind_above;
 use crate::store::{EditError, Store};
 use plain_tree::Kind;
-use preorder_address::Spot;
+use preorder_address::{Marks, Spot};
 use read_steps::Steps;
 use std::alloc::Global;
 use std::sync::ledger::Ledger;
@@ -23,14 +24,18 @@ use std::sync::ledger::Ledger;
 pub(crate) fn spare_spot<L: Ledger>(
     alloc: Global,
     store: &Store,
+    marks: &mut Marks,
     number: u64,
     steps: &mut Steps<L>,
 ) -> Result<Spot, EditError>
     requires store { (t : Tree) × IsStoreFor store.now t }
+    requires marks { AreMarks store.now.names store.now.grammar.rules marks.old }
     ensures spot { IfOk result (IsSpot store.now.names store.now.grammar.rules number) }
     ensures answer { (t : Tree) → IsStoreFor store.now t → MatchResult result (λ _. IsAllowed t (Delete number)) (λ error. IsRefusedFor error t (Delete number)) }
+    ensures marks { AreMarks store.now.names store.now.grammar.rules marks.new }
+    ensures first { IfOk result (λ spot. MarksFirst store.now.names store.now.grammar.rules spot.levels.items spot.first) }
 {
-    let spot = spot_at(alloc, store, number, steps)?;
+    let spot = spot_at(alloc, store, marks, number, steps)?;
     let Some(kind) = spot.kind(&store.names) else {
         unreachable!()
     };

@@ -1,13 +1,14 @@
 // What an edit changes, and why it may not be made.
 use digram_index::Index;
 use plain_tree::{Kind, Names};
+use preorder_address::Marks;
 use segment_counts::Counts;
 use slt_grammar::Grammar;
 use std::alloc::AllocError;
 use text_list::TextList;
 
-/// A document, held as a grammar over a table of names beside its texts, with the counts of the grammar's segments and the index of its
-/// digrams.
+/// A document, held as a grammar over a table of names beside its texts, with the counts of the grammar's segments, the index of its digrams,
+/// and the marks of its start at which a search for a node may begin.
 #[derive(Drop)]
 pub struct Store {
     pub grammar: Grammar,
@@ -15,6 +16,7 @@ pub struct Store {
     pub texts: TextList,
     pub counts: Counts,
     pub index: Index,
+    pub marks: Marks,
 }
 
 /// Why an edit is not made. The causes are tried in this order.

@@ -15,6 +15,7 @@ ghost use Rattle.preorder_address.specs.Numberings.{AreCountsOf};
 ghost use Rattle.preorder_address.specs.Spots.{IsSpot};
 ghost use Rattle.preorder_address.specs.Told.{AreTold, told_levels};
 ghost use Rattle.tree_updates.specs.Extents.{IsExtentOf, IsUnsweptFor, LeavesDocument};
+ghost use Rattle.tree_updates.specs.Fronts.{IsSameBeforeFirst};
 ghost use Rattle.tree_updates.specs.Ways.{levels_to, room_to};
 
 use crate::isolating::{lift_along, lift_node};
@@ -48,6 +49,7 @@ pub(crate) fn take_out<L: Ledger>(
     ensures spare_nodes { store.old.grammar.spare_nodes ≤ store.new.grammar.spare_nodes + room_along store.old.grammar.rules spot.now.levels.items }
     ensures links { store.old.index.spare_links ≤ store.new.index.spare_links + (room_along store.old.grammar.rules spot.now.levels.items + 1) }
     ensures cells { store.new.grammar.limit ≤ length store.new.index.cells }
+    ensures front { IsSameBeforeFirst spot.now.levels.items store.old.grammar.rules store.new.grammar.rules }
 {
     // The call tells what is true of every grammar.
     let _limit = store.grammar.limit();

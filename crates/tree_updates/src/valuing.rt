@@ -4,12 +4,14 @@ ghost use Rattle.plain_tree.specs.Allowed.{IsAllowed, MayHaveValue};
 ghost use Rattle.plain_tree.specs.Lawful.{AreChars, IsLawfulName};
 ghost use Rattle.plain_tree.specs.Tree.{Tree};
 ghost use Rattle.plain_tree.specs.declared.edit.Edit.TheVariants.{Value};
+ghost use Rattle.preorder_address.specs.Marks.{AreMarks};
 ghost use Rattle.preorder_address.specs.TreeNumbers.{text_rank_at};
 ghost use Rattle.tree_updates.specs.Stores.{Applies, IsRefusedFor, IsStoreFor};
 
 use crate::node_spots::spot_at;
 use crate::store::{EditError, Store};
 use plain_tree::{Bytes, Kind};
+use preorder_address::Marks;
 use read_steps::Steps;
 use std::alloc::Global;
 use std::sync::ledger::Ledger;
@@ -21,15 +23,18 @@ use xml_nodes::lawful;
 pub(crate) fn set_value<L: Ledger>(
     alloc: Global,
     store: &mut Store,
+    marks: &mut Marks,
     number: u64,
     value: &[u8],
     steps: &mut Steps<L>,
 ) -> Result<(), EditError>
     requires store { (t : Tree) × IsStoreFor store.old t }
     requires chars { AreChars value.now }
+    requires marks { AreMarks store.old.names store.old.grammar.rules marks.old }
     ensures applies { (t : Tree) → IsStoreFor store.old t → Applies t (Value number value.now) store.old result store.new }
+    ensures marks { AreMarks store.old.names store.new.grammar.rules marks.new }
 {
-    let rank = value_rank(alloc, store, number, value, steps)?;
+    let rank = value_rank(alloc, store, marks, number, value, steps)?;
     put_value(alloc, store, number, rank, value)
 }
 
@@ -45,6 +50,7 @@ pub(crate) fn put_value(
     requires chars { AreChars value.now }
     ensures applies { (t : Tree) → IsStoreFor store.old t → IsAllowed t (Value number value.now) → Some rank ≡ text_rank_at t number
         → Applies t (Value number value.now) store.old result store.new }
+    ensures grammar { store.new.grammar ≡ store.old.grammar }
 {
     let text = Bytes::from_slice(alloc, value)?;
     store.texts.reserve(1)?;
@@ -56,16 +62,19 @@ pub(crate) fn put_value(
 fn value_rank<L: Ledger>(
     alloc: Global,
     store: &Store,
+    marks: &mut Marks,
     number: u64,
     value: &[u8],
     steps: &mut Steps<L>,
 ) -> Result<u64, EditError>
     requires store { (t : Tree) × IsStoreFor store.now t }
+    requires marks { AreMarks store.now.names store.now.grammar.rules marks.old }
     ensures allowed { IfOk result (λ rank. (t : Tree) → IsStoreFor store.now t → IsAllowed t (Value number value.now)) }
     ensures rank { IfOk result (λ rank. (t : Tree) → IsStoreFor store.now t → Some rank ≡ text_rank_at t number) }
     ensures refused { IfErr result (λ error. (t : Tree) → IsStoreFor store.now t → IsRefusedFor error t (Value number value.now)) }
+    ensures marks { AreMarks store.now.names store.now.grammar.rules marks.new }
 {
-    let spot = spot_at(alloc, store, number, steps)?;
+    let spot = spot_at(alloc, store, marks, number, steps)?;
     let Some((kind, name)) = store.names.at(spot.symbol()) else {
         unreachable!()
     };

@@ -23,7 +23,7 @@ pub returns-in_err-delete_hits-clause-counted : goal.returns-in_err-delete_hits-
 returns-in_err-delete_hits-clause-counted g c =
     let h = c.requires.held in
     let left = c.in_err-delete_hits.ensures.applies h.tree (store-held c.args.loaded.now.store h c.requires.counted) in
-    counted-store c.delete_hits.new.store h.tree left.store
+    counted-store c.delete_hits.new.store h.tree left.store c.delete_hits.ensures.marks
 
 pub returns-in_err-delete_hits-clause-comes : goal.returns-in_err-delete_hits-clause-comes
 returns-in_err-delete_hits-clause-comes g c = λ told count.
@@ -51,7 +51,7 @@ returns-clause-counted g c =
     let h = c.requires.held in
     let made = c.in_ok-delete_hits.ensures.applies h.tree (store-held c.args.loaded.now.store h c.requires.counted) in
     let t = edited_all Deletion (hits_in c.in_ok-selector.selector c.args.loaded.now.store) h.tree in
-    counted-store c.settle_where_due.new.loaded.store t (c.settle_where_due.ensures.store t made.store)
+    counted-store c.settle_where_due.new.loaded.store t (c.settle_where_due.ensures.store t made.store) c.settle_where_due.ensures.marks
 
 pub returns-clause-comes : goal.returns-clause-comes
 returns-clause-comes g c = λ told count.

@@ -1,9 +1,11 @@
 use Rattle.std.proofs.Common.{ap}
 use Rattle.std.proofs.lemmas.Result.{err_from_is_err_and}
 use Rattle.slt_grammar.specs.Keyed.{Keyed, rules_of}
+use Rattle.bulk_rewrite.specs.declared.renaming_all.BulkError.TheVariants.{Memory}
+use Rattle.tree_updates.proofs.AppliedMarks.{marked, store-marked}
 use Rattle.store_core.specs.BulkEditing.{Renaming, edited_all}
 use Rattle.store_core.specs.BulkStores.{hits_in}
-use Rattle.store_core.proofs.BulkEdits.{all-renamed-store, few-edited, few-weighed, left-by-all, left-named, renaming-refused}
+use Rattle.store_core.proofs.BulkEdits.{all-renamed-store, cleared-marks, edited-marked, few-edited, few-weighed, left-by-all, left-marked, left-named, renaming-refused}
 use Rattle.store_core.proofs.bulk_editing.rename_hits.Goals as goal
 
 pub rename_all-requires-clause-stands : goal.rename_all-requires-clause-stands
@@ -18,34 +20,38 @@ put_rules-requires-clause-few g c =
     let made = c.in_ok-grammar.ensures.renamed s.texts.texts r.0 r.1.stand in
     few-weighed (rules_of c.in_ok-grammar.grammar.rules) c.rename_all.new.names s.texts.texts (edited_all edit numbers r.0) made.stand (few-edited edit numbers r.0 r.1.small)
 
-pub returns-in_err-grammar : goal.returns-in_err-grammar
-returns-in_err-grammar g c =
+pub returns-in_err-grammar-clause-applies : goal.returns-in_err-grammar-clause-applies
+returns-in_err-grammar-clause-applies g c =
     let p = err_from_is_err_and c.from_residual.result c.from_residual.ensures.1 in
     let s = c.args.store.now in
     let error = c.in_err-grammar.field-0.0 in
-    rw (p.1, p.2) (record {
-      applies = λ t i.
-          let why = renaming-refused error (hits_in c.args.selector.now s) c.args.name.now t s.names c.rename_all.new.names (c.in_err-grammar.ensures.refused s.texts.texts t i.stand) in
-          left-by-all (Renaming c.args.name.now) c.args.selector.now s t i error c.rename_all.new.names c.rules-rules.ensures.grammar why;
-    })
+    rw (p.1, p.2) (λ t i.
+    let why = renaming-refused error (hits_in c.args.selector.now s) c.args.name.now t s.names c.rename_all.new.names (c.in_err-grammar.ensures.refused s.texts.texts t i.stand) in
+    let m = c.clear.new.self in
+    left-marked (Renaming c.args.name.now) c.args.selector.now s t m error _ (left-by-all (Renaming c.args.name.now) c.args.selector.now (marked s m) t (store-marked s m t i) error c.rename_all.new.names c.rules-rules.ensures.grammar why))
 
-pub returns-in_err-put_rules : goal.returns-in_err-put_rules
-returns-in_err-put_rules g c =
+pub returns-in_err-put_rules-clause-applies : goal.returns-in_err-put_rules-clause-applies
+returns-in_err-put_rules-clause-applies g c =
     let p = err_from_is_err_and c.from_residual-in_err-put_rules.result c.from_residual-in_err-put_rules.ensures.1 in
     let s = c.args.store.now in
-    rw (p.1, p.2) (record {
-      applies = λ t i.
-          let made = c.in_ok-grammar.ensures.renamed s.texts.texts t i.stand in
-          left-named (Renaming c.args.name.now) c.args.selector.now s t i c.rename_all.new.names c.put_rules.new.store c.rules-rules.ensures.grammar made.allowed made.names c.in_err-put_rules.ensures.refused;
-    })
+    rw (p.1, p.2) (λ t i.
+    let made = c.in_ok-grammar.ensures.renamed s.texts.texts t i.stand in
+    let m = c.clear.new.self in
+    left-marked (Renaming c.args.name.now) c.args.selector.now s t m Memory c.put_rules.new.store (left-named (Renaming c.args.name.now) c.args.selector.now (marked s m) t (store-marked s m t i) c.rename_all.new.names c.put_rules.new.store c.rules-rules.ensures.grammar made.allowed made.names c.in_err-put_rules.ensures.refused))
 
-pub returns : goal.returns
-returns g c =
+pub returns-clause-applies : goal.returns-clause-applies
+returns-clause-applies g c =
     let s = c.args.store.now in
     let made = c.in_ok-grammar.ensures in
     let put = c.in_ok-put_rules.ensures in
-    record {
-      applies = λ t i.
-          all-renamed-store s t i c.args.selector.now (rules_of c.in_ok-grammar.grammar.rules) made.swept c.put_rules.new.store (ap (λ (x : Keyed). rules_of x.rules) put.rules) put.counts put.index
-          c.args.name.now c.rename_all.new.names (made.renamed s.texts.texts t i.stand) made.few put.names put.texts;
-    }
+    λ t i.
+    let m = c.clear.new.self in
+    edited-marked (Renaming c.args.name.now) c.args.selector.now s t m c.put_rules.new.store
+    (all-renamed-store (marked s m) t (store-marked s m t i) c.args.selector.now (rules_of c.in_ok-grammar.grammar.rules) made.swept c.put_rules.new.store (ap (λ (x : Keyed). rules_of x.rules) put.rules) put.counts put.index
+    c.args.name.now c.rename_all.new.names (made.renamed s.texts.texts t i.stand) made.few put.names put.texts)
+
+pub returns-in_err-put_rules-clause-marks : goal.returns-in_err-put_rules-clause-marks
+returns-in_err-put_rules-clause-marks g c = cleared-marks c.put_rules.new.store c.clear.new.self c.put_rules.ensures.marks c.clear.ensures
+
+pub returns-clause-marks : goal.returns-clause-marks
+returns-clause-marks g c = cleared-marks c.put_rules.new.store c.clear.new.self c.put_rules.ensures.marks c.clear.ensures

@@ -41,7 +41,7 @@ returns-clause-counted g c =
     let h = c.requires.held in
     let made = c.in_ok-apply.ensures.applies h.tree (store-held c.args.loaded.now.store h c.requires.counted) in
     let t = edited h.tree c.in_ok-edit.edit in
-    counted-store c.settle_where_due.new.loaded.store t (c.settle_where_due.ensures.store t made.store)
+    counted-store c.settle_where_due.new.loaded.store t (c.settle_where_due.ensures.store t made.store) c.settle_where_due.ensures.marks
 
 pub returns-clause-comes : goal.returns-clause-comes
 returns-clause-comes g c = λ told count.

@@ -17,3 +17,13 @@ pub tables_of-requires-clause-few : goal.tables_of-requires-clause-few
 tables_of-requires-clause-few c =
     let (tree, stand, small) = c.in_ok-grammar.ensures.document in
     omega (arith, weight-coded c.in_ok-grammar.field-0.names tree (value (rules_of c.in_ok-grammar.field-0.grammar.rules)) stand.code, small)
+
+pub returns-clause-store : goal.returns-clause-store
+returns-clause-store c =
+    let (tree, stand, small) = c.in_ok-grammar.ensures.document in
+    record {
+      tree = tree;
+      file = record { file = c.in_ok-grammar.ensures.file; stand = stand };
+      small = small;
+      counted = record { counts = c.in_ok-counts.ensures.counts; index = c.in_ok-counts.ensures.index; marks = c.new.ensures c.in_ok-grammar.field-0.names c.in_ok-grammar.field-0.grammar.rules };
+    }

@@ -1,4 +1,4 @@
-use Rattle.std.proofs.Common.{◌≡◌, Option, None, Some, subst}
+use Rattle.std.proofs.Common.{◌≡◌, Option, subst, arith}
 use Rattle.std.specs.Prelude.{IfNone, IfSome}
 use Rattle.std.proofs.lemmas.Result.{err_from_is_err_and}
 use Rattle.plain_tree.specs.declared.edit.Edit.TheVariants.{Append}
@@ -9,17 +9,20 @@ use Rattle.tree_updates.specs.FragmentGrowths.{MeetsAtEnd}
 use Rattle.tree_updates.specs.Stores.{IsStoreFor}
 use Rattle.tree_updates.specs.declared.appending_joined.LastText.{LastText}
 use Rattle.tree_updates.specs.declared.store.EditError.TheVariants.{Memory}
-use Rattle.tree_updates.proofs.LeavingDocuments.{unswept}
+use Rattle.tree_updates.proofs.LeavingDocuments.{unswept, coded}
 use Rattle.tree_updates.proofs.StoreLemmas.{refused-there}
+use Rattle.tree_updates.proofs.Fronts.{cut-stay}
+use Rattle.tree_updates.proofs.AppendedStores.{end-low, host-there}
+use Rattle.tree_updates.proofs.IsolatedPlaces.{places-coded}
 use Rattle.tree_updates.proofs.appending.append.Goals as goal
 
 pub extent_of-requires-clause-store : goal.extent_of-requires-clause-store
 extent_of-requires-clause-store g c = let r = c.requires.store in (r.0, unswept c.args.store.now r.0 r.1)
 
-pub returns-in_err-extent : goal.returns-in_err-extent
-returns-in_err-extent g c =
+pub returns-in_err-extent-clause-applies : goal.returns-in_err-extent-clause-applies
+returns-in_err-extent-clause-applies g c =
     let p = err_from_is_err_and c.from_residual-in_err-extent.result c.from_residual-in_err-extent.ensures.1 in
-    rw (p.1, p.2) (record { applies = λ t i. refused-there t (Append c.args.number c.args.fragment.now) Memory c.args.store.now tt i })
+    rw (p.1, p.2) (λ t i. refused-there t (Append c.args.number c.args.fragment.now) Memory c.args.store.now tt i)
 
 pub end_site-site-requires-clause-store : goal.end_site-site-requires-clause-store
 end_site-site-requires-clause-store g c = let r = c.requires.store in (r.0, unswept c.args.store.now r.0 r.1)
@@ -30,10 +33,10 @@ meeting_kid-requires-clause-store g c =
     let edit : IsEditOf r.0 (Append c.args.number c.args.fragment.now) = record { document_is = r.1.stand.document; allowed = c.in_ok-spot.ensures.answer r.0 r.1; parts = c.requires.fragment } in
     (r.0, r.1, edit)
 
-pub returns-in_err-meeting_kid : goal.returns-in_err-meeting_kid
-returns-in_err-meeting_kid g c =
-    let p = err_from_is_err_and c.from_residual-in_err-meeting_kid.result c.from_residual-in_err-meeting_kid.ensures.1 in
-    rw (p.1, p.2) (record { applies = λ t i. refused-there t (Append c.args.number c.args.fragment.now) Memory c.args.store.now tt i })
+pub returns-in_err-meeting-clause-applies : goal.returns-in_err-meeting-clause-applies
+returns-in_err-meeting-clause-applies g c =
+    let p = err_from_is_err_and c.from_residual-in_err-meeting.result c.from_residual-in_err-meeting.ensures.1 in
+    rw (p.1, p.2) (λ t i. refused-there t (Append c.args.number c.args.fragment.now) Memory c.args.store.now tt i)
 
 pub append_apart-requires-clause-store : goal.append_apart-requires-clause-store
 append_apart-requires-clause-store g c =
@@ -48,27 +51,53 @@ append_joined-requires-clause-store g c =
     let F = c.args.fragment.now in
     let r = c.requires.store in
     let edit : IsEditOf r.0 (Append n F) = record { document_is = r.1.stand.document; allowed = c.in_ok-spot.ensures.answer r.0 r.1; parts = c.requires.fragment } in
-    let meets = subst (λ (o : Option LastText). IfSome o (λ last. (t : Tree) → IsStoreFor s t → IsEditOf t (Append n F) → MeetsAtEnd t n last.number F)) c.in-Some.is c.in_ok-meeting_kid.ensures.meets in
+    let meets = subst (λ (o : Option LastText). IfSome o (λ last. (t : Tree) → IsStoreFor s t → IsEditOf t (Append n F) → MeetsAtEnd t n last.number F)) c.in-Some.is c.in_ok-meeting.ensures.meets in
     (r.0, r.1, edit, meets r.0 r.1 edit)
 
-pub returns-in-None : goal.returns-in-None
-returns-in-None g c = record {
-  applies = λ t i.
-      let s = c.args.store.now in
-      let n = c.args.number in
-      let F = c.args.fragment.now in
-      let edit : IsEditOf t (Append n F) = record { document_is = i.stand.document; allowed = c.in_ok-spot.ensures.answer t i; parts = c.requires.fragment } in
-      let apart = subst (λ (o : Option LastText). IfNone o ((t : Tree) → IsStoreFor s t → IsEditOf t (Append n F) → edited t (Append n F) ≡ placed t (Append n F))) c.in-None.is c.in_ok-meeting_kid.ensures.apart in
-      c.append_apart.ensures.applies t i edit (apart t i edit);
-}
+pub returns-in-None-clause-applies : goal.returns-in-None-clause-applies
+returns-in-None-clause-applies g c = λ t i.
+    let s = c.args.store.now in
+    let n = c.args.number in
+    let F = c.args.fragment.now in
+    let edit : IsEditOf t (Append n F) = record { document_is = i.stand.document; allowed = c.in_ok-spot.ensures.answer t i; parts = c.requires.fragment } in
+    let apart = subst (λ (o : Option LastText). IfNone o ((t : Tree) → IsStoreFor s t → IsEditOf t (Append n F) → edited t (Append n F) ≡ placed t (Append n F))) c.in-None.is c.in_ok-meeting.ensures.apart in
+    c.append_apart.ensures.applies t i edit (apart t i edit)
 
-pub returns : goal.returns
-returns g c = record {
-  applies = λ t i.
-      let s = c.args.store.now in
-      let n = c.args.number in
-      let F = c.args.fragment.now in
-      let edit : IsEditOf t (Append n F) = record { document_is = i.stand.document; allowed = c.in_ok-spot.ensures.answer t i; parts = c.requires.fragment } in
-      let meets = subst (λ (o : Option LastText). IfSome o (λ last. (t : Tree) → IsStoreFor s t → IsEditOf t (Append n F) → MeetsAtEnd t n last.number F)) c.in-Some.is c.in_ok-meeting_kid.ensures.meets in
-      c.append_joined.ensures.applies t i edit (meets t i edit);
-}
+pub returns-clause-applies : goal.returns-clause-applies
+returns-clause-applies g c = λ t i.
+    let s = c.args.store.now in
+    let n = c.args.number in
+    let F = c.args.fragment.now in
+    let edit : IsEditOf t (Append n F) = record { document_is = i.stand.document; allowed = c.in_ok-spot.ensures.answer t i; parts = c.requires.fragment } in
+    let meets = subst (λ (o : Option LastText). IfSome o (λ last. (t : Tree) → IsStoreFor s t → IsEditOf t (Append n F) → MeetsAtEnd t n last.number F)) c.in-Some.is c.in_ok-meeting.ensures.meets in
+    c.append_joined.ensures.applies t i edit (meets t i edit)
+
+pub find_place-requires-clause-counts : goal.find_place-requires-clause-counts
+find_place-requires-clause-counts g c = c.requires.store.1.counts
+
+pub find_place-requires-clause-low : goal.find_place-requires-clause-low
+find_place-requires-clause-low g c =
+    let s = c.args.store.now in
+    let r = c.requires.store in
+    let edit : IsEditOf r.0 (Append c.args.number c.args.fragment.now) = record { document_is = r.1.stand.document; allowed = c.in_ok-spot.ensures.answer r.0 r.1; parts = c.requires.fragment } in
+    let site = c.end_site-site.ensures r.0 (coded s r.0 (unswept s r.0 r.1)) in
+    omega (arith, end-low r.0 c.args.number (host-there r.0 c.args.number c.args.fragment.now edit) c.end_site-site.result site, places-coded s.names s.grammar.rules r.0 r.1.stand.code)
+
+pub returns-in_err-end-clause-applies : goal.returns-in_err-end-clause-applies
+returns-in_err-end-clause-applies g c =
+    let p = err_from_is_err_and c.from_residual-in_err-end.result c.from_residual-in_err-end.ensures.1 in
+    rw (p.1, p.2) (λ t i. refused-there t (Append c.args.number c.args.fragment.now) Memory c.args.store.now tt i)
+
+pub returns-in-None-clause-marks : goal.returns-in-None-clause-marks
+returns-in-None-clause-marks g c =
+    let s = c.args.store.now in
+    let end = c.in_ok-end.end in
+    c.append_apart.ensures.marks s.names c.cut.new.self
+    (cut-stay s.names s.grammar end.levels.items end.first c.first.result c.find_place.new.marks c.cut.new.self c.cut.ensures c.limit-limit.ensures.keyed c.find_place.ensures.marks c.first.ensures c.in_ok-end.ensures.first)
+
+pub returns-clause-marks : goal.returns-clause-marks
+returns-clause-marks g c =
+    let s = c.args.store.now in
+    let end = c.in_ok-end.end in
+    c.append_joined.ensures.marks s.names c.cut.new.self
+    (cut-stay s.names s.grammar end.levels.items end.first c.first.result c.find_place.new.marks c.cut.new.self c.cut.ensures c.limit-limit.ensures.keyed c.find_place.ensures.marks c.first.ensures c.in_ok-end.ensures.first)

@@ -1,4 +1,4 @@
-use Rattle.std.proofs.Common.{◌≡◌, ◌+◌, ◌<◌, ◌^◌, List, take, ap, sym, subst, arith}
+use Rattle.std.proofs.Common.{◌≡◌, ◌+◌, ◌<◌, ◌^◌, List, take, ap, sym, subst, arith, refl}
 use Rattle.std.proofs.lemmas.Result.{err_from_is_err_and}
 use Rattle.plain_tree.specs.declared.edit.Edit.TheVariants.{Append}
 use Rattle.plain_tree.specs.Edits.{placed}
@@ -7,11 +7,14 @@ use Rattle.plain_tree.specs.Tree.{Tree, list_count, node_count, node_count_all, 
 use Rattle.fcns_encoding.specs.Interning.{Interns}
 use Rattle.tree_updates.specs.FragmentGrowths.{IsFragmentGrowth}
 use Rattle.tree_updates.specs.Stores.{IsStoreFor}
-use Rattle.tree_updates.specs.declared.store.EditError.TheVariants.{TooMany}
+use Rattle.tree_updates.specs.declared.store.EditError.TheVariants.{TooMany, Memory}
 use Rattle.tree_updates.proofs.AppendedStores.{apart-count, apart-grows, real-fragment}
 use Rattle.tree_updates.proofs.BroughtNames.{all-named, edited-named, refused-later, refused-named}
 use Rattle.tree_updates.proofs.LeavingDocuments.{coded, unswept}
 use Rattle.tree_updates.proofs.StoreLemmas.{refused-there, total-is}
+use Rattle.tree_updates.specs.CodePlaces.{IsPlaceSpot}
+use Rattle.tree_updates.specs.declared.growing.Site.{Site}
+use Rattle.tree_updates.proofs.Fronts.{keeps-same, place-still}
 use Rattle.tree_updates.proofs.appending.append_apart.Goals as goal
 
 pub overflow_sub-total : goal.overflow_sub-total
@@ -19,25 +22,23 @@ overflow_sub-total g c =
     let r = c.requires.store in
     omega (arith, c.total.ensures.kept, total-is c.args.store.now r.0 r.1 c.limit-limit.ensures.keyed.grammar, r.1.small)
 
-pub returns-then-count-total : goal.returns-then-count-total
-returns-then-count-total g c = record {
-  applies = λ t i edit same.
-      let s = c.args.store.now in
-      let F = c.args.fragment.now in
-      let total = total-is s t i c.limit-limit.ensures.keyed.grammar in
-      refused-there t (Append c.args.number F) TooMany s
-      (edit.allowed, omega (arith, c.if-count-total.true, c.in_ok-count.ensures, ap list_count c.as_slice-nodes.ensures, c.total.ensures.kept, total, apart-count t c.args.number F edit same)) i;
-}
+pub returns-then-count-total-clause-applies : goal.returns-then-count-total-clause-applies
+returns-then-count-total-clause-applies g c = λ t i edit same.
+    let s = c.args.store.now in
+    let F = c.args.fragment.now in
+    let total = total-is s t i c.limit-limit.ensures.keyed.grammar in
+    refused-there t (Append c.args.number F) TooMany s
+    (edit.allowed, omega (arith, c.if-count-total.true, c.in_ok-count.ensures, ap list_count c.as_slice-nodes.ensures, c.total.ensures.kept, total, apart-count t c.args.number F edit same)) i
 
-pub returns-in_err-growth : goal.returns-in_err-growth
-returns-in_err-growth g c =
+pub returns-in_err-growth-clause-applies : goal.returns-in_err-growth-clause-applies
+returns-in_err-growth-clause-applies g c =
     let s = c.args.store.now in
     let F = c.args.fragment.now in
     let names = c.fragment_growth.new.names in
     let k = c.in_err-growth.ensures.refused in
     let some = subst (λ (ts : List Tree). Interns s.names (take k.0 (pairs_of_trees (trees ts))) names) c.as_slice-nodes.ensures k.1 in
     let p = err_from_is_err_and c.from_residual-in_err-growth.result c.from_residual-in_err-growth.ensures.1 in
-    rw (p.1, p.2) (record { applies = λ t i edit same. refused-named s t i (Append c.args.number F) edit c.limit-limit.ensures.keyed.grammar k.0 names some })
+    rw (p.1, p.2) (λ t i edit same. refused-named s t i (Append c.args.number F) edit c.limit-limit.ensures.keyed.grammar k.0 names some)
 
 pub grow-requires : goal.grow-requires
 grow-requires g c =
@@ -54,6 +55,7 @@ grow-requires g c =
     let grown = subst (λ (ts : List Tree). Interns s.names (pairs_of_trees (trees ts)) names) e c.in_ok-growth.ensures.grown in
     let x = subst (λ (ts : List Tree). IsFragmentGrowth names ts c.in_ok-count.count c.args.site c.in_ok-growth.growth) e c.in_ok-growth.ensures.growth in
     record {
+      spot = subst (λ (w : Site). IsPlaceSpot s.grammar.rules w.place c.args.spot.now) (sym c.in_ok-growth.ensures.growth.site_is) c.requires.spot;
       store = (
         r.0,
         placed r.0 (Append n F),
@@ -62,8 +64,8 @@ grow-requires g c =
       );
     }
 
-pub returns-in_err-grow : goal.returns-in_err-grow
-returns-in_err-grow g c =
+pub returns-in_err-grow-clause-applies : goal.returns-in_err-grow-clause-applies
+returns-in_err-grow-clause-applies g c =
     let s = c.args.store.now in
     let n = c.args.number in
     let F = c.args.fragment.now in
@@ -73,13 +75,11 @@ returns-in_err-grow g c =
     let come = subst (λ (ts : List Tree). Interns s.names (pairs_of_trees (trees ts)) names) c.as_slice-nodes.ensures c.in_ok-growth.ensures.grown in
     let grown = subst (λ (ns : List Pair). Interns s.names (pairs_of_trees (trees F)) ns) (sym c.grow.ensures.names) come in
     let p = err_from_is_err_and c.from_residual-in_err-grow.result c.from_residual-in_err-grow.ensures.1 in
-    rw (p.1, p.2) (record {
-      applies = λ t i edit same.
-          refused-later s t i (Append n F) edit G new grown (c.in_err-grow.ensures.kept t (all-named s t i (Append n F) edit G names come)) c.in_err-grow.ensures.rules c.in_err-grow.ensures.texts;
-    })
+    rw (p.1, p.2) (λ t i edit same.
+    refused-later s t i (Append n F) edit G new grown (c.in_err-grow.ensures.kept t (all-named s t i (Append n F) edit G names come)) c.in_err-grow.ensures.rules c.in_err-grow.ensures.texts)
 
-pub returns : goal.returns
-returns g c =
+pub returns-clause-applies : goal.returns-clause-applies
+returns-clause-applies g c =
     let s = c.args.store.now in
     let n = c.args.number in
     let F = c.args.fragment.now in
@@ -91,12 +91,33 @@ returns g c =
     let grown = subst (λ (ns : List Pair). Interns s.names (pairs_of_trees (trees F)) ns) (sym c.grow.ensures.names) come in
     let x = subst (λ (ts : List Tree). IsFragmentGrowth names ts c.in_ok-count.count c.args.site c.in_ok-growth.growth) e c.in_ok-growth.ensures.growth in
     let size : c.in_ok-count.count ≡ node_count_all (trees F) = omega (arith, c.in_ok-count.ensures, ap list_count e, c.if-count-total.false) in
-    record {
-      applies = λ t i edit same.
-          let total = total-is s t i G in
-          let few : node_count t + c.in_ok-count.count < 2 ^ 63 = omega (arith, c.if-count-total.false, c.total.ensures.kept, total) in
-          let site = c.requires.site t (coded s t (unswept s t i)) in
-          let store = c.in_ok-grow.ensures.grown t (placed t (Append n F)) (all-named s t i (Append n F) edit G names come) (apart-grows t n F edit names c.in_ok-count.count size c.args.site site c.in_ok-growth.growth x few) in
-          edited-named s t i (Append n F) edit G new grown (subst (IsStoreFor new) (sym same) store)
-          (omega (arith, c.in_ok-grow.ensures.size, real-fragment names F c.in_ok-count.count c.args.site c.in_ok-growth.growth x));
-    }
+    λ t i edit same.
+    let total = total-is s t i G in
+    let few : node_count t + c.in_ok-count.count < 2 ^ 63 = omega (arith, c.if-count-total.false, c.total.ensures.kept, total) in
+    let site = c.requires.site t (coded s t (unswept s t i)) in
+    let store = c.in_ok-grow.ensures.grown t (placed t (Append n F)) (all-named s t i (Append n F) edit G names come) (apart-grows t n F edit names c.in_ok-count.count size c.args.site site c.in_ok-growth.growth x few) in
+    edited-named s t i (Append n F) edit G new grown (subst (IsStoreFor new) (sym same) store)
+    (omega (arith, c.in_ok-grow.ensures.size, real-fragment names F c.in_ok-count.count c.args.site c.in_ok-growth.growth x))
+
+pub returns-in_err-count-clause-applies : goal.returns-in_err-count-clause-applies
+returns-in_err-count-clause-applies g c =
+    let p = err_from_is_err_and c.from_residual.result c.from_residual.ensures.1 in
+    rw (p.1, p.2) (λ t i edit same. refused-there t (Append c.args.number c.args.fragment.now) Memory c.args.store.now tt i)
+
+pub returns-in_err-count-clause-marks : goal.returns-in_err-count-clause-marks
+returns-in_err-count-clause-marks g c =
+    let G = c.args.store.now.grammar in
+    let ls = c.args.spot.now.levels.items in
+    keeps-same ls G.rules G.rules (place-still G c.limit-limit.ensures.keyed c.args.site.place ls c.requires.spot) refl
+
+pub returns-then-count-total-clause-marks : goal.returns-then-count-total-clause-marks
+returns-then-count-total-clause-marks g c =
+    let G = c.args.store.now.grammar in
+    let ls = c.args.spot.now.levels.items in
+    keeps-same ls G.rules G.rules (place-still G c.limit-limit.ensures.keyed c.args.site.place ls c.requires.spot) refl
+
+pub returns-in_err-growth-clause-marks : goal.returns-in_err-growth-clause-marks
+returns-in_err-growth-clause-marks g c =
+    let G = c.args.store.now.grammar in
+    let ls = c.args.spot.now.levels.items in
+    keeps-same ls G.rules G.rules (place-still G c.limit-limit.ensures.keyed c.args.site.place ls c.requires.spot) refl

@@ -41,12 +41,12 @@ overflow_add-last g c =
     let r = c.requires.store in
     omega (arith, last-low r.0 n c.args.fragment.now r.2 (c.args.extent.nodes - 1) (told s r.0 r.1 n c.args.extent c.requires.extent), r.1.small)
 
-pub spot_there-requires : goal.spot_there-requires
-spot_there-requires g c =
+pub spot_there-requires-clause-store : goal.spot_there-requires-clause-store
+spot_there-requires-clause-store g c =
     let s = c.args.store.now in
     let n = c.args.number in
     let r = c.requires.store in
-    record { store = (r.0, r.1, last-low r.0 n c.args.fragment.now r.2 (c.args.extent.nodes - 1) (told s r.0 r.1 n c.args.extent c.requires.extent)) }
+    (r.0, r.1, last-low r.0 n c.args.fragment.now r.2 (c.args.extent.nodes - 1) (told s r.0 r.1 n c.args.extent c.requires.extent))
 
 pub returns-then-not-is_text-clause-apart : goal.returns-then-not-is_text-clause-apart
 returns-then-not-is_text-clause-apart g c = λ t i edit.

@@ -1,11 +1,16 @@
 use Rattle.std.proofs.Common.{◌+◌, length, ap, arith}
 use Rattle.plain_tree.specs.declared.edit.Edit.TheVariants.{Attr}
 use Rattle.plain_tree.specs.EditLaws.{IsEditOf}
-use Rattle.tree_updates.proofs.AttributePlaces.{before-low}
+use Rattle.tree_updates.proofs.AttributePlaces.{before-low, place-fits}
 use Rattle.tree_updates.proofs.GrownStores.{texts-few}
 use Rattle.tree_updates.proofs.NodeExtents.{spot-low}
 use Rattle.tree_updates.proofs.OldAttributes.{attribute-applies, old-rank, value-allowed}
 use Rattle.tree_updates.proofs.ValuedStores.{rank-within}
+use Rattle.std.proofs.lemmas.Result.{err_from_is_err_and}
+use Rattle.tree_updates.specs.declared.store.EditError.TheVariants.{Memory}
+use Rattle.tree_updates.proofs.StoreLemmas.{refused-there}
+use Rattle.tree_updates.proofs.Fronts.{cut-stay}
+use Rattle.tree_updates.proofs.IsolatedPlaces.{places-coded}
 use Rattle.tree_updates.proofs.attribute_setting.set_attribute.Goals as goal
 
 pub find_attribute-requires : goal.find_attribute-requires
@@ -57,19 +62,17 @@ put_value-requires-clause-store g c =
       old-rank s r.0 r.1 n x w edit c.in_ok-place.place place c.if-place.true c.text_rank.result (c.text_rank.ensures s.names s.grammar.rules n r.0 c.in_ok-spot.ensures.spot r.1.stand.code),
     )
 
-pub returns-then-place : goal.returns-then-place
-returns-then-place g c = record {
-  applies = λ t i.
-      let s = c.args.store.now in
-      let n = c.args.number in
-      let x = c.args.name.now in
-      let w = c.args.value.now in
-      let edit : IsEditOf t (Attr n x w) = record { document_is = i.stand.document; allowed = c.in_ok-spot.ensures.answer t x w i; parts = (c.requires.name, c.requires.chars) } in
-      let place = c.in_ok-place.ensures t i in
-      let rank = old-rank s t i n x w edit c.in_ok-place.place place c.if-place.true c.text_rank.result (c.text_rank.ensures s.names s.grammar.rules n t c.in_ok-spot.ensures.spot i.stand.code) in
-      attribute-applies s t i n x w edit c.in_ok-place.place place c.if-place.true c.put_value.result c.put_value.new.store
-      (c.put_value.ensures.applies t i (value-allowed s t i n x w edit c.in_ok-place.place place c.if-place.true) rank);
-}
+pub returns-then-place-clause-applies : goal.returns-then-place-clause-applies
+returns-then-place-clause-applies g c = λ t i.
+    let s = c.args.store.now in
+    let n = c.args.number in
+    let x = c.args.name.now in
+    let w = c.args.value.now in
+    let edit : IsEditOf t (Attr n x w) = record { document_is = i.stand.document; allowed = c.in_ok-spot.ensures.answer t x w i; parts = (c.requires.name, c.requires.chars) } in
+    let place = c.in_ok-place.ensures t i in
+    let rank = old-rank s t i n x w edit c.in_ok-place.place place c.if-place.true c.text_rank.result (c.text_rank.ensures s.names s.grammar.rules n t c.in_ok-spot.ensures.spot i.stand.code) in
+    attribute-applies s t i n x w edit c.in_ok-place.place place c.if-place.true c.put_value.result c.put_value.new.store
+    (c.put_value.ensures.applies t i (value-allowed s t i n x w edit c.in_ok-place.place place c.if-place.true) rank)
 
 pub attribute_site-site-requires-clause-store : goal.attribute_site-site-requires-clause-store
 attribute_site-site-requires-clause-store g c =
@@ -79,19 +82,47 @@ attribute_site-site-requires-clause-store g c =
     let edit : IsEditOf r.0 (Attr c.args.number x w) = record { document_is = r.1.stand.document; allowed = c.in_ok-spot.ensures.answer r.0 x w r.1; parts = (c.requires.name, c.requires.chars) } in
     (r.0, w, r.1, edit, c.in_ok-place.ensures r.0 r.1)
 
-pub add_attribute-requires : goal.add_attribute-requires
-add_attribute-requires g c =
+pub add_attribute-requires-clause-store : goal.add_attribute-requires-clause-store
+add_attribute-requires-clause-store g c =
     let r = c.requires.store in
     let x = c.args.name.now in
     let w = c.args.value.now in
     let edit : IsEditOf r.0 (Attr c.args.number x w) = record { document_is = r.1.stand.document; allowed = c.in_ok-spot.ensures.answer r.0 x w r.1; parts = (c.requires.name, c.requires.chars) } in
-    record { store = (r.0, c.args.number, r.1, edit, c.attribute_site-site.ensures r.0 w r.1 edit (c.in_ok-place.ensures r.0 r.1)) }
+    (r.0, c.args.number, r.1, edit, c.attribute_site-site.ensures r.0 w r.1 edit (c.in_ok-place.ensures r.0 r.1))
 
-pub returns : goal.returns
-returns g c = record {
-  applies = λ t i.
-      let x = c.args.name.now in
-      let w = c.args.value.now in
-      let edit : IsEditOf t (Attr c.args.number x w) = record { document_is = i.stand.document; allowed = c.in_ok-spot.ensures.answer t x w i; parts = (c.requires.name, c.requires.chars) } in
-      c.add_attribute.ensures.applies t c.args.number i edit (c.attribute_site-site.ensures t w i edit (c.in_ok-place.ensures t i));
-}
+pub returns-clause-applies : goal.returns-clause-applies
+returns-clause-applies g c = λ t i.
+    let x = c.args.name.now in
+    let w = c.args.value.now in
+    let edit : IsEditOf t (Attr c.args.number x w) = record { document_is = i.stand.document; allowed = c.in_ok-spot.ensures.answer t x w i; parts = (c.requires.name, c.requires.chars) } in
+    c.add_attribute.ensures.applies t c.args.number i edit (c.attribute_site-site.ensures t w i edit (c.in_ok-place.ensures t i))
+
+pub returns-in_err-place-clause-applies : goal.returns-in_err-place-clause-applies
+returns-in_err-place-clause-applies g c =
+    let p = err_from_is_err_and c.from_residual-in_err-place.result c.from_residual-in_err-place.ensures.1 in
+    rw (p.1, p.2) (λ t i. refused-there t (Attr c.args.number c.args.name.now c.args.value.now) Memory c.args.store.now tt i)
+
+pub find_place-requires-clause-counts : goal.find_place-requires-clause-counts
+find_place-requires-clause-counts g c = c.requires.store.1.counts
+
+pub find_place-requires-clause-low : goal.find_place-requires-clause-low
+find_place-requires-clause-low g c =
+    let s = c.args.store.now in
+    let r = c.requires.store in
+    let x = c.args.name.now in
+    let w = c.args.value.now in
+    let edit : IsEditOf r.0 (Attr c.args.number x w) = record { document_is = r.1.stand.document; allowed = c.in_ok-spot.ensures.answer r.0 x w r.1; parts = (c.requires.name, c.requires.chars) } in
+    let site = c.attribute_site-site.ensures r.0 w r.1 edit (c.in_ok-place.ensures r.0 r.1) in
+    omega (arith, place-fits r.0 c.args.number x w edit s.names c.attribute_site-site.result site, places-coded s.names s.grammar.rules r.0 r.1.stand.code)
+
+pub returns-in_err-end-clause-applies : goal.returns-in_err-end-clause-applies
+returns-in_err-end-clause-applies g c =
+    let p = err_from_is_err_and c.from_residual-in_err-end.result c.from_residual-in_err-end.ensures.1 in
+    rw (p.1, p.2) (λ t i. refused-there t (Attr c.args.number c.args.name.now c.args.value.now) Memory c.args.store.now tt i)
+
+pub returns-clause-marks : goal.returns-clause-marks
+returns-clause-marks g c =
+    let s = c.args.store.now in
+    let end = c.in_ok-end.end in
+    c.add_attribute.ensures.marks s.names c.cut.new.self
+    (cut-stay s.names s.grammar end.levels.items end.first c.first.result c.find_place.new.marks c.cut.new.self c.cut.ensures c.limit-limit.ensures.keyed c.find_place.ensures.marks c.first.ensures c.in_ok-end.ensures.first)

@@ -24,18 +24,14 @@ copy_other-requires-clause-store g c =
     let kind = c.kind.ensures s.grammar.rules c.args.number r.0 c.in_ok-spot.ensures.spot r.1.stand.code in
     (r.0, r.1, c.in_ok-spot.ensures.answer r.0 r.1, no-text c.kind.result _ (sym c.is_text.ensures ∙ c.if-is_text.false) kind)
 
-pub returns-then-is_text : goal.returns-then-is_text
-returns-then-is_text g c = record {
-  applies = λ t i.
-      let s = c.args.store.now in
-      let kind = c.kind.ensures s.grammar.rules c.args.number t c.in_ok-spot.ensures.spot i.stand.code in
-      c.copy_text.ensures.applies t i (c.in_ok-spot.ensures.answer t i) (sym kind ∙ text-told c.kind.result (sym c.is_text.ensures ∙ c.if-is_text.true));
-}
+pub returns-then-is_text-clause-applies : goal.returns-then-is_text-clause-applies
+returns-then-is_text-clause-applies g c = λ t i.
+    let s = c.args.store.now in
+    let kind = c.kind.ensures s.grammar.rules c.args.number t c.in_ok-spot.ensures.spot i.stand.code in
+    c.copy_text.ensures.applies t i (c.in_ok-spot.ensures.answer t i) (sym kind ∙ text-told c.kind.result (sym c.is_text.ensures ∙ c.if-is_text.true))
 
-pub returns : goal.returns
-returns g c = record {
-  applies = λ t i.
-      let s = c.args.store.now in
-      let kind = c.kind.ensures s.grammar.rules c.args.number t c.in_ok-spot.ensures.spot i.stand.code in
-      c.copy_other.ensures.applies t i (c.in_ok-spot.ensures.answer t i) (no-text c.kind.result _ (sym c.is_text.ensures ∙ c.if-is_text.false) kind);
-}
+pub returns-clause-applies : goal.returns-clause-applies
+returns-clause-applies g c = λ t i.
+    let s = c.args.store.now in
+    let kind = c.kind.ensures s.grammar.rules c.args.number t c.in_ok-spot.ensures.spot i.stand.code in
+    c.copy_other.ensures.applies t i (c.in_ok-spot.ensures.answer t i) (no-text c.kind.result _ (sym c.is_text.ensures ∙ c.if-is_text.false) kind)

@@ -1,10 +1,11 @@
-use Rattle.std.proofs.Common.{[], ◌∷◌, length, ap, arith}
+use Rattle.std.proofs.Common.{[], ◌∷◌, length, ap, arith, sym, subst}
 use Rattle.slt_grammar.specs.Bodies.{real_nodes}
 use Rattle.slt_grammar.specs.Grammars.{size}
 use Rattle.slt_grammar.specs.Keyed.{Keyed, rules_of}
 use Rattle.tree_updates.proofs.CopiedCodes.{alone-code}
 use Rattle.tree_updates.proofs.NodeExtents.{extent-low}
 use Rattle.tree_updates.proofs.UncountedCopies.{alone-uncounted, twin-code}
+use Rattle.tree_updates.specs.Fronts.{IsSameBeforeFirst}
 use Rattle.tree_updates.proofs.copying.put_alone.Goals as goal
 
 pub wrap_node-requires-clause-body : goal.wrap_node-requires-clause-body
@@ -45,3 +46,7 @@ returns-clause-store g c = λ t u M.
 
 pub returns-clause-size : goal.returns-clause-size
 returns-clause-size g c = omega (arith, c.wrap_node.ensures.size, ap real_nodes c.requires.body, ap (λ (k : Keyed). size (rules_of k.rules)) c.count_copy.ensures.grammar)
+
+pub returns-clause-front : goal.returns-clause-front
+returns-clause-front g c =
+    subst (λ (k : Keyed). IsSameBeforeFirst c.args.spot.now.levels.items c.args.store.now.grammar.rules k.rules) (sym c.count_copy.ensures.grammar) c.wrap_node.ensures.front

@@ -5,6 +5,7 @@ use Rattle.slt_grammar.specs.RuleValues.{HasRuleMore}
 use Rattle.segment_counts.specs.Changes.{IsWeighed}
 use Rattle.tree_updates.proofs.NodeExtents.{extent-fits, extent-low}
 use Rattle.tree_updates.proofs.UncountedCopies.{whole-uncounted}
+use Rattle.tree_updates.specs.Fronts.{IsSameBeforeFirst}
 use Rattle.tree_updates.proofs.copying.put_whole.Goals as goal
 
 pub wrap_shared-requires-clause-body : goal.wrap_shared-requires-clause-body
@@ -48,3 +49,7 @@ returns-clause-store g c = λ t u M.
 
 pub returns-clause-size : goal.returns-clause-size
 returns-clause-size g c = omega (arith, c.wrap_shared.ensures.size, ap (λ (k : Keyed). size (rules_of k.rules)) c.count_copy.ensures.grammar)
+
+pub returns-clause-front : goal.returns-clause-front
+returns-clause-front g c =
+    subst (λ (k : Keyed). IsSameBeforeFirst c.args.spot.now.levels.items c.args.store.now.grammar.rules k.rules) (sym c.count_copy.ensures.grammar) c.wrap_shared.ensures.front

@@ -34,4 +34,4 @@ returns-clause-store g c = λ t i.
     let k = c.reserve_at.ensures.store t i in
     let I = index-again a.grammar c.reserve.new.self a.index c.reserve-2.new.self k.index c.reserve.ensures.rules c.reserve-2.ensures.rules c.reserve-2.ensures.cells in
     let counts = roomy-counts a.names (rules_of a.grammar.rules) a.counts c.reserve-3.new.self c.reserve-3.ensures.rules c.reserve-3.ensures.grown c.reserve-3.ensures.kept k.counts in
-    roomy-store a (record { grammar = c.reserve.new.self; names = a.names; texts = a.texts; counts = c.reserve-3.new.self; index = c.reserve-2.new.self }) t k c.reserve.ensures.rules refl refl counts I
+    roomy-store a (record { grammar = c.reserve.new.self; names = a.names; texts = a.texts; counts = c.reserve-3.new.self; index = c.reserve-2.new.self; marks = a.marks }) t k c.reserve.ensures.rules refl refl counts I

@@ -4,6 +4,7 @@ use Rattle.slt_grammar.specs.Holding.{IsLawful}
 use Rattle.slt_grammar.specs.Keyed.{KeyedRule, rules_of}
 use Rattle.slt_grammar.specs.Wrapping.{IsInStart}
 use Rattle.tree_updates.proofs.SharedBelow.{child-in-start, child-there, ends, shared-start, shares, stays-there, wraps}
+use Rattle.tree_updates.proofs.Fronts.{front-shared}
 use Rattle.tree_updates.proofs.copying_code.wrap_shared.Goals as goal
 
 pub following-requires : goal.following-requires
@@ -117,3 +118,24 @@ returns-clause-value g c = λ names n s spot twin.
 
 pub returns-clause-size : goal.returns-clause-size
 returns-clause-size g c = let b = c.requires.body in omega (arith, c.wrap_linked.ensures.size, ap real_nodes b.1, c.share_linked-call.ensures.size, c.isolate_node-at.ensures.most)
+
+pub returns-clause-front : goal.returns-clause-front
+returns-clause-front g c =
+    let r = c.requires.spot in
+    let E = c.isolate_node-at.ensures in
+    let G : List KeyedRule = c.args.grammar.now.rules in
+    let h = c.isolate_node-at.new.grammar in
+    let H : List KeyedRule = h.rules in
+    let S : List KeyedRule = c.share_linked-call.new.grammar.rules in
+    let K = c.limit-apart.ensures.keyed in
+    let K' = c.limit-shared.ensures.keyed in
+    let L : IsLawful H = record { grammar = K.grammar; arities = K.arities } in
+    let L' : IsLawful S = record { grammar = K'.grammar; arities = K'.arities } in
+    let at = c.isolate_node-at.result in
+    let I = E.node r.0 r.1 r.2 in
+    let next = c.following.ensures (length H - 1) I.place I.there ∙ c.unwrap-child.ensures in
+    let new = c.share_linked-call.ensures.rules (record { rule = length H - 1; place = I.place + 1; there = next }) in
+    let call = c.share_linked-call.result in
+    let more = c.share_linked-call.ensures.values in
+    let there : IsInStart S at = record { here = record { rule = length S - 1; place = I.place; there = stays-there H L r.1 at I S L' call new more }; start = shared-start H L r.1 at I S L' call new more } in
+    front-shared c.args.spot.now.levels.items G h K at E.others.many E.front I.place I.there c.unwrap-child.result call next S c.wrap_linked.new.grammar.rules more new c.wrap_linked.ensures.values (c.wrap_linked.ensures.front there)

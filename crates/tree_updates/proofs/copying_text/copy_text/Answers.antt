@@ -56,10 +56,10 @@ unwrap-text-requires g c =
     let n = c.args.number in
     some-text s r.0 r.1 n c.args.spot.now c.requires.spot r.3 c.text_rank.result (c.text_rank.ensures s.names s.grammar.rules n r.0 c.requires.spot r.1.stand.code) c.get.result c.get.ensures
 
-pub returns-in_err-fragment : goal.returns-in_err-fragment
-returns-in_err-fragment g c =
+pub returns-in_err-fragment-clause-applies : goal.returns-in_err-fragment-clause-applies
+returns-in_err-fragment-clause-applies g c =
     let p = err_from_is_err_and c.from_residual.result c.from_residual.ensures.1 in
-    rw (p.1, p.2) (record { applies = λ t i allowed told. refused-there t (Copy c.args.number) Memory c.args.store.now tt i })
+    rw (p.1, p.2) (λ t i allowed told. refused-there t (Copy c.args.number) Memory c.args.store.now tt i)
 
 pub insert_beside-requires-clause-store : goal.insert_beside-requires-clause-store
 insert_beside-requires-clause-store g c =
@@ -82,18 +82,16 @@ insert_beside-requires-clause-fragment g c =
     let low = spot-low s.names s.grammar.rules r.0 n c.args.spot.now r.1.stand.code c.requires.spot in
     subst (λ (F : List Tree). IsFragment (trees F)) (sym c.in_ok-fragment.ensures) (text-fragment r.0 r.1.stand.document n c.unwrap-text.result.now us is low)
 
-pub returns : goal.returns
-returns g c = record {
-  applies = λ t i allowed told.
-      let s = c.args.store.now in
-      let n = c.args.number in
-      let z = c.unwrap-text.result.now in
-      let ranked = c.text_rank.ensures s.names s.grammar.rules n t c.requires.spot i.stand.code in
-      let us = behind s t i n c.args.spot.now c.requires.spot told c.text_rank.result ranked in
-      let is = text-is s t i n c.args.spot.now c.requires.spot told c.text_rank.result ranked c.get.result c.get.ensures c.unwrap-text.result c.unwrap-text.ensures in
-      let low = spot-low s.names s.grammar.rules t n c.args.spot.now i.stand.code c.requires.spot in
-      let named = text-named s.names s.grammar.rules t i.stand.document n low c.args.spot.now i.stand.code c.requires.spot z us is in
-      let may = subst (λ (F : List Tree). IsAllowed t (Insert n F)) (sym c.in_ok-fragment.ensures) (text-beside t i.stand.document n z us is allowed) in
-      copied-applies s c.insert_beside.new.store t i n low z us is allowed named c.insert_beside.result
-      (subst (λ (F : List Tree). Applies t (Insert n F) s c.insert_beside.result c.insert_beside.new.store) c.in_ok-fragment.ensures (c.insert_beside.ensures.applies t i may));
-}
+pub returns-clause-applies : goal.returns-clause-applies
+returns-clause-applies g c = λ t i allowed told.
+    let s = c.args.store.now in
+    let n = c.args.number in
+    let z = c.unwrap-text.result.now in
+    let ranked = c.text_rank.ensures s.names s.grammar.rules n t c.requires.spot i.stand.code in
+    let us = behind s t i n c.args.spot.now c.requires.spot told c.text_rank.result ranked in
+    let is = text-is s t i n c.args.spot.now c.requires.spot told c.text_rank.result ranked c.get.result c.get.ensures c.unwrap-text.result c.unwrap-text.ensures in
+    let low = spot-low s.names s.grammar.rules t n c.args.spot.now i.stand.code c.requires.spot in
+    let named = text-named s.names s.grammar.rules t i.stand.document n low c.args.spot.now i.stand.code c.requires.spot z us is in
+    let may = subst (λ (F : List Tree). IsAllowed t (Insert n F)) (sym c.in_ok-fragment.ensures) (text-beside t i.stand.document n z us is allowed) in
+    copied-applies s c.insert_beside.new.store t i n low z us is allowed named c.insert_beside.result
+    (subst (λ (F : List Tree). Applies t (Insert n F) s c.insert_beside.result c.insert_beside.new.store) c.in_ok-fragment.ensures (c.insert_beside.ensures.applies t i may))

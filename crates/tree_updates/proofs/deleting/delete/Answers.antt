@@ -10,6 +10,7 @@ use Rattle.tree_updates.specs.declared.node_extent.Span.{Span}
 use Rattle.tree_updates.specs.declared.store.Store.{Store}
 use Rattle.tree_updates.proofs.LeavingDocuments.{coded, unswept}
 use Rattle.tree_updates.proofs.SpareNodes.{number-some}
+use Rattle.tree_updates.proofs.Fronts.{cut-stay}
 use Rattle.tree_updates.proofs.deleting.delete.Goals as goal
 
 -- what was told of the texts beside the node, if there are any
@@ -45,18 +46,23 @@ delete_between-requires g c =
     let x = c.in_ok-span.ensures.span r.0 (coded a r.0 (unswept a r.0 r.1)) in
     record { store = (r.0, r.1, c.in_ok-spot.ensures.answer r.0 r.1, x.extent, beside-there c.args.store.now c.args.number c.in_ok-span.span c.in_ok-found.found c.in-Some.beside c.in-Some.is c.in_ok-found.ensures.meets r.0 r.1 x) }
 
-pub returns-in-None : goal.returns-in-None
-returns-in-None g c = record {
-  applies = λ t i.
-      let a = c.args.store.now in
-      let x = c.in_ok-span.ensures.span t (coded a t (unswept a t i)) in
-      c.delete_apart.ensures.applies t i (c.in_ok-spot.ensures.answer t i) x.extent (none-beside c.args.store.now c.args.number c.in_ok-span.span c.in_ok-found.found c.in-None.is c.in_ok-found.ensures.apart t i x);
-}
+pub returns-in-None-clause-applies : goal.returns-in-None-clause-applies
+returns-in-None-clause-applies g c = λ t i.
+    let a = c.args.store.now in
+    let x = c.in_ok-span.ensures.span t (coded a t (unswept a t i)) in
+    c.delete_apart.ensures.applies t i (c.in_ok-spot.ensures.answer t i) x.extent (none-beside c.args.store.now c.args.number c.in_ok-span.span c.in_ok-found.found c.in-None.is c.in_ok-found.ensures.apart t i x)
 
-pub returns : goal.returns
-returns g c = record {
-  applies = λ t i.
-      let a = c.args.store.now in
-      let x = c.in_ok-span.ensures.span t (coded a t (unswept a t i)) in
-      c.delete_between.ensures.applies t i (c.in_ok-spot.ensures.answer t i) x.extent (beside-there c.args.store.now c.args.number c.in_ok-span.span c.in_ok-found.found c.in-Some.beside c.in-Some.is c.in_ok-found.ensures.meets t i x);
-}
+pub returns-clause-applies : goal.returns-clause-applies
+returns-clause-applies g c = λ t i.
+    let a = c.args.store.now in
+    let x = c.in_ok-span.ensures.span t (coded a t (unswept a t i)) in
+    c.delete_between.ensures.applies t i (c.in_ok-spot.ensures.answer t i) x.extent (beside-there c.args.store.now c.args.number c.in_ok-span.span c.in_ok-found.found c.in-Some.beside c.in-Some.is c.in_ok-found.ensures.meets t i x)
+
+pub returns-in-None-clause-marks : goal.returns-in-None-clause-marks
+returns-in-None-clause-marks g c =
+    let s = c.args.store.now in
+    c.delete_apart.ensures.marks s.names c.cut.new.self
+    (cut-stay s.names s.grammar c.in_ok-spot.spot.levels.items c.in_ok-spot.spot.first c.first.result c.meeting_texts.new.marks c.cut.new.self c.cut.ensures c.limit-limit.ensures.keyed c.meeting_texts.ensures.marks c.first.ensures c.in_ok-spot.ensures.first)
+
+pub returns-clause-marks : goal.returns-clause-marks
+returns-clause-marks g c = c.clear.ensures c.args.store.now.names c.delete_between.new.store.grammar.rules

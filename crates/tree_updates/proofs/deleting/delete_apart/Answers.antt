@@ -5,6 +5,8 @@ use Rattle.slt_grammar.specs.Grammars.{size}
 use Rattle.slt_grammar.specs.Keyed.{KeyedRule, rules_of}
 use Rattle.tree_updates.specs.Stores.{IsStoreFor}
 use Rattle.tree_updates.proofs.LeavingDocuments.{doubled, leaves, unswept}
+use Rattle.tree_updates.specs.Fronts.{KeepsMarks}
+use Rattle.tree_updates.proofs.Fronts.{keeps-still}
 use Rattle.tree_updates.proofs.deleting.delete_apart.Goals as goal
 
 pub delete_plain-requires-clause-room : goal.delete_plain-requires-clause-room
@@ -18,15 +20,21 @@ delete_plain-requires-clause-store g c =
     let r = c.requires.store in
     (r.0, unswept c.reserve_at.new.store r.0 (c.reserve_at.ensures.store r.0 r.1), r.3, leaves r.0 r.1.stand.document (Delete c.args.number) r.2 tt)
 
-pub returns : goal.returns
-returns g c = record {
-  applies = λ t s allowed x same.
-      let kept = unswept c.reserve_at.new.store t (c.reserve_at.ensures.store t s) in
-      record {
-        allowed = allowed;
-        store = subst (IsStoreFor c.delete_plain.new.store) (sym same) (c.delete_plain.ensures.store t kept x (leaves t s.stand.document (Delete c.args.number) allowed tt));
-        names = c.delete_plain.ensures.names ∙ c.reserve_at.ensures.names;
-        size = doubled (size (rules_of c.args.store.now.grammar.rules)) (size (rules_of c.delete_plain.new.store.grammar.rules)) (merged t (Delete c.args.number))
-            (omega (arith, c.delete_plain.ensures.size, ap (λ (G : List KeyedRule). size (rules_of G)) c.reserve_at.ensures.rules));
-      };
-}
+pub returns-clause-applies : goal.returns-clause-applies
+returns-clause-applies g c = λ t s allowed x same.
+    let kept = unswept c.reserve_at.new.store t (c.reserve_at.ensures.store t s) in
+    record {
+      allowed = allowed;
+      store = subst (IsStoreFor c.delete_plain.new.store) (sym same) (c.delete_plain.ensures.store t kept x (leaves t s.stand.document (Delete c.args.number) allowed tt));
+      names = c.delete_plain.ensures.names ∙ c.reserve_at.ensures.names;
+      size = doubled (size (rules_of c.args.store.now.grammar.rules)) (size (rules_of c.delete_plain.new.store.grammar.rules)) (merged t (Delete c.args.number))
+          (omega (arith, c.delete_plain.ensures.size, ap (λ (G : List KeyedRule). size (rules_of G)) c.reserve_at.ensures.rules));
+    }
+
+pub returns-in_err-reserve_at-clause-marks : goal.returns-in_err-reserve_at-clause-marks
+returns-in_err-reserve_at-clause-marks g c =
+    keeps-still c.args.store.now.names c.args.store.now.grammar.rules c.args.number c.args.spot.now c.requires.spot c.reserve_at.new.store.grammar.rules c.reserve_at.ensures.rules
+
+pub returns-clause-marks : goal.returns-clause-marks
+returns-clause-marks g c =
+    subst (λ (R : List KeyedRule). KeepsMarks c.args.spot.now.levels.items R c.delete_plain.new.store.grammar.rules) c.reserve_at.ensures.rules c.delete_plain.ensures.marks

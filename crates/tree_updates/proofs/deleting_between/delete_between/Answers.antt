@@ -37,9 +37,9 @@ module _ (s : Store) (t : Tree) (i : IsStoreFor s t) (n m : ℕ) (b : StandsBetw
   right rank told x is = extent-is x is (steps.right_extent rank told)
 
   joined : (rank : ℕ) → Some rank ≡ text_rank_at t (n - 1) → (value : List ℕ) → value ≡ b.before ++ b.after → (T : RoomyTexts) → T.texts ≡ slice_set s.texts.texts rank value
-      → IsUnsweptFor (record { grammar = s.grammar; names = s.names; texts = T; counts = s.counts; index = s.index }) (valued_left t (n - 1) (b.before ++ b.after))
+      → IsUnsweptFor (record { grammar = s.grammar; names = s.names; texts = T; counts = s.counts; index = s.index; marks = s.marks }) (valued_left t (n - 1) (b.before ++ b.after))
   joined rank ranked value is T set =
-      joined-store s t i (n - 1) n m (b.before ++ b.after) steps rank ranked (record { grammar = s.grammar; names = s.names; texts = T; counts = s.counts; index = s.index }) refl refl refl refl (set ∙ ap (slice_set s.texts.texts rank) is)
+      joined-store s t i (n - 1) n m (b.before ++ b.after) steps rank ranked (record { grammar = s.grammar; names = s.names; texts = T; counts = s.counts; index = s.index; marks = s.marks }) refl refl refl refl (set ∙ ap (slice_set s.texts.texts rank) is)
 
 pub join_texts-requires : goal.join_texts-requires
 join_texts-requires g c = let r = c.requires.store in record { store = (r.0, c.args.number, r.1, r.4) }

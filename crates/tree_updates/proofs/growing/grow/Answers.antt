@@ -3,6 +3,9 @@ use Rattle.plain_tree.specs.NodePairs.{Pair}
 use Rattle.tree_updates.specs.Growths.{GrowsInto}
 use Rattle.tree_updates.proofs.GrownStores.{growth-few}
 use Rattle.tree_updates.proofs.LeavingDocuments.{unswept}
+use Rattle.slt_grammar.specs.Keyed.{KeyedRule}
+use Rattle.tree_updates.specs.CodePlaces.{IsPlaceSpot}
+use Rattle.tree_updates.proofs.Fronts.{keeps-same, keeps-swept, place-still}
 use Rattle.tree_updates.proofs.growing.grow.Goals as goal
 
 pub reserve_growth-requires-clause-few : goal.reserve_growth-requires-clause-few
@@ -20,3 +23,17 @@ returns-clause-grown g c = λ t u i h.
     let s = c.reserve_growth.new.store in
     let x = subst (λ (ns : List Pair). GrowsInto ns t u c.args.growth) (sym c.reserve_growth.ensures.names) h in
     c.sweep.ensures.store u (c.put_in.ensures.store t u (unswept s t (c.reserve_growth.ensures.store t i)) x)
+
+pub put_in-requires-clause-spot : goal.put_in-requires-clause-spot
+put_in-requires-clause-spot g c =
+    subst (λ (R : List KeyedRule). IsPlaceSpot R c.args.growth.site.place c.args.spot.now) (sym c.reserve_growth.ensures.rules) c.requires.spot
+
+pub returns-in_err-reserve_growth-clause-marks : goal.returns-in_err-reserve_growth-clause-marks
+returns-in_err-reserve_growth-clause-marks g c =
+    let G = c.args.store.now.grammar in
+    let ls = c.args.spot.now.levels.items in
+    keeps-same ls G.rules c.reserve_growth.new.store.grammar.rules (place-still G c.limit-limit.ensures.keyed c.args.growth.site.place ls c.requires.spot) c.reserve_growth.ensures.rules
+
+pub returns-clause-marks : goal.returns-clause-marks
+returns-clause-marks g c =
+    keeps-swept c.args.spot.now.levels.items c.args.store.now.grammar.rules c.reserve_growth.new.store.grammar.rules c.put_in.new.store.grammar.rules c.sweep.new.store.grammar.rules c.reserve_growth.ensures.rules c.put_in.ensures.front c.sweep.ensures.marks

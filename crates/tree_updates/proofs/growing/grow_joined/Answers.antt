@@ -2,10 +2,10 @@ use Rattle.std.proofs.Common.{List, refl, ap, sym, subst, arith, length}
 use Rattle.plain_tree.specs.NodePairs.{Pair}
 use Rattle.tree_updates.specs.Growths.{GrowsInto}
 use Rattle.tree_updates.proofs.GrownStores.{growth-few, text-stays, with-text}
+use Rattle.slt_grammar.specs.Keyed.{KeyedRule}
+use Rattle.tree_updates.specs.CodePlaces.{IsPlaceSpot}
+use Rattle.tree_updates.proofs.Fronts.{keeps-same, keeps-swept, place-still}
 use Rattle.tree_updates.proofs.growing.grow_joined.Goals as goal
-
-pub reserve_growth-requires-clause-store : goal.reserve_growth-requires-clause-store
-reserve_growth-requires-clause-store g c = let r = c.requires.store in (r.0, r.3, omega (arith, r.5.place, r.4.count))
 
 pub reserve_growth-requires-clause-few : goal.reserve_growth-requires-clause-few
 reserve_growth-requires-clause-few g c = let r = c.requires.store in growth-few c.args.store.now.names r.1 r.2 c.args.growth r.5
@@ -20,11 +20,11 @@ put_in-requires-clause-store g c =
     let e = c.reserve_growth.ensures in
     let h = text-stays c.args.store.now s r.0 r.1 c.args.joined e.texts e.names e.rules r.4 in
     let x = subst (λ (ns : List Pair). GrowsInto ns r.1 r.2 c.args.growth) (sym e.names) r.5 in
-    let u = with-text s r.0 r.1 (e.store r.0 r.3) c.args.joined h (record { grammar = s.grammar; names = s.names; texts = c.set.new.self; counts = s.counts; index = s.index }) refl refl refl refl c.set.ensures.texts in
+    let u = with-text s r.0 r.1 (e.store r.0 r.3) c.args.joined h (record { grammar = s.grammar; names = s.names; texts = c.set.new.self; counts = s.counts; index = s.index; marks = s.marks }) refl refl refl refl c.set.ensures.texts in
     (r.1, r.2, u, x)
 
 pub put_in-requires-clause-room : goal.put_in-requires-clause-room
-put_in-requires-clause-room g c = omega (arith, c.in_ok-spot.ensures.room, c.set.ensures.room)
+put_in-requires-clause-room g c = omega (arith, c.in_ok-reserve_growth.ensures.room, c.set.ensures.room)
 
 pub sweep-requires : goal.sweep-requires
 sweep-requires g c =
@@ -33,7 +33,7 @@ sweep-requires g c =
     let e = c.reserve_growth.ensures in
     let h = text-stays c.args.store.now s r.0 r.1 c.args.joined e.texts e.names e.rules r.4 in
     let x = subst (λ (ns : List Pair). GrowsInto ns r.1 r.2 c.args.growth) (sym e.names) r.5 in
-    let u = with-text s r.0 r.1 (e.store r.0 r.3) c.args.joined h (record { grammar = s.grammar; names = s.names; texts = c.set.new.self; counts = s.counts; index = s.index }) refl refl refl refl c.set.ensures.texts in
+    let u = with-text s r.0 r.1 (e.store r.0 r.3) c.args.joined h (record { grammar = s.grammar; names = s.names; texts = c.set.new.self; counts = s.counts; index = s.index; marks = s.marks }) refl refl refl refl c.set.ensures.texts in
     record { store = (r.2, c.put_in.ensures.store r.1 r.2 u x) }
 
 pub returns-clause-grown : goal.returns-clause-grown
@@ -42,5 +42,19 @@ returns-clause-grown g c = λ t one u i k y.
     let e = c.reserve_growth.ensures in
     let h = text-stays c.args.store.now s t one c.args.joined e.texts e.names e.rules k in
     let x = subst (λ (ns : List Pair). GrowsInto ns one u c.args.growth) (sym e.names) y in
-    let v = with-text s t one (e.store t i) c.args.joined h (record { grammar = s.grammar; names = s.names; texts = c.set.new.self; counts = s.counts; index = s.index }) refl refl refl refl c.set.ensures.texts in
+    let v = with-text s t one (e.store t i) c.args.joined h (record { grammar = s.grammar; names = s.names; texts = c.set.new.self; counts = s.counts; index = s.index; marks = s.marks }) refl refl refl refl c.set.ensures.texts in
     c.sweep.ensures.store u (c.put_in.ensures.store one u v x)
+
+pub put_in-requires-clause-spot : goal.put_in-requires-clause-spot
+put_in-requires-clause-spot g c =
+    subst (λ (R : List KeyedRule). IsPlaceSpot R c.args.growth.site.place c.args.spot.now) (sym c.reserve_growth.ensures.rules) c.requires.spot
+
+pub returns-in_err-reserve_growth-clause-marks : goal.returns-in_err-reserve_growth-clause-marks
+returns-in_err-reserve_growth-clause-marks g c =
+    let G = c.args.store.now.grammar in
+    let ls = c.args.spot.now.levels.items in
+    keeps-same ls G.rules c.reserve_growth.new.store.grammar.rules (place-still G c.limit-limit.ensures.keyed c.args.growth.site.place ls c.requires.spot) c.reserve_growth.ensures.rules
+
+pub returns-clause-marks : goal.returns-clause-marks
+returns-clause-marks g c =
+    keeps-swept c.args.spot.now.levels.items c.args.store.now.grammar.rules c.reserve_growth.new.store.grammar.rules c.put_in.new.store.grammar.rules c.sweep.new.store.grammar.rules c.reserve_growth.ensures.rules c.put_in.ensures.front c.sweep.ensures.marks

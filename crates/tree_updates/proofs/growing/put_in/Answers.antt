@@ -7,6 +7,7 @@ use Rattle.segment_counts.specs.Changes.{HasMore}
 use Rattle.path_isolation.specs.Isolations.{room_along}
 use Rattle.tree_updates.specs.CodePlaces.{LeadToPlace}
 use Rattle.tree_updates.proofs.GrownStores.{all-come, grown-more, grown-stands, nodes-come, rank-fits, texts-come}
+use Rattle.tree_updates.specs.Fronts.{IsSameBeforeFirst}
 use Rattle.tree_updates.proofs.growing.put_in.Goals as goal
 
 pub wrap_place-requires-clause-leads : goal.wrap_place-requires-clause-leads
@@ -64,3 +65,6 @@ returns-clause-store g c = λ t u s x.
       counts = c.raise_start.ensures.counts a.names G H s.counts c.wrap_place.ensures.values (subst (λ (k : ℕ). HasMore a.names (value G) (value H) c.args.growth.nodes k) (sym c.len-count.ensures) more);
       index = c.wrap_place.ensures.index;
     }
+
+pub returns-clause-front : goal.returns-clause-front
+returns-clause-front g c = subst (λ (ls : List Level). IsSameBeforeFirst ls c.args.store.now.grammar.rules c.wrap_place.new.grammar.rules) c.way.ensures c.wrap_place.ensures.front

@@ -17,29 +17,30 @@ use Rattle.tree_updates.proofs.Ranks.{rank-told}
 use Rattle.tree_updates.proofs.SpareNodes.{insert-some}
 use Rattle.tree_updates.proofs.StoreLemmas.{refused-there}
 use Rattle.tree_updates.proofs.Texts.{rank_in}
+use Rattle.preorder_address.specs.Marks.{AreMarks}
+use Rattle.tree_updates.specs.Fronts.{KeepsMarks}
+use Rattle.tree_updates.proofs.Fronts.{cut-stay}
 use Rattle.tree_updates.proofs.inserting.insert_beside.Goals as goal
 
 pub find_seams-requires-clause-behind : goal.find_seams-requires-clause-behind
 find_seams-requires-clause-behind g c = let r = c.requires.store in insert-some r.0 c.args.number c.args.fragment.now r.2
 
-pub returns-in_err-seams : goal.returns-in_err-seams
-returns-in_err-seams g c =
+pub returns-in_err-seams-clause-applies : goal.returns-in_err-seams-clause-applies
+returns-in_err-seams-clause-applies g c =
     let p = err_from_is_err_and c.from_residual.result c.from_residual.ensures.1 in
-    rw (p.1, p.2) (record { applies = λ t i allowed. refused-there t (Insert c.args.number c.args.fragment.now) Memory c.args.store.now tt i })
+    rw (p.1, p.2) (λ t i allowed. refused-there t (Insert c.args.number c.args.fragment.now) Memory c.args.store.now tt i)
 
-pub returns-in_err-fits : goal.returns-in_err-fits
-returns-in_err-fits g c =
+pub returns-in_err-fits-clause-applies : goal.returns-in_err-fits-clause-applies
+returns-in_err-fits-clause-applies g c =
     let p = err_from_is_err_and c.from_residual-in_err-fits.result c.from_residual-in_err-fits.ensures.1 in
-    rw (p.1, p.2) (record { applies = λ t i allowed. refused-there t (Insert c.args.number c.args.fragment.now) Memory c.args.store.now tt i })
+    rw (p.1, p.2) (λ t i allowed. refused-there t (Insert c.args.number c.args.fragment.now) Memory c.args.store.now tt i)
 
-pub returns-then-not-branch : goal.returns-then-not-branch
-returns-then-not-branch g c = record {
-  applies = λ t i allowed.
-      let s = c.args.store.now in
-      let n = c.args.number in
-      let low = spot-low s.names s.grammar.rules t n c.args.spot.now i.stand.code c.requires.spot in
-      too-many s t i n c.args.fragment.now allowed c.requires.fragment (rank_in n (more t none)) (sym (rank-told t n low)) c.in_ok-seams.seams (c.in_ok-seams.ensures.seams t i) c.in_ok-fits.field-0 (c.in_ok-fits.ensures t i) c.if-not-branch.true;
-}
+pub returns-then-not-branch-clause-applies : goal.returns-then-not-branch-clause-applies
+returns-then-not-branch-clause-applies g c = λ t i allowed.
+    let s = c.args.store.now in
+    let n = c.args.number in
+    let low = spot-low s.names s.grammar.rules t n c.args.spot.now i.stand.code c.requires.spot in
+    too-many s t i n c.args.fragment.now allowed c.requires.fragment (rank_in n (more t none)) (sym (rank-told t n low)) c.in_ok-seams.seams (c.in_ok-seams.ensures.seams t i) c.in_ok-fits.field-0 (c.in_ok-fits.ensures t i) c.if-not-branch.true
 
 pub put_fragment-requires-clause-comes : goal.put_fragment-requires-clause-comes
 put_fragment-requires-clause-comes g c =
@@ -59,34 +60,48 @@ put_fragment-requires-clause-spot g c =
     let s = c.args.store.now in
     (s.names, subst (λ (k : Keyed). IsSpot s.names k.rules c.args.number c.args.spot.now) (sym c.encode_in.ensures.grammar) c.requires.spot)
 
-pub returns-in_err-put_fragment : goal.returns-in_err-put_fragment
-returns-in_err-put_fragment g c =
+pub returns-in_err-put_fragment-clause-applies : goal.returns-in_err-put_fragment-clause-applies
+returns-in_err-put_fragment-clause-applies g c =
     let s = c.args.store.now in
     let F = trees c.args.fragment.now in
     let p = err_from_is_err_and c.from_residual-in_err-put_fragment.result c.from_residual-in_err-put_fragment.ensures.1 in
-    rw (p.1, p.2) (record {
-      applies = λ t i allowed.
-          refused-coded s t i c.args.number c.args.fragment.now allowed c.requires.fragment c.put_fragment.new.store
-          (subst (λ (ps : List Pair). Interns s.names (pairs_of_trees (trees c.args.fragment.now)) ps) (sym c.put_fragment.ensures.names) c.in_ok-coded.ensures.names)
-          (c.in_err-put_fragment.ensures.kept t (c.encode_in.ensures.store t i)) (ap rules_of (c.in_err-put_fragment.ensures.rules ∙ ap (λ (k : Keyed). k.rules) c.encode_in.ensures.grammar))
-          (c.in_err-put_fragment.ensures.texts ∙ ap (λ (x : RoomyTexts). x.texts) c.encode_in.ensures.texts);
-    })
+    rw (p.1, p.2) (λ t i allowed.
+    refused-coded s t i c.args.number c.args.fragment.now allowed c.requires.fragment c.put_fragment.new.store
+    (subst (λ (ps : List Pair). Interns s.names (pairs_of_trees (trees c.args.fragment.now)) ps) (sym c.put_fragment.ensures.names) c.in_ok-coded.ensures.names)
+    (c.in_err-put_fragment.ensures.kept t (c.encode_in.ensures.store t i)) (ap rules_of (c.in_err-put_fragment.ensures.rules ∙ ap (λ (k : Keyed). k.rules) c.encode_in.ensures.grammar))
+    (c.in_err-put_fragment.ensures.texts ∙ ap (λ (x : RoomyTexts). x.texts) c.encode_in.ensures.texts))
 
-pub returns : goal.returns
-returns g c = record {
-  applies = λ t i allowed.
-      let s = c.args.store.now in
-      let n = c.args.number in
-      let F = c.args.fragment.now in
-      let coded = c.in_ok-coded.coded in
-      let ranked = c.text_rank-rank.ensures s.names s.grammar.rules n t c.requires.spot i.stand.code in
-      let come = may-insert s t i n F allowed c.requires.fragment c.text_rank-rank.result ranked c.in_ok-seams.seams (c.in_ok-seams.ensures.seams t i) c.in_ok-fits.field-0 (c.in_ok-fits.ensures t i) c.if-not-branch.false
-      c.encode_in.new.store coded c.in_ok-coded.ensures.code c.in_ok-coded.ensures.values in
-      record {
-        allowed = allowed;
-        store = c.in_ok-put_fragment.ensures.store t F (c.encode_in.ensures.store t i) come;
-        names = subst (λ (ps : List Pair). Interns s.names (pairs_of_trees (trees F)) ps) (sym c.put_fragment.ensures.names) c.in_ok-coded.ensures.names;
-        size = doubled-more (size (rules_of s.grammar.rules)) (size (rules_of c.put_fragment.new.store.grammar.rules)) (merged t (Insert n F)) (2 * node_count_all (trees F))
-            (omega (arith, c.in_ok-put_fragment.ensures.size, code-real c.encode_in.new.store.names F coded.body c.in_ok-coded.ensures.code, ap (λ (k : Keyed). size (rules_of k.rules)) c.encode_in.ensures.grammar));
-      };
-}
+pub returns-clause-applies : goal.returns-clause-applies
+returns-clause-applies g c = λ t i allowed.
+    let s = c.args.store.now in
+    let n = c.args.number in
+    let F = c.args.fragment.now in
+    let coded = c.in_ok-coded.coded in
+    let ranked = c.text_rank-rank.ensures s.names s.grammar.rules n t c.requires.spot i.stand.code in
+    let come = may-insert s t i n F allowed c.requires.fragment c.text_rank-rank.result ranked c.in_ok-seams.seams (c.in_ok-seams.ensures.seams t i) c.in_ok-fits.field-0 (c.in_ok-fits.ensures t i) c.if-not-branch.false
+    c.encode_in.new.store coded c.in_ok-coded.ensures.code c.in_ok-coded.ensures.values in
+    record {
+      allowed = allowed;
+      store = c.in_ok-put_fragment.ensures.store t F (c.encode_in.ensures.store t i) come;
+      names = subst (λ (ps : List Pair). Interns s.names (pairs_of_trees (trees F)) ps) (sym c.put_fragment.ensures.names) c.in_ok-coded.ensures.names;
+      size = doubled-more (size (rules_of s.grammar.rules)) (size (rules_of c.put_fragment.new.store.grammar.rules)) (merged t (Insert n F)) (2 * node_count_all (trees F))
+          (omega (arith, c.in_ok-put_fragment.ensures.size, code-real c.encode_in.new.store.names F coded.body c.in_ok-coded.ensures.code, ap (λ (k : Keyed). size (rules_of k.rules)) c.encode_in.ensures.grammar));
+    }
+
+pub returns-in_err-coded-clause-marks : goal.returns-in_err-coded-clause-marks
+returns-in_err-coded-clause-marks g c =
+    subst (λ (k : Keyed). AreMarks c.args.store.now.names k.rules c.find_seams.new.marks) (sym c.encode_in.ensures.grammar) c.find_seams.ensures.marks
+
+pub returns-in_err-put_fragment-clause-marks : goal.returns-in_err-put_fragment-clause-marks
+returns-in_err-put_fragment-clause-marks g c =
+    let s = c.args.store.now in
+    let spot = c.args.spot.now in
+    subst (λ (k : Keyed). KeepsMarks spot.levels.items k.rules c.put_fragment.new.store.grammar.rules) c.encode_in.ensures.grammar c.put_fragment.ensures.marks s.names c.cut.new.self
+    (cut-stay s.names s.grammar spot.levels.items spot.first c.first.result c.find_seams.new.marks c.cut.new.self c.cut.ensures c.limit-limit.ensures.keyed c.find_seams.ensures.marks c.first.ensures c.requires.first)
+
+pub returns-clause-marks : goal.returns-clause-marks
+returns-clause-marks g c =
+    let s = c.args.store.now in
+    let spot = c.args.spot.now in
+    subst (λ (k : Keyed). KeepsMarks spot.levels.items k.rules c.put_fragment.new.store.grammar.rules) c.encode_in.ensures.grammar c.put_fragment.ensures.marks s.names c.cut.new.self
+    (cut-stay s.names s.grammar spot.levels.items spot.first c.first.result c.find_seams.new.marks c.cut.new.self c.cut.ensures c.limit-limit.ensures.keyed c.find_seams.ensures.marks c.first.ensures c.requires.first)

@@ -6,6 +6,7 @@ use Rattle.preorder_address.specs.Spots.{IsSpot}
 use Rattle.tree_updates.specs.Joinings.{joined_edits}
 use Rattle.tree_updates.proofs.InsertedEdits.{still-joins}
 use Rattle.tree_updates.proofs.LeavingDocuments.{unswept}
+use Rattle.tree_updates.proofs.Fronts.{keeps-still, keeps-swept}
 use Rattle.tree_updates.proofs.inserting.place.Goals as goal
 
 pub put_joined-requires-clause-comes : goal.put_joined-requires-clause-comes
@@ -40,3 +41,12 @@ returns-clause-store g c = λ t F i M.
     let j = c.args.joined in
     c.sweep.ensures.store (in_turn t (joined_edits c.args.number j.front j.back F))
     (c.put_joined.ensures.store t F (unswept c.reserve_at.new.store t (c.reserve_at.ensures.store t i)) (still-joins c.args.store.now c.reserve_at.new.store t c.args.number c.args.rank F j c.reserve_at.ensures.names M))
+
+pub returns-in_err-reserve_at-clause-marks : goal.returns-in_err-reserve_at-clause-marks
+returns-in_err-reserve_at-clause-marks g c =
+    let S = c.requires.spot in
+    keeps-still S.0 c.args.store.now.grammar.rules c.args.number c.args.spot.now S.1 c.reserve_at.new.store.grammar.rules c.reserve_at.ensures.rules
+
+pub returns-clause-marks : goal.returns-clause-marks
+returns-clause-marks g c =
+    keeps-swept c.args.spot.now.levels.items c.args.store.now.grammar.rules c.reserve_at.new.store.grammar.rules c.put_joined.new.store.grammar.rules c.sweep.new.store.grammar.rules c.reserve_at.ensures.rules c.put_joined.ensures.front c.sweep.ensures.marks

@@ -2,6 +2,7 @@ use Rattle.std.proofs.Common.{◌≤◌, ◌+◌, List, sym, subst}
 use Rattle.slt_grammar.specs.declared.level.Level.{Level}
 use Rattle.path_isolation.specs.Isolations.{room_along}
 use Rattle.tree_updates.proofs.Numbered.{spot-leads}
+use Rattle.tree_updates.specs.Fronts.{StandsBehindFirst}
 use Rattle.tree_updates.proofs.isolating.isolate_node.Goals as goal
 
 pub isolate_along-requires-clause-leads : goal.isolate_along-requires-clause-leads
@@ -26,3 +27,6 @@ returns-clause-spare_nodes g c =
 pub returns-clause-links : goal.returns-clause-links
 returns-clause-links g c =
     subst (λ (ls : List Level). c.args.index.now.spare_links ≤ c.isolate_along.new.index.spare_links + room_along c.args.grammar.now.rules ls) c.way.ensures c.isolate_along.ensures.links
+
+pub returns-clause-front : goal.returns-clause-front
+returns-clause-front g c = subst (λ (ls : List Level). StandsBehindFirst ls c.args.grammar.now.rules c.isolate_along.new.grammar.rules c.isolate_along.result) c.way.ensures c.isolate_along.ensures.front

@@ -2,6 +2,8 @@ use Rattle.std.proofs.Common.{List, sym, ◌∙◌, arith}
 use Rattle.slt_grammar.specs.Keyed.{KeyedRule, rules_of}
 use Rattle.slt_grammar.proofs.KeyedLemmas.{length-rules_of}
 use Rattle.tree_updates.proofs.InStart.{differ-number, in-start, lifted-others, others-stay, same-value}
+use Rattle.tree_updates.proofs.Fronts.{front-replaced}
+use Rattle.slt_grammar.specs.declared.level.Level.{Level}
 use Rattle.tree_updates.proofs.isolating.lift_along.Goals as goal
 
 pub lift_linked-requires-clause-node : goal.lift_linked-requires-clause-node
@@ -47,3 +49,13 @@ returns-clause-spare_nodes g c = omega (arith, c.isolate_along-at.ensures.spare_
 
 pub returns-clause-links : goal.returns-clause-links
 returns-clause-links g c = omega (arith, c.isolate_along-at.ensures.links, c.lift_linked.ensures.links)
+
+pub returns-clause-front : goal.returns-clause-front
+returns-clause-front g c =
+    let r = c.requires.leads in
+    let E = c.isolate_along-at.ensures in
+    let G : List KeyedRule = c.args.grammar.now.rules in
+    let h = c.isolate_along-at.new.grammar in
+    let lv : List Level = g.W.Way.levels c.args.way G in
+    let S = in-start h.rules r.0 c.isolate_along-at.result (E.node r.0 r.1) in
+    front-replaced lv G h c.limit-limit.ensures.keyed c.isolate_along-at.result E.others.many E.front S.node.here _ c.lift_linked.new.grammar.rules c.lift_linked.ensures.values (c.lift_linked.ensures.rules S.node.here)

@@ -2,6 +2,7 @@ use Rattle.std.proofs.Common.{◌≤◌, ◌+◌, List, sym, subst}
 use Rattle.slt_grammar.specs.declared.level.Level.{Level}
 use Rattle.path_isolation.specs.Isolations.{room_along}
 use Rattle.tree_updates.proofs.Numbered.{spot-leads}
+use Rattle.tree_updates.specs.Fronts.{IsSameBeforeFirst}
 use Rattle.tree_updates.proofs.isolating.lift_node.Goals as goal
 
 pub lift_along-requires-clause-leads : goal.lift_along-requires-clause-leads
@@ -26,3 +27,6 @@ returns-clause-spare_nodes g c =
 pub returns-clause-links : goal.returns-clause-links
 returns-clause-links g c =
     subst (λ (ls : List Level). c.args.index.now.spare_links ≤ c.lift_along.new.index.spare_links + (room_along c.args.grammar.now.rules ls + 1)) c.way.ensures c.lift_along.ensures.links
+
+pub returns-clause-front : goal.returns-clause-front
+returns-clause-front g c = subst (λ (ls : List Level). IsSameBeforeFirst ls c.args.grammar.now.rules c.lift_along.new.grammar.rules) c.way.ensures c.lift_along.ensures.front

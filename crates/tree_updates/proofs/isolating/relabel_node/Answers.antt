@@ -2,6 +2,7 @@ use Rattle.std.proofs.Common.{List, sym, ◌∙◌, arith}
 use Rattle.slt_grammar.specs.Keyed.{KeyedRule, rules_of}
 use Rattle.slt_grammar.proofs.KeyedLemmas.{length-rules_of}
 use Rattle.tree_updates.proofs.InStart.{differ-number, in-start, others-stay, same-value}
+use Rattle.tree_updates.proofs.Fronts.{front-relabelled}
 use Rattle.tree_updates.proofs.isolating.relabel_node.Goals as goal
 
 pub relabel_linked-requires-clause-node : goal.relabel_linked-requires-clause-node
@@ -41,3 +42,12 @@ returns-clause-spare_nodes g c = omega (arith, c.isolate_node-at.ensures.spare_n
 
 pub returns-clause-links : goal.returns-clause-links
 returns-clause-links g c = omega (arith, c.isolate_node-at.ensures.links, c.relabel_linked.ensures.links)
+
+pub returns-clause-front : goal.returns-clause-front
+returns-clause-front g c =
+    let r = c.requires.spot in
+    let E = c.isolate_node-at.ensures in
+    let G : List KeyedRule = c.args.grammar.now.rules in
+    let h = c.isolate_node-at.new.grammar in
+    let S = in-start h.rules r.1 c.isolate_node-at.result (E.node r.0 r.1 r.2) in
+    front-relabelled c.args.spot.now.levels.items G h c.limit-limit.ensures.keyed c.isolate_node-at.result E.others.many E.front S.node.here c.args.symbol c.relabel_linked.new.grammar.rules (c.relabel_linked.ensures.values S) (c.relabel_linked.ensures.rules S.node.here)

@@ -4,6 +4,7 @@ use Rattle.slt_grammar.proofs.KeyedLemmas.{length-rules_of}
 use Rattle.tree_updates.proofs.CodeBodies.{code-last, code-means, code-wrapper}
 use Rattle.tree_updates.proofs.InStart.{others-stay, same-value}
 use Rattle.tree_updates.proofs.WrappedNodes.{gets-before, in-start-rule}
+use Rattle.tree_updates.proofs.Fronts.{front-wrapped}
 use Rattle.tree_updates.proofs.isolating.wrap_node.Goals as goal
 
 pub wrap_linked-requires-clause-there : goal.wrap_linked-requires-clause-there
@@ -43,3 +44,12 @@ returns-clause-values g c =
 
 pub returns-clause-size : goal.returns-clause-size
 returns-clause-size g c = omega (arith, c.wrap_linked.ensures.size, c.isolate_node-at.ensures.most)
+
+pub returns-clause-front : goal.returns-clause-front
+returns-clause-front g c =
+    let r = c.requires.spot in
+    let E = c.isolate_node-at.ensures in
+    let G : List KeyedRule = c.args.grammar.now.rules in
+    let h = c.isolate_node-at.new.grammar in
+    let S = in-start-rule h.rules r.1 c.isolate_node-at.result (E.node r.0 r.1 r.2) in
+    front-wrapped c.args.spot.now.levels.items G h c.limit-limit.ensures.keyed c.isolate_node-at.result E.others.many E.front S.here c.wrap_linked.new.grammar.rules c.wrap_linked.ensures.values (c.wrap_linked.ensures.front S)

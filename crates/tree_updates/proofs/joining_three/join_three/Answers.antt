@@ -1,4 +1,4 @@
-use Rattle.std.proofs.Common.{◌-◌, ℕ, List, ap, sym, ◌∙◌, subst, arith, length}
+use Rattle.std.proofs.Common.{◌-◌, ℕ, List, ap, ◌∙◌, subst, arith, length, refl}
 use Rattle.std.specs.Prelude.{slice_set}
 use Rattle.std.proofs.lemmas.Option.{slice_get_within}
 use Rattle.plain_tree.specs.declared.edit.Edit.TheVariants.{Delete}
@@ -7,6 +7,7 @@ use Rattle.tree_updates.specs.Stores.{IsStoreFor}
 use Rattle.tree_updates.proofs.JoinedThrees.{added-there, before-there, comes-to-edited, delete-leaves, here-extent, here-there, is-there, place-some, three-is, valued, valued-three}
 use Rattle.tree_updates.proofs.LeavingDocuments.{unswept}
 use Rattle.tree_updates.proofs.NodeExtents.{extent-is}
+use Rattle.tree_updates.proofs.Fronts.{keeps-still, keeps-swept}
 use Rattle.tree_updates.proofs.joining_three.join_three.Goals as goal
 
 pub overflow_sub-rank : goal.overflow_sub-rank
@@ -85,3 +86,15 @@ returns-clause-store g c = λ t F i M.
     let u = valued-three a t i n c.args.rank F c.args.added.now M s (unswept s t (c.reserve_at.ensures.store t i)) c.set.new.self texts in
     subst (IsStoreFor c.sweep.new.store) (comes-to-edited a t i n c.args.rank F c.args.added.now M)
     (c.sweep.ensures.store (placed one (Delete n)) (c.take_out.ensures.store one u (extent-is c.text_extent.result c.text_extent.ensures (here-extent a t i n c.args.rank F c.args.added.now M)) (delete-leaves a t i n c.args.rank F c.args.added.now M)))
+
+pub returns-in_err-value-clause-marks : goal.returns-in_err-value-clause-marks
+returns-in_err-value-clause-marks g c = let S = c.requires.spot in keeps-still S.0 c.args.store.now.grammar.rules c.args.number c.args.spot.now S.1 c.args.store.now.grammar.rules refl
+
+pub returns-in_err-reserve_at-clause-marks : goal.returns-in_err-reserve_at-clause-marks
+returns-in_err-reserve_at-clause-marks g c =
+    let S = c.requires.spot in
+    keeps-still S.0 c.args.store.now.grammar.rules c.args.number c.args.spot.now S.1 c.reserve_at.new.store.grammar.rules c.reserve_at.ensures.rules
+
+pub returns-clause-marks : goal.returns-clause-marks
+returns-clause-marks g c =
+    keeps-swept c.args.spot.now.levels.items c.args.store.now.grammar.rules c.reserve_at.new.store.grammar.rules c.take_out.new.store.grammar.rules c.sweep.new.store.grammar.rules c.reserve_at.ensures.rules c.take_out.ensures.front c.sweep.ensures.marks

@@ -4,16 +4,17 @@ use Rattle.tree_updates.proofs.NodeExtents.{spot-low}
 use Rattle.tree_updates.proofs.SpotPlaces.{place-small}
 use Rattle.tree_updates.proofs.meeting.text_before.Goals as goal
 
-pub spot_there-requires : goal.spot_there-requires
-spot_there-requires g c =
+pub spot_there-requires-clause-store : goal.spot_there-requires-clause-store
+spot_there-requires-clause-store g c =
     let a = c.args.store.now in
     let r = c.requires.store in
     let low = spot-low a.names a.grammar.rules r.0 c.args.number c.args.spot.now r.1.stand.code c.requires.spot in
-    record { store = (r.0, r.1, omega (arith, low)) }
+    (r.0, r.1, omega (arith, low))
 
 pub returns-then-not-is_text : goal.returns-then-not-is_text
 returns-then-not-is_text g c = record {
   spot = tt;
+  marks = c.spot_there.ensures.marks;
   before = λ t i.
       let a = c.args.store.now in
       let n = c.args.number in

@@ -3,6 +3,7 @@ use Rattle.slt_grammar.specs.Grammars.{calls_of}
 use Rattle.slt_grammar.specs.Keyed.{KeyedRule, rules_of}
 use Rattle.slt_grammar.proofs.KeyedLemmas.{length-rules_of}
 use Rattle.slt_grammar.proofs.KeyedRemovals.{called-on}
+use Rattle.tree_updates.proofs.SweptMarks.{marks-dropped}
 use Rattle.tree_updates.proofs.sweeping.sweep_uncalled.Goals as goal
 
 pub loop-rule-init : goal.loop-rule-init
@@ -18,6 +19,7 @@ loop-rule-init c =
       some = omega (arith, s, v, n);
       called = λ q h k. absurd (omega (arith, v, n, s, h, k));
       counts = λ names a. a;
+      marks = λ names marks a. a;
       spare_nodes = omega arith;
       spare_rules = omega arith;
       limit = refl;
@@ -43,7 +45,7 @@ loop-rule-preserved-then-calls-eq0 c =
     let p : ℕ = c.loop-rule.rule - 1 in
     let h : p + 1 < length c.loop-rule.grammar.rules = omega (arith, I.some, c.loop-rule-test.true) in
     let u : calls_of (rules_of c.loop-rule.grammar.rules) p ≡ 0 = sym c.calls.ensures ∙ c.if-calls-eq0.true in
-    let w = called-on c.loop-rule.grammar.rules p c.rules-rules.ensures.grammar h u (λ q k l. I.called q (omega (arith, c.loop-rule-test.true, k)) l) in
+    let w = called-on c.loop-rule.grammar.rules p c.limit-limit.ensures.keyed.grammar h u (λ q k l. I.called q (omega (arith, c.loop-rule-test.true, k)) l) in
     record {
       index = E.index;
       value = E.value ∙ I.value;
@@ -52,6 +54,7 @@ loop-rule-preserved-then-calls-eq0 c =
       some = omega (arith, w.0, ap length e, h);
       called = λ q k l. subst (λ (G : List KeyedRule). 0 < calls_of (rules_of G) q) (sym e) (w.1 q k (omega (arith, l, ap length e)));
       counts = λ names a. c.remove_rule.ensures.counts names (rules_of c.drop_linked.new.grammar.rules) (rules_of c.loop-rule.grammar.rules) (I.counts names a) E.values;
+      marks = λ names marks a. marks-dropped names c.loop-rule.grammar c.limit-limit.ensures.keyed p h u c.drop_linked.new.grammar.rules e E.values marks (I.marks names marks a);
       spare_nodes = omega (arith, I.spare_nodes, E.spare_nodes);
       spare_rules = omega (arith, I.spare_rules, E.spare_rules);
       limit = E.limit ∙ I.limit;

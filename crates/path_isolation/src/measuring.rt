@@ -31,7 +31,7 @@ pub fn nodes_along<W: Way, L: Ledger>(grammar: &Grammar, mut way: W, steps: &mut
 }
 
 /// How many nodes the bodies of all rules but the start have, with their parameters. So much room is enough to isolate any node, also
-/// once the start's body is another. It reads the start's body.
+/// once the start's body is another. It reads these bodies, and nothing of the start's, which is mostly far longer than all of them.
 pub fn nodes_elsewhere<L: Ledger>(grammar: &Grammar, steps: &mut Steps<L>) -> usize
     ensures value { result + length (nodes_at grammar.now.rules (start_of grammar.now.rules)) ≡ whole (rules_of grammar.now.rules) }
     ensures enough { (H : List KeyedRule) (levels : List Level) (ps : List ℕ) → DifferInStart grammar.now.rules H → IsLawful H → IsChain H levels ps
@@ -41,7 +41,11 @@ pub fn nodes_elsewhere<L: Ledger>(grammar: &Grammar, steps: &mut Steps<L>) -> us
     // The call tells that nodes are few.
     let _limit = grammar.limit();
     let start = grammar.rules() - 1;
-    count_nodes(grammar) - body_length(grammar, start, steps)
+    let mut nodes = 0;
+    for rule in 0..start {
+        nodes += body_length(grammar, rule, steps);
+    }
+    nodes
 }
 
 // How many nodes a body has, with its parameters. One step each.

@@ -1,6 +1,6 @@
 // What a session holds of its document, and how many edits it counts.
 use crate::subject::{Holding, Subject};
-use std::alloc::Global;
+use std::alloc::{AllocError, Global};
 use std::test::Fail;
 use store_core::Command;
 
@@ -110,5 +110,66 @@ fn are_counted(alloc: Global) -> Result<bool, Fail> {
 fn a_session_counts_its_edits(rt: HostRuntime) -> Result<(), Fail> {
     let counted = are_counted(rt.alloc())?;
     assert!(rt; counted);
+    Ok(())
+}
+
+// An `r` with 2^40 elements, in 42 rules of 88 nodes: rule 0 is `a(bottom, y1)`, and each further one but the start calls the one before it
+// twice.
+fn doubled_40_times(alloc: Global) -> Result<Vec<u8>, AllocError> {
+    let mut file = b"TGF1\x03\x00\x00\x01\x01r\x01\x01a\x2a\x01\x02\x02\x00\x01".to_vec(alloc)?;
+    for rule in 0..40 {
+        file.extend_from_slice(&[1, 3, rule, 3, rule, 1])?;
+    }
+    file.extend_from_slice(b"\x00\x02\x00\x02\x01\x03\x28\x00\x00\x00\x00")?;
+    Ok(file)
+}
+
+// Whether the line of saving its grammar tells what a session holds, and how many bytes the file has.
+fn is_saved(alloc: Global, subject: &mut Subject, held: &Holding) -> Result<bool, Fail> {
+    let line = subject.print(alloc, Command::SaveGrammar { name: "c" })?;
+    let bytes = subject.file("c").map_or(0, |file| file.len());
+    let Holding { rules, size, .. } = *held;
+    let wanted = format!(in alloc; "ok rules {rules} size {size} bytes {bytes}\n")?;
+    Ok(line.bytes() == wanted.as_bytes())
+}
+
+// Whether it holds the same once it has loaded that file.
+fn is_loaded(alloc: Global, subject: &mut Subject, held: &Holding) -> Result<bool, Fail> {
+    subject.print(alloc, Command::LoadGrammar { name: "c" })?;
+    Ok(subject.holding() == Some(Holding { edits: 0, ..*held }))
+}
+
+// What it holds, if the file of its grammar holds the same.
+fn held_and_saved(alloc: Global, subject: &mut Subject) -> Result<Option<Holding>, Fail> {
+    let Some(held) = subject.holding() else {
+        return Ok(None);
+    };
+    let same = is_saved(alloc, subject, &held)? && is_loaded(alloc, subject, &held)?;
+    Ok(same.then_some(held))
+}
+
+// What a session holds once it has loaded its file and deleted one of the elements.
+fn held_with_one_less(alloc: Global, subject: &mut Subject) -> Result<Option<Holding>, Fail> {
+    subject.print(alloc, Command::LoadGrammar { name: "a" })?;
+    subject.print(alloc, Command::Delete { number: 500 })?;
+    held_and_saved(alloc, subject)
+}
+
+// What a session that never settles holds of this grammar's document, one element of which was deleted.
+fn held_unsettled(alloc: Global, file: &[u8]) -> Result<Option<Holding>, Fail> {
+    let mut subject = Subject::new(alloc, file, 0)?;
+    held_with_one_less(alloc, &mut subject)
+}
+
+#[test]
+fn an_edit_at_most_doubles_a_grammar(rt: HostRuntime) -> Result<(), Fail> {
+    let file = doubled_40_times(rt.alloc())?;
+    let held = held_unsettled(rt.alloc(), file.as_slice())?;
+    assert!(rt;
+        held.is_some_and(|held| held.nodes == 1_099_511_627_777
+            && held.edits == 1
+            && held.size <= 176),
+        "{held:?}"
+    );
     Ok(())
 }

@@ -128,7 +128,7 @@ fn left_texts<A: Falling, L: Ledger>(
 {
     let fallen = value_fates(alloc, grammar, automaton, kinds, risen, steps)?;
     let mut answers = Answers::new(alloc, &fallen)?;
-    let mut redoing = Redoing::new(alloc);
-    redo_all(&mut answers, texts, &mut redoing)?;
+    let mut redoing = Redoing::new(alloc, texts)?;
+    redo_all(&mut answers, &mut redoing)?;
     redoing.finish()
 }

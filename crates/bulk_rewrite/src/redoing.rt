@@ -1,108 +1,154 @@
 // Texts that are redone one after another.
-ghost use Rattle.std.specs.Prelude.{◌≡◌, ◌+◌, ◌++◌, [], None, IfOk, OnOk, drop, option_to_list};
+ghost use Rattle.std.specs.Prelude.{◌≡◌, ◌<◌, ◌+◌, ◌++◌, [], None, IfOk, OnOk, drop, length, slice_index_or, option_to_list};
 ghost use Rattle.bulk_rewrite.specs.Fates.{Redone, Stays, Joins, redone, redone_one};
-ghost use Rattle.bulk_rewrite.specs.Redoing.{all_texts, nothing_redone};
+ghost use Rattle.bulk_rewrite.specs.Redoing.{all_texts, nothing_redone, opened};
 ghost use Rattle.bulk_rewrite.specs.Tags.{told_fates};
 
 use crate::tagging::{Fate, told_fate};
 use rule_runs::Answers;
 use std::alloc::{AllocError, Global};
 use std::marker::Model;
-use text_list::{TextList, TextTable};
+use text_list::{TextCopy, TextList};
 
-// The texts that are done, and one that stays and to whose end the next may go.
-#[derive(Drop)]
-pub(crate) struct Redoing {
-    done: TextTable,
-    is_open: bool,
-    text: Vec<u8>,
+// The text that stays and to whose end the next may go: that of a place, as long as none went there, and else the joined bytes.
+#[derive(Clone, Copy, Drop)]
+enum OpenText {
+    Nothing,
+    Kept(u64),
+    Joined,
 }
 
-impl Model for Redoing {
-    ghost use Rattle.std.specs.Prelude.{Some, None, if◌then◌else◌};
-    ghost use Rattle.bulk_rewrite.specs.Redoing.{TextsSoFar};
+// The texts that are done, beside those that there were, and the one that is open.
+#[derive(Drop)]
+pub(crate) struct Redoing<'a> {
+    done: TextCopy<'a>,
+    open_text: OpenText,
+    joined: Vec<u8>,
+}
+
+impl<'a> Model for Redoing<'a> {
+    ghost use Rattle.bulk_rewrite.specs.Redoing.{TextsSoFar, opened};
 
     ghost Value = { TextsSoFar };
 
     ghost view = { λ r. record {
-      done = r.done;
-      open_text = if r.is_open then Some r.text.items else None;
+      originals = r.done.originals;
+      done = r.done.texts;
+      open_text = opened r.done.originals r.joined.items r.open_text;
     } };
 }
 
-impl Redoing {
-    pub(crate) fn new(alloc: Global) -> Redoing
-        ensures { result ≡ record { done = []; open_text = None } }
+impl<'a> Redoing<'a> {
+    pub(crate) fn new(alloc: Global, texts: &'a TextList) -> Result<Redoing<'a>, AllocError>
+        ensures { IfOk result (λ redoing. redoing ≡ record { originals = texts.now.texts; done = []; open_text = None }) }
     {
-        Redoing {
-            done: TextTable::new(alloc),
-            is_open: false,
-            text: Vec::new(alloc),
-        }
+        Ok(Redoing {
+            done: TextCopy::new(alloc, texts)?,
+            open_text: OpenText::Nothing,
+            joined: Vec::new(alloc),
+        })
+    }
+
+    // How many texts there were.
+    fn originals(&self) -> u64
+        ensures { result ≡ length self.now.originals }
+    {
+        self.done.originals()
     }
 
     // The open text is done.
     fn close(&mut self) -> Result<(), AllocError>
-        ensures { OnOk result (self.new ≡ record { done = self.old.done ++ option_to_list self.old.open_text; open_text = None }) }
+        ensures originals { self.new.originals ≡ self.old.originals }
+        ensures closed { OnOk result (self.new ≡ record { originals = self.old.originals; done = self.old.done ++ option_to_list self.old.open_text; open_text = None }) }
     {
-        if self.is_open {
-            self.done.push(self.text.as_slice())?;
-            self.is_open = false;
-        }
+        put(self.open_text, self.joined.as_slice(), &mut self.done)?;
+        self.open_text = OpenText::Nothing;
         Ok(())
     }
 
-    // The next text stays.
-    fn stay(&mut self, text: &[u8]) -> Result<(), AllocError>
-        ensures { OnOk result ((r : Redone) → all_texts self.new r ≡ all_texts self.old (redone_one Stays text.now r)) }
+    // The text at a place stays.
+    fn stay(&mut self, place: u64) -> Result<(), AllocError>
+        requires { place < length self.old.originals }
+        ensures originals { self.new.originals ≡ self.old.originals }
+        ensures texts { OnOk result ((r : Redone) → all_texts self.new r ≡ all_texts self.old (redone_one Stays (slice_index_or self.old.originals place []) r)) }
     {
         self.close()?;
-        self.text.clear();
-        self.text.extend_from_slice(text)?;
-        self.is_open = true;
+        self.open_text = OpenText::Kept(place);
         Ok(())
     }
 
-    // The next text goes to the end of the open one.
-    fn join(&mut self, text: &[u8]) -> Result<(), AllocError>
-        ensures { OnOk result ((r : Redone) → all_texts self.new r ≡ all_texts self.old (redone_one Joins text.now r)) }
+    // The text at a place goes to the end of the open one.
+    fn join(&mut self, place: u64) -> Result<(), AllocError>
+        requires { place < length self.old.originals }
+        ensures originals { self.new.originals ≡ self.old.originals }
+        ensures texts { OnOk result ((r : Redone) → all_texts self.new r ≡ all_texts self.old (redone_one Joins (slice_index_or self.old.originals place []) r)) }
     {
-        if self.is_open {
-            self.text.extend_from_slice(text)?;
+        let text = self.done.original(place).unwrap();
+        match self.open_text {
+            OpenText::Nothing => {}
+            OpenText::Kept(at) => {
+                if let Some(first) = self.done.original(at) {
+                    write_both(&mut self.joined, first, text)?;
+                    self.open_text = OpenText::Joined;
+                }
+            }
+            OpenText::Joined => self.joined.extend_from_slice(text)?,
         }
         Ok(())
     }
 
-    fn redo(&mut self, fate: Fate, text: &[u8]) -> Result<(), AllocError>
-        ensures { OnOk result ((r : Redone) → all_texts self.new r ≡ all_texts self.old (redone_one fate text.now r)) }
+    fn redo(&mut self, fate: Fate, place: u64) -> Result<(), AllocError>
+        requires { place < length self.old.originals }
+        ensures originals { self.new.originals ≡ self.old.originals }
+        ensures texts { OnOk result ((r : Redone) → all_texts self.new r ≡ all_texts self.old (redone_one fate (slice_index_or self.old.originals place []) r)) }
     {
         match fate {
-            Fate::Stays => self.stay(text),
-            Fate::Joins => self.join(text),
+            Fate::Stays => self.stay(place),
+            Fate::Joins => self.join(place),
             Fate::Drops => Ok(()),
         }
     }
 
     // The list of them all.
     pub(crate) fn finish(self) -> Result<TextList, AllocError>
-        ensures { IfOk result (λ list. list.texts ≡ all_texts self nothing_redone) }
+        ensures { IfOk result (λ list. list.texts ≡ all_texts self.entry nothing_redone) }
     {
         let mut redoing = self;
         redoing.close()?;
-        Ok(TextList::new(redoing.done))
+        Ok(redoing.done.finish())
     }
+}
+
+// An open text comes behind those that are done.
+fn put(text: OpenText, joined: &[u8], done: &mut TextCopy<'_>) -> Result<(), AllocError>
+    ensures originals { done.new.originals ≡ done.old.originals }
+    ensures texts { OnOk result (done.new.texts ≡ done.old.texts ++ option_to_list (opened done.old.originals joined.now text)) }
+{
+    match text {
+        OpenText::Nothing => Ok(()),
+        OpenText::Kept(place) => done.copy(place),
+        OpenText::Joined => done.push(joined),
+    }
+}
+
+fn write_both(bytes: &mut Vec<u8>, first: &[u8], second: &[u8]) -> Result<(), AllocError>
+    ensures { OnOk result (bytes.new.items ≡ first.now ++ second.now) }
+{
+    bytes.clear();
+    bytes.extend_from_slice(first)?;
+    bytes.extend_from_slice(second)?;
+    Ok(())
 }
 
 // All texts, whose fates the answers tell, are redone.
 pub(crate) fn redo_all(
     answers: &mut Answers<'_>,
-    texts: &TextList,
-    redoing: &mut Redoing,
+    redoing: &mut Redoing<'_>,
 ) -> Result<(), AllocError>
-    ensures { OnOk result (all_texts redoing.new nothing_redone ≡ all_texts redoing.old (redone (told_fates answers.old) texts.now.texts)) }
+    ensures { OnOk result (all_texts redoing.new nothing_redone ≡ all_texts redoing.old (redone (told_fates answers.old) redoing.old.originals)) }
 {
-    'texts: for place in 0..texts.len() {
-        redo_next(answers, texts, place, redoing)?;
+    'texts: for place in 0..redoing.originals() {
+        redo_next(answers, place, redoing)?;
     }
     Ok(())
 }
@@ -110,18 +156,15 @@ pub(crate) fn redo_all(
 // The text at a place is redone, whose fate is told next.
 fn redo_next(
     answers: &mut Answers<'_>,
-    texts: &TextList,
     place: u64,
-    redoing: &mut Redoing,
+    redoing: &mut Redoing<'_>,
 ) -> Result<(), AllocError>
-    ensures { OnOk result (all_texts redoing.new (redone (told_fates answers.new) (drop (place + 1) texts.now.texts)) ≡ all_texts redoing.old (redone (told_fates answers.old) (drop place texts.now.texts))) }
+    requires { place < length redoing.old.originals }
+    ensures originals { redoing.new.originals ≡ redoing.old.originals }
+    ensures texts { OnOk result (all_texts redoing.new (redone (told_fates answers.new) (drop (place + 1) redoing.old.originals)) ≡ all_texts redoing.old (redone (told_fates answers.old) (drop place redoing.old.originals))) }
 {
     let Some(hit) = answers.next_hit()? else {
         return Ok(());
     };
-    let Some(text) = texts.get(place) else {
-        return Ok(());
-    };
-    redoing.redo(told_fate(hit.symbol), text)?;
-    Ok(())
+    redoing.redo(told_fate(hit.symbol), place)
 }

@@ -3,7 +3,7 @@ use plain_tree::{Bytes, Texts};
 use std::alloc::{AllocError, Global};
 use std::slice;
 use std::test::Fail;
-use text_list::{TextList, TextTable};
+use text_list::{TextCopy, TextList, TextTable};
 
 // The list of a text for each letter.
 fn list_of(alloc: Global, letters: &[u8]) -> Result<TextList, AllocError> {
@@ -59,6 +59,47 @@ fn texts_are_copied_put_in_and_taken_out(rt: HostRuntime) -> Result<(), Fail> {
     Ok(())
 }
 
+// Three texts of a list, one of them again, and others.
+fn copy_some(copy: &mut TextCopy<'_>) -> Result<(), AllocError> {
+    copy.copy(2)?;
+    copy.copy(0)?;
+    copy.copy(2)?;
+    copy.push(b"u")?;
+    copy.push(b"v")?;
+    copy.push(b"u")?;
+    copy.copy(4)?;
+    copy.copy(6)
+}
+
+fn some_copied(alloc: Global, list: &TextList) -> Result<TextList, AllocError> {
+    let mut copy = TextCopy::new(alloc, list)?;
+    copy_some(&mut copy)?;
+    Ok(copy.finish())
+}
+
+#[test]
+fn texts_of_a_list_are_copied(rt: HostRuntime) -> Result<(), Fail> {
+    let mut list = list_of(rt.alloc(), b"xyz")?;
+    lengthen(rt.alloc(), &mut list)?;
+    let copied = some_copied(rt.alloc(), &list)?;
+    assert!(rt; spells(&copied, b"ywyuvuy"));
+    Ok(())
+}
+
+// Whether three texts are there to copy, of which `z` is the last.
+fn has_three(copy: &TextCopy<'_>) -> bool {
+    let last = copy.original(2).is_some_and(|text| text == b"z".as_slice());
+    last && copy.originals() == 3 && copy.original(3).is_none()
+}
+
+#[test]
+fn a_copy_has_the_list_beside_it(rt: HostRuntime) -> Result<(), Fail> {
+    let list = list_of(rt.alloc(), b"xyz")?;
+    let copy = TextCopy::new(rt.alloc(), &list)?;
+    assert!(rt; has_three(&copy));
+    Ok(())
+}
+
 const LONG: usize = 1 << 20;
 
 const TIMES: usize = 4_200;
@@ -78,5 +119,36 @@ fn equal_texts_are_kept_once(rt: HostRuntime) -> Result<(), Fail> {
     let table = repeated(rt.alloc(), &text)?;
     assert!(rt; table.len() == TIMES);
     assert!(rt; table.get(TIMES - 1) == Some(text.as_slice()));
+    Ok(())
+}
+
+// A list with one text 8,192 times.
+fn doubled(alloc: Global, text: &[u8]) -> Result<TextList, AllocError> {
+    let mut table = TextTable::new(alloc);
+    table.push(text)?;
+    let mut list = TextList::new(table);
+    for _ in 0..13 {
+        let count = list.len();
+        list.duplicate(0, count)?;
+    }
+    Ok(list)
+}
+
+// All texts of a list.
+fn all_copied(alloc: Global, list: &TextList) -> Result<TextList, AllocError> {
+    let mut copy = TextCopy::new(alloc, list)?;
+    for place in 0..list.len() {
+        copy.copy(place)?;
+    }
+    Ok(copy.finish())
+}
+
+#[test]
+fn a_text_that_is_copied_again_is_kept_once(rt: HostRuntime) -> Result<(), Fail> {
+    let text = vec![in rt.alloc(); b'x'; LONG]?;
+    let list = doubled(rt.alloc(), &text)?;
+    let copied = all_copied(rt.alloc(), &list)?;
+    assert!(rt; copied.len() == 8_192);
+    assert!(rt; copied.get(8_191) == Some(text.as_slice()));
     Ok(())
 }

@@ -7,3 +7,4 @@ pub mod MovedLemmas
 pub mod GapLemmas
 pub mod NumberLemmas
 pub mod DifferentLemmas
+pub mod CopyLemmas

@@ -2,9 +2,11 @@
 use Rattle.std.proofs.Common.{◌≡◌, ℕ, zero, suc, ◌+◌, ◌-◌, ◌<◌, ◌⊎◌, inl, inr, List, [], ◌∷◌, ◌++◌, length, get_or, take, drop, map, Some, None, slice_get, Result, Ok, Err, refl, ap, sym, ◌∙◌, subst, arith, append_assoc, length-append}
 use Rattle.std.specs.Prelude.{OnOk, OnErr, slice_set, slice_range}
 use Rattle.std.specs.List.{insert_slice, remove_range}
-use Rattle.std.proofs.lemmas.List.{get_or_append_left, get_or_push, get_or_at, take_more, map-append, map-set, map_push, take-map, drop-map}
+use Rattle.std.specs.Option.{option_map}
+use Rattle.std.proofs.Math.ListN.{get_or-map}
+use Rattle.std.proofs.lemmas.List.{get_or_append_left, get_or_push, get_or_at, get_or_default, take_more, length-map, map-append, map-set, map_push, take-map, drop-map}
 use Rattle.std.proofs.lemmas.List.Elements.{All-tail, All-push, All-append, All-take, All-drop, All-weaker}
-use Rattle.std.proofs.lemmas.Option.{get_or_from_slice_get, slice_get_within}
+use Rattle.std.proofs.lemmas.Option.{get_or_from_slice_get, slice_get_within, slice_get-map}
 use Rattle.text_list.specs.Numbers.{texts_at, AreWithin, counted}
 use Rattle.text_list.proofs.GapLemmas.{length-counted, get_or-counted}
 
@@ -119,3 +121,25 @@ pub no_text : {X : Type 0} (texts : List X) (at : ℕ) → None ≡ slice_get te
 no_text [] at e h = omega (arith, h)
 no_text (x ∷ xs) zero e h = cc
 no_text (x ∷ xs) (suc at) e h = no_text xs at e (omega (arith, h))
+
+-- what is told of each text, of one text more
+pub told_more : (f : List ℕ → ℕ) (texts : List (List ℕ)) (old before new : List ℕ) (at m : ℕ) (x : List ℕ) → Some x ≡ slice_get texts at → m ≡ f x → before ≡ old ++ map f (take at texts) → new ≡ before ++ m ∷ []
+    → new ≡ old ++ map f (take (at + 1) texts)
+told_more f texts old before new at m x e g h k =
+    let more : take at texts ++ x ∷ [] ≡ take (at + 1) texts = text_more texts (take at texts) (take at texts ++ x ∷ []) at x refl refl e in
+    k ∙ ap (λ (ms : List ℕ). ms ++ m ∷ []) h ∙ append_assoc old (map f (take at texts)) (m ∷ []) ∙ ap (λ y. old ++ (map f (take at texts) ++ y ∷ [])) g
+    ∙ ap (λ (ms : List ℕ). old ++ ms) (sym (map_push f (take at texts) x)) ∙ ap (λ (ts : List (List ℕ)). old ++ map f ts) more
+
+-- what is told of the text that a number names
+module _ (f : List ℕ → ℕ) (texts : List (List ℕ)) (ns : List ℕ) (at n : ℕ) (named : Some n ≡ slice_get ns at) (w : AreWithin texts ns) where
+  text_named : Some (get_or texts n []) ≡ slice_get (texts_at texts ns) at
+  text_named = ap (option_map (λ (m : ℕ). get_or texts m [])) named ∙ sym (slice_get-map (λ (m : ℕ). get_or texts m []) ns at)
+
+  told_named : (told : List ℕ) (m : ℕ) → told ≡ map f texts → m ≡ get_or told n m → m ≡ f (get_or texts n [])
+  told_named told m e g =
+      let here : n < length texts = omega (arith, w at 0 (slice_get_within ns at n (sym named)), get_or_from_slice_get ns at n 0 (sym named)) in
+      g ∙ ap (λ (ms : List ℕ). get_or ms n m) e ∙ get_or_default (map f texts) n m (f []) (omega (arith, length-map texts f, here)) ∙ get_or-map f texts n []
+
+  -- one more
+  pub told_by_number : (told before new : List ℕ) (m : ℕ) → told ≡ map f texts → m ≡ get_or told n m → before ≡ map f (take at (texts_at texts ns)) → new ≡ before ++ m ∷ [] → new ≡ map f (take (at + 1) (texts_at texts ns))
+  told_by_number told before new m e g h k = told_more f (texts_at texts ns) [] before new at m (get_or texts n []) text_named (told_named told m e g) h k

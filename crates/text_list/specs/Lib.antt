@@ -4,3 +4,5 @@ pub mod Numbers
 pub mod Pieces
 pub mod Chunks
 pub mod Different
+pub mod Copied
+pub mod Marking

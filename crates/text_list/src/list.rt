@@ -1,15 +1,18 @@
 // The list of the texts of a document.
-ghost use Rattle.std.specs.Prelude.{◌^◌, ◌≡◌, ◌+◌, ◌<◌, ◌≤◌, ◌++◌, length, slice_get, slice_range, slice_set, vec_len, vec_capacity, IfOk, IsOk, OnOk, OnErr};
+ghost use Rattle.std.specs.Prelude.{◌^◌, ◌≡◌, ◌+◌, ◌-◌, map, ◌<◌, ◌≤◌, ◌++◌, length, slice_get, slice_range, slice_set, vec_len, vec_capacity, IfOk, IsOk, OnOk, OnErr};
 ghost use Rattle.std.specs.List.{insert_slice, remove_range};
 ghost use Rattle.std.specs.Option.{option_copied};
 ghost use Rattle.text_list.specs.Different.{different};
+ghost use Rattle.text_list.specs.Marking.{mark_of};
+ghost use Rattle.text_list.specs.Numbers.{texts_at, AreWithin};
 
 use crate::blob::Blob;
 use crate::chunk::MOST_NUMBERS;
+use crate::marking::marks_by_number;
 use crate::places::Places;
 use crate::table::TextTable;
 use plain_tree::{Bytes, Texts};
-use std::alloc::AllocError;
+use std::alloc::{AllocError, Global};
 use std::marker::Model;
 
 /// A list of texts, seen as their list with its `room`: how many more can be put in at one place without memory.
@@ -82,6 +85,22 @@ impl TextList {
             Some(number) => text_of(&self.kept, self.loose.as_slice(), number as usize),
             None => None,
         }
+    }
+
+    /// Which of some literals each text equals: 0 where it equals none, else one more than the place of the first one. Each text that is
+    /// kept is compared once, however often it stands in the list.
+    pub fn marks(&self, alloc: Global, literals: &[Bytes]) -> Result<Vec<u32>, AllocError>
+        requires { length literals.now < 2 ^ 32 - 1 }
+        ensures { IfOk result (λ marks. marks.items ≡ map (mark_of literals.now) self.now.texts) }
+    {
+        let by_number = marks_by_number(alloc, &self.kept, self.loose.as_slice(), literals)?;
+        let mut marks = Vec::with_capacity(alloc, self.places.len())?;
+        'places: for at in 0..self.places.len() {
+            if let Some(number) = self.places.get(at) {
+                marks.push(by_number[number as usize])?;
+            }
+        }
+        Ok(marks)
     }
 
     /// Makes room for this many more texts at one place. It is refused only for want of memory or of numbers for texts. Where
@@ -186,6 +205,14 @@ impl TextList {
         Ok(())
     }
 
+    // The texts that have numbers, kept and loose ones, and the numbers of the places.
+    pub(crate) fn parts(&self) -> (&Blob, &[Bytes], &Places)
+        ensures texts { self.now.texts ≡ texts_at (result.0.now ++ result.1.now) result.2.now.numbers }
+        ensures within { AreWithin (result.0.now ++ result.1.now) result.2.now.numbers }
+    {
+        (&self.kept, self.loose.as_slice(), &self.places)
+    }
+
     // Makes a new list of the same texts, with this room and no less than there was.
     fn make_anew(&mut self, more: u64) -> Result<(), AllocError>
         ensures texts { self.new.texts ≡ self.old.texts }
@@ -221,7 +248,7 @@ const LEAST_LOOSE: usize = 4096;
 const LEAST_CHUNKS: usize = 2048;
 
 // The text of a number: a kept one, or behind them a loose one.
-fn text_of<'a>(kept: &'a Blob, loose: &'a [Bytes], number: usize) -> Option<&'a [u8]>
+pub(crate) fn text_of<'a>(kept: &'a Blob, loose: &'a [Bytes], number: usize) -> Option<&'a [u8]>
     ensures { option_copied result ≡ slice_get (kept.now ++ loose.now) number }
 {
     let count = kept.len();

@@ -5,4 +5,4 @@ use Rattle.bulk_rewrite.specs.Tags.{told_fates}
 use Rattle.bulk_rewrite.proofs.redoing.redo_all.Given as goal
 
 abbrev pub invariant-texts : goal.invariant-texts
-invariant-texts l = all_texts l.redoing (redone (told_fates l.answers) (drop l.place l.texts.texts)) ≡ all_texts l.fn.redoing (redone (told_fates l.fn.answers) l.texts.texts)
+invariant-texts l = (l.redoing.originals ≡ l.fn.redoing.originals) × (all_texts l.redoing (redone (told_fates l.answers) (drop l.place l.fn.redoing.originals)) ≡ all_texts l.fn.redoing (redone (told_fates l.fn.answers) l.fn.redoing.originals))

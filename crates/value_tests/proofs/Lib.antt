@@ -1,0 +1,14 @@
+pub mod Handing
+pub mod Relabelling
+pub mod RuleValues
+pub mod TextPlaces
+pub mod Stepping
+pub mod CallSteps
+pub mod MarkedCodes
+pub mod Becoming
+pub mod Renumbering
+pub mod Walking
+pub mod Assembling
+pub mod MadeBodies
+pub mod ReadBodies
+pub mod Wholes

@@ -1,0 +1,12 @@
+pub mod MarkLists
+pub mod Relabelled
+pub mod TextPlaces
+pub mod Steps
+pub mod Becoming
+pub mod MarkedCodes
+pub mod MarkedValues
+pub mod Spots
+pub mod Renumbered
+pub mod Walks
+pub mod Assembled
+pub mod Sources

@@ -1,0 +1,2 @@
+pub mod Unmarking
+pub mod Reading

@@ -161,6 +161,10 @@ module _ (g : Keyed) (K : IsKeyed g) (r p : ℕ) (x : Node) (e : slice_get (node
   pub spots-small : (c : ℕ) → c ≤ x.kids → spots c ≤ 8
   spots-small = spots-few
 
+  -- a rule without parameters has none there
+  pub no-spots : params (preorder (rules_of g.rules) r) ≡ 0 → (c : ℕ) → c ≤ x.kids → spots c ≡ 0
+  no-spots z c h = omega (arith, spots-within, z, take-under c x.kids (term_params behind) h)
+
   -- the sums of the first weights that were read
   pub weights-sum : (ws : List ℕ) (limit : ℕ) → limit ≤ x.kids → ((j : ℕ) → (limit ≤ j → x.kids ≤ j) → get_or ws j 0 ≡ get_or (take x.kids (term_weights node_weight (rules_of g.rules) no_weights (drop (p + 1) (nodes_at g.rules r)))) j 0)
       → (c : ℕ) → c ≤ limit → sum (take c ws) ≡ own c

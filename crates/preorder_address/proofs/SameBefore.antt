@@ -24,7 +24,6 @@ use Rattle.segment_counts.specs.declared.counts.Measure.{Measure}
 use Rattle.preorder_address.specs.Marks.{AreMarks, IsMark, IsSameBefore, MarksFirst, MarksPlace}
 use Rattle.preorder_address.specs.Routes.{stop_weight}
 use Rattle.preorder_address.specs.declared.marks.Mark.{Mark}
-use Rattle.preorder_address.specs.declared.marks.Marks.{Marks}
 use Rattle.preorder_address.proofs.TourSums.{none-behind, tour-sums}
 
 pub same-refl : (place : ℕ) (G : List KeyedRule) → IsSameBefore place G G
@@ -50,8 +49,8 @@ marks-place names G level levels (Some mark) place m e = (m.0, e ∙ m.1)
 
 -- marks by other names by which the start's nodes stand for as much
 pub marks-renamed : (names more : List (Kind × List ℕ)) (G : List KeyedRule) → ((m : Measure) (p : ℕ) (x : Node) (i : ℕ) → slice_get (nodes_at G (length G - 1)) p ≡ Some x → sum_by (weigh more m) (part_of (rules_of G) x.label i) ≡ sum_by (weigh names m) (part_of (rules_of G) x.label i))
-    → (ms : Marks) → AreMarks names G ms → AreMarks more G ms
-marks-renamed names more G same ms a = All-weaker (IsMark names G) (IsMark more G) renamed ms.list.items a
+    → (ms : List Mark) → AreMarks names G ms → AreMarks more G ms
+marks-renamed names more G same ms a = All-weaker (IsMark names G) (IsMark more G) renamed ms a
   where
     renamed : (mark : Mark) → IsMark names G mark → IsMark more G mark
     renamed mark t =

@@ -12,3 +12,4 @@ pub mod Parents
 pub mod Spots
 pub mod Ranges
 pub mod Marks
+pub mod Starting

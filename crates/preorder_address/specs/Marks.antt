@@ -15,7 +15,6 @@ use Rattle.segment_counts.specs.declared.counts.Measure.{Measure}
 use Rattle.segment_counts.specs.declared.counts.Weights.{Weights}
 use Rattle.preorder_address.specs.Routes.{stop_weight}
 use Rattle.preorder_address.specs.declared.marks.Mark.{Mark}
-use Rattle.preorder_address.specs.declared.marks.Marks.{Marks}
 
 -- the stops that a rule's tour passes before it meets the node at a place
 abbrev pub passed_to : List KeyedRule → ℕ → ℕ → List (Stop Node)
@@ -31,8 +30,8 @@ pub record IsMark (names : List (Kind × List ℕ)) (G : List KeyedRule) (mark :
   pub there : key_at G (length G - 1) place ≡ Some mark.key
   pub weights : Weigh names G (passed_to G (length G - 1) place) mark.passed
 
-abbrev pub AreMarks : List (Kind × List ℕ) → List KeyedRule → Marks → Type 0
-AreMarks names G marks = All (IsMark names G) marks.list.items
+abbrev pub AreMarks : List (Kind × List ℕ) → List KeyedRule → List Mark → Type 0
+AreMarks names G marks = All (IsMark names G) marks
 
 -- the walk stands on a rule's tour, and what it passed has these weights
 pub record HasPassed (names : List (Kind × List ℕ)) (G : List KeyedRule) (r : ℕ) (walk : TourWalk) (weights : Weights) : Type 0 where

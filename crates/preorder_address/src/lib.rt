@@ -7,7 +7,8 @@
 //! The other modules go along such levels. `site` adds up what stands before a node and what the code of its kids weighs, by what a
 //! `weigher` counts; `nodes` tells a node's kind, extent and text rank, `kids` the places in its list of kids and its next sibling,
 //! `parent` its parent. `spot` tells of a node what one descent finds out,
-//! which begins at one of the `marks` that descents leave along a long start; `place_start` begins a descent to a place there. `way` makes a descent a `Way`, whose rules may change between its calls.
+//! which begins at one of the `marks` that descents leave along a long start; `place_start` begins a descent to a place or a node there.
+//! `way` makes a descent a `Way`, whose rules may change between its calls, and `started` one that was begun at a mark.
 #![tactic(auto)]
 
 mod descent;
@@ -22,6 +23,7 @@ mod site;
 mod spot;
 mod spot_extent;
 mod spot_way;
+mod started;
 mod way;
 mod weigher;
 
@@ -32,7 +34,8 @@ pub use marks::{Mark, Marks};
 pub use nodes::{extent, kind_of, text_rank};
 pub use numbering::Numbering;
 pub use parent::parent_of;
-pub use place_start::{PlaceStart, begin_place};
+pub use place_start::{PlaceStart, begin_node, begin_place};
 pub use spot::{Spot, find, find_marked};
 pub use spot_way::SpotWay;
+pub use started::StartedDescent;
 pub use way::CountedDescent;

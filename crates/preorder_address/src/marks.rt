@@ -5,12 +5,14 @@ ghost use Rattle.slt_grammar.specs.Keyed.{IsKeyed, Keyed, KeyedRule};
 ghost use Rattle.segment_counts.specs.Counting.{weight_by};
 ghost use Rattle.preorder_address.specs.Numberings.{measure_of};
 ghost use Rattle.preorder_address.specs.Marks.{AreMarks, HasPassed, IsMark, IsSameBefore, MarksPlace};
+ghost use Rattle.preorder_address.specs.declared.marks.Mark.{Mark};
 
 use crate::numbering::Numbering;
 use crate::site::begins_at;
 use segment_counts::Weights;
 use slt_grammar::{Key, TourWalk};
 use std::alloc::Global;
+use std::marker::Model;
 
 // How many stops lie between two marks at least.
 const STOPS_APART: usize = 128;
@@ -38,7 +40,13 @@ impl Mark {
 /// Marks of a grammar's start, from which a search may begin. They are a hint: where there are none, a search begins at the root.
 #[derive(Drop)]
 pub struct Marks {
-    pub(crate) list: Vec<Mark>,
+    list: Vec<Mark>,
+}
+
+impl Model for Marks {
+    ghost Value = { List Mark };
+
+    ghost view = { λ marks. marks.list.items };
 }
 
 impl Marks {

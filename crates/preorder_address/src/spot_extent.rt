@@ -7,7 +7,7 @@ ghost use Rattle.slt_grammar.specs.Bodies.{params};
 ghost use Rattle.slt_grammar.specs.Coding.{Codes};
 ghost use Rattle.slt_grammar.specs.Grammars.{value, whole};
 ghost use Rattle.slt_grammar.specs.Keyed.{IsKeyed, key_at, nodes_at, rules_of};
-ghost use Rattle.slt_grammar.specs.Segments.{node_tour};
+ghost use Rattle.slt_grammar.specs.Segments.{node_tour, preorder};
 ghost use Rattle.preorder_address.specs.Numberings.{AreCountsOf};
 ghost use Rattle.preorder_address.specs.Ranges.{WeighsRange};
 ghost use Rattle.preorder_address.specs.Sites.{labels_before};
@@ -86,6 +86,9 @@ fn range_weight<L: Ledger>(
         → WeighsRange grammar.now.rules rule p x range result }
     ensures steps { steps.new ≤ steps.old + 8 * length (nodes_at grammar.now.rules rule) }
 {
+    if grammar.rank(rule) == 0 {
+        return closed_range_weight(grammar, counts, rule, key, range, steps);
+    }
     let end = range.first + range.count;
     let no_args = [0; MOST_KIDS];
     let one_args = [1; MOST_KIDS];
@@ -121,6 +124,44 @@ fn range_weight<L: Ledger>(
             first: before + params_skipped as usize,
             count: (params_passed - params_skipped) as usize,
         },
+    }
+}
+
+// The same in a rule that has no parameters, as the start, where the kids are read once.
+fn closed_range_weight<L: Ledger>(
+    grammar: &Grammar,
+    counts: &Counts,
+    rule: usize,
+    key: Key,
+    range: KidRange,
+    steps: &mut Steps<L>,
+) -> RangeWeight
+    requires keyed { IsKeyed grammar.now }
+    requires counts { AreCountsOf (rules_of grammar.now.rules) counts.now }
+    requires there { (p : ℕ) × (x : Node) × (slice_get (nodes_at grammar.now.rules rule) p ≡ Some x) × (x.key ≡ key) × (params_at x.label ≡ 0)
+        × (range.first + range.count ≤ x.kids) }
+    requires closed { params (preorder (rules_of grammar.now.rules) rule) ≡ 0 }
+    ensures weight { (p : ℕ) (x : Node) → slice_get (nodes_at grammar.now.rules rule) p ≡ Some x → x.key ≡ key
+        → WeighsRange grammar.now.rules rule p x range result }
+    ensures steps { steps.new ≤ steps.old + 8 * length (nodes_at grammar.now.rules rule) }
+{
+    let end = range.first + range.count;
+    let no_args = [0; MOST_KIDS];
+    let weights = first_kid_weights(
+        grammar,
+        counts,
+        &Weigher::Nodes,
+        key,
+        end,
+        0,
+        &no_args,
+        steps,
+    );
+    let skipped = sum_of(&weights, range.first);
+    let nodes = sum_of(&weights, end);
+    RangeWeight {
+        nodes: nodes - skipped,
+        params: KidRange { first: 0, count: 0 },
     }
 }
 

@@ -1,6 +1,6 @@
 -- Whether an attribute may get a name, by the symbols of its element's attributes.
-use Rattle.std.proofs.Common.{◌≡◌, ◌≢◌, ℕ, ◌<◌, List, Bool, false, ap, sym, ◌∙◌, subst, arith, append-nil, None, Some, Option}
-use Rattle.std.specs.Prelude.{slice_get, unwrap_or}
+use Rattle.std.proofs.Common.{◌≡◌, ◌≢◌, ℕ, ◌<◌, List, Bool, false, ap, sym, ◌∙◌, subst, arith, append-nil, Some}
+use Rattle.std.specs.Prelude.{slice_get}
 use Rattle.std.proofs.lemmas.Option.{some_pair_parts}
 use Rattle.plain_tree.specs.declared.kind.Kind.{Kind}
 use Rattle.plain_tree.specs.declared.kind.Kind.TheVariants.{Attribute}
@@ -20,6 +20,8 @@ use Rattle.slt_grammar.specs.Grammars.{value}
 use Rattle.slt_grammar.specs.Keyed.{rules_of}
 use Rattle.tree_updates.specs.Stores.{IsStoreFor}
 use Rattle.tree_updates.specs.declared.store.Store.{Store}
+use Rattle.tree_updates.specs.ElementAttributes.{IsAttributeAt}
+use Rattle.tree_updates.proofs.AttributeElements.{attribute-there, element, element-none}
 use Rattle.tree_updates.proofs.AttributeNames.{free-there, own-there, there-free, unnamed-kids}
 use Rattle.tree_updates.proofs.NameableNodes.{allowed-name, at-told, here-is, name-allowed, told-low}
 use Rattle.tree_updates.proofs.NodePlaces.{IsPlaced}
@@ -73,15 +75,17 @@ module _ (s : Store) (t : Tree) (i : IsStoreFor s t) (n : ℕ) (told : Some Attr
   kid : IsAmongKids t n at.place.before (node Attribute own.name own.value own.kids) at.place.behind
   kid = subst (λ (r : Tree). IsAmongKids t n at.place.before r at.place.behind) own.is (parent-kids t i.stand.document n at.place low at.there (here-is t n Attribute told))
 
-  -- its parent is told
-  pub some-parent : (o : Option (Option ℕ)) → o ≡ parent_at (more t none) n → ((m : ℕ) → o ≡ Some (Some m) → ⊥) → ⊥
-  some-parent o e h = h kid.parent (e ∙ kid.told)
-
   same-parent : (m : ℕ) → Some (Some m) ≡ parent_at (more t none) n → m ≡ kid.parent
   same-parent m e = same-told m kid.parent (e ∙ kid.told)
 
   pub parent-low : (m : ℕ) → Some (Some m) ≡ parent_at (more t none) n → m < node_count t
   parent-low m e = subst (λ (j : ℕ). j < node_count t) (sym (same-parent m e)) kid.low
+
+  pub parent-other : (m : ℕ) → Some (Some m) ≡ parent_at (more t none) n → kind_at t m ≡ Some Attribute → ⊥
+  parent-other m e is =
+      let d = i.stand.document in
+      let h = attribute-there t d m is in
+      element-none t d n told h.0 (subst (λ (j : ℕ). IsAttributeAt t j h.0) (same-told m (element t d n told).parent (e ∙ (element t d n told).told)) h.1)
 
   module _ (x : List ℕ) where
     none-allowed : has_attribute x (first_kids (from_node kid.parent (more t none))) ≡ false → IsAllowed t (Rename n x)
@@ -115,12 +119,3 @@ module _ (s : Store) (t : Tree) (i : IsStoreFor s t) (n : ℕ) (told : Some Attr
         allowed-free h =
             let r = allowed-name t n Attribute told x h in
             tells-kids ∙ there-free t i.stand.document n at.place.before own.name own.value own.kids at.place.behind kid x own-apart r.0 r.1
-
--- the inner number that is told
-pub unwrap-some : (o : Option (Option ℕ)) (m : ℕ) → unwrap_or o None ≡ Some m → o ≡ Some (Some m)
-unwrap-some None m e = absurd cc
-unwrap-some (Some x) m e = ap Some e
-
-pub unwrap-none : (o : Option (Option ℕ)) → unwrap_or o None ≡ None → (m : ℕ) → o ≡ Some (Some m) → ⊥
-unwrap-none None e m f = absurd cc
-unwrap-none (Some x) e m f = let g : Some x ≡ Some None = ap Some e in let h : Some None ≡ Some (Some m) = sym g ∙ f in absurd cc

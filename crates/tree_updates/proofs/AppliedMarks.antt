@@ -6,17 +6,17 @@ use Rattle.plain_tree.specs.Edits.{edited}
 use Rattle.plain_tree.specs.NodePairs.{Pair}
 use Rattle.plain_tree.specs.Tree.{Tree}
 use Rattle.fcns_encoding.specs.Interning.{Interns}
-use Rattle.preorder_address.specs.declared.marks.Marks.{Marks}
+use Rattle.preorder_address.specs.declared.marks.Mark.{Mark}
 use Rattle.tree_updates.specs.Stores.{Applies, IsStoreFor, NamesAfter}
 use Rattle.tree_updates.specs.declared.store.Store.{Store}
 use Rattle.tree_updates.specs.declared.store.EditError.{EditError}
 use Rattle.tree_updates.specs.declared.store.EditError.TheVariants.{NoNode, NotAllowed, TooMany, Memory}
 
 -- the store with other marks
-abbrev pub marked : Store → Marks → Store
+abbrev pub marked : Store → List Mark → Store
 marked s m = record { grammar = s.grammar; names = s.names; texts = s.texts; counts = s.counts; index = s.index; marks = m }
 
-pub store-marked : (s : Store) (m : Marks) (t : Tree) → IsStoreFor s t → IsStoreFor (marked s m) t
+pub store-marked : (s : Store) (m : List Mark) (t : Tree) → IsStoreFor s t → IsStoreFor (marked s m) t
 store-marked s m t i = record { stand = i.stand; small = i.small; swept = i.swept; counts = i.counts; index = i.index }
 
 names-after : (error : EditError) (t : Tree) (e : Edit) (old new : List Pair) → NamesAfter error t e old new → (ps : List Pair) × Interns old ps new
@@ -31,7 +31,7 @@ names-grow t e old new (Ok u) a = (new_pairs t e, a.names)
 names-grow t e old new (Err error) a = names-after error t e old.names new.names a.names
 
 -- an edit of a store with other marks
-pub applies-marked : (t : Tree) (e : Edit) (old new : Store) (m n : Marks) (result : Result (Unit {0}) EditError) → Applies t e (marked old m) result new → Applies t e old result (marked new n)
+pub applies-marked : (t : Tree) (e : Edit) (old new : Store) (m n : List Mark) (result : Result (Unit {0}) EditError) → Applies t e (marked old m) result new → Applies t e old result (marked new n)
 applies-marked t e old new m n (Ok u) a = record { allowed = a.allowed; store = store-marked new n (edited t e) a.store; names = a.names; size = a.size }
 applies-marked t e old new m n (Err error) a = record { cause = a.cause; store = store-marked new n t a.store; rules = a.rules; texts = a.texts; names = a.names }
 

@@ -107,7 +107,7 @@ unnamed-kids names x h m ts low term c =
     let b = kids-coded names (from_node m ts) a.0 a.1 in
     unnamed-none names x h (first_kids (from_node m ts)) b.0 b.1
 
-lawful-kids : (us : Trees) (ss : Trees) (m v : List ℕ) (ks vs : Trees) → AreLawfulTrees us → first_kids us ≡ chained more ss (more (node Attribute m v ks) vs) → AreElementKids true (chained more ss (more (node Attribute m v ks) vs))
+pub lawful-kids : (us : Trees) (ss : Trees) (m v : List ℕ) (ks vs : Trees) → AreLawfulTrees us → first_kids us ≡ chained more ss (more (node Attribute m v ks) vs) → AreElementKids true (chained more ss (more (node Attribute m v ks) vs))
 lawful-kids none ss m v ks vs l e = absurd (never-none ss (node Attribute m v ks) vs e)
 lawful-kids (more (node k n w ls) us) ss m v ks vs l e = element-kids k ss m v ks vs (subst (AreKids k) e l.0.1)
 

@@ -36,7 +36,7 @@ use Rattle.tree_updates.specs.NewAttributes.{IsAttributeGrowth, IsAttributeSite}
 use Rattle.tree_updates.specs.declared.growing.Growth.{Growth}
 use Rattle.tree_updates.specs.declared.growing.Site.{Site}
 use Rattle.tree_updates.specs.declared.kid_attributes.AttributePlace.{AttributePlace}
-use Rattle.tree_updates.proofs.AttributeTokens.{place-has}
+use Rattle.tree_updates.proofs.AttributeNumbers.{place-has}
 use Rattle.tree_updates.proofs.Attributes.{front_attributes, texts-attribute}
 use Rattle.tree_updates.proofs.KidPlaces.{HasNoAttribute, attribute-low, code-attribute, placed-within}
 use Rattle.tree_updates.proofs.NodeExtents.{texts-fit}
@@ -124,6 +124,10 @@ module _ (t : Tree) (n : ℕ) (kind : Kind) (told : Some kind ≡ kind_at t n) (
 
   pub allowed-element : IsAllowed t (Attr n name value) → kind ≡ Element
   allowed-element h = sym (here-is t n kind told) ∙ there-allowed t (Attr n name value) (at-told t n kind told) h
+
+-- what gets an attribute is none
+pub element-other : (t : Tree) (n : ℕ) (name value : List ℕ) → IsAllowed t (Attr n name value) → kind_at t n ≡ Some Attribute → ⊥
+element-other t n name value h e = let f : Attribute ≡ Element = allowed-element t n Attribute (sym e) name value h in absurd cc
 
 pub no-own : (k : Kind) (v : List ℕ) → k ≡ Element → length (own k v) ≡ 0
 no-own k v e = ap (λ (j : Kind). length (own j v)) e

@@ -17,7 +17,6 @@ use Rattle.preorder_address.specs.Chains.{LeadsTo}
 use Rattle.preorder_address.specs.Marks.{AreMarks, IsSameBefore, MarksFirst, MarksPlace}
 use Rattle.preorder_address.specs.Spots.{IsSpot}
 use Rattle.preorder_address.specs.declared.marks.Mark.{Mark}
-use Rattle.preorder_address.specs.declared.marks.Marks.{Marks}
 use Rattle.preorder_address.specs.declared.spot.Spot.{Spot}
 use Rattle.preorder_address.proofs.SameBefore.{same-earlier, same-front, same-label, same-refl, same-shared, same-term, same-trans}
 use Rattle.tree_updates.specs.CodePlaces.{LeadToPlace}
@@ -116,7 +115,7 @@ first-placed names G levels None place m e = tt
 first-placed names G levels (Some mark) place m e = (m.0, sym e ∙ m.1)
 
 -- marks that were cut at the first level's node are marks of each start that is the same before it
-pub cut-stay : (names : List (Kind × List ℕ)) (g : Keyed) (levels : List Level) (own first : Option Mark) (old new : Marks)
+pub cut-stay : (names : List (Kind × List ℕ)) (g : Keyed) (levels : List Level) (own first : Option Mark) (old new : List Mark)
     → ((names : List (Kind × List ℕ)) (g : Keyed) (H : List KeyedRule) (place : ℕ) → IsKeyed g → AreMarks names g.rules old → MarksPlace names g.rules place first → IsSameBefore place g.rules H → AreMarks names H new)
     → IsKeyed g → AreMarks names g.rules old → first ≡ own → MarksFirst names g.rules levels own → (K : List KeyedRule) → IsSameBeforeFirst levels g.rules K → AreMarks names K new
 cut-stay names g levels own first old new cut k a told m K s =
@@ -131,5 +130,5 @@ pub keeps-still : (names : List (Kind × List ℕ)) (G : List KeyedRule) (n : �
 keeps-still names G n s S H e = keeps-same s.levels.items G H (front-still names G n s S) e
 
 -- or what changes is behind, and then rules go that nobody calls
-pub keeps-swept : (levels : List Level) (G R K H : List KeyedRule) → R ≡ G → IsSameBeforeFirst levels R K → ((names : List (Kind × List ℕ)) (marks : Marks) → AreMarks names K marks → AreMarks names H marks) → KeepsMarks levels G H
+pub keeps-swept : (levels : List Level) (G R K H : List KeyedRule) → R ≡ G → IsSameBeforeFirst levels R K → ((names : List (Kind × List ℕ)) (marks : List Mark) → AreMarks names K marks → AreMarks names H marks) → KeepsMarks levels G H
 keeps-swept levels G R K H e s w = λ names marks f. w names marks (f K (subst (λ (Q : List KeyedRule). IsSameBeforeFirst levels Q K) e s))

@@ -34,9 +34,11 @@ pub mod NamedValues
 pub mod RegrownNames
 pub mod RenamedStores
 pub mod NameableNodes
-pub mod AttributeTokens
+pub mod AttributeNumbers
+pub mod AttributeSpots
 pub mod ParentKids
 pub mod AttributeNames
+pub mod AttributeElements
 pub mod AloneNames
 pub mod NodeWays
 pub mod BetweenTexts

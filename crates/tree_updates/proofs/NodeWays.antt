@@ -12,15 +12,11 @@ use Rattle.slt_grammar.specs.Keyed.{IsKeyed, Keyed, KeyedRule, nodes_at, rules_o
 use Rattle.slt_grammar.specs.Segments.{preorder}
 use Rattle.slt_grammar.specs.declared.level.Level.{Level}
 use Rattle.segment_counts.specs.Weights.{node_weight}
-use Rattle.segment_counts.specs.Counting.{CountTable, told}
-use Rattle.segment_counts.specs.declared.counts.Measure.TheVariants as measure
 use Rattle.segment_counts.proofs.Coded.{nodes-coded}
-use Rattle.segment_counts.proofs.Telling.{total-told}
 use Rattle.path_isolation.specs.Chains.{IsChain}
 use Rattle.path_isolation.specs.Isolations.{DifferInStart, room_along, start_of}
 use Rattle.path_isolation.proofs.Walks.{length-body}
 use Rattle.slt_grammar.proofs.KeyedLemmas.{length-rules_of}
-use Rattle.preorder_address.specs.Numberings.{AreCountsOf}
 use Rattle.preorder_address.proofs.Naming.{value-last}
 use Rattle.preorder_address.specs.declared.numbering.Numbering.TheVariants.{Nodes}
 use Rattle.tree_updates.specs.Ways.{HasNode, LeadToNode, levels_to, room_to}
@@ -38,10 +34,6 @@ lead-there names G t n ls c low e = record { located = e; low = node-low names G
 -- they are a chain
 pub chain-to : (K : Keyed) (sound : IsKeyed K) (n : ℕ) (low : n < sum_by node_weight (preorder (rules_of K.rules) (length K.rules - 1))) → (ps : List ℕ) × IsChain K.rules (levels_to K.rules n) ps
 chain-to K sound n low = let N = numbered Nodes K sound n low in (N.places, N.chain)
-
--- and is below the kept total
-pub told-low : (G : List KeyedRule) (C : CountTable) (n : ℕ) → AreCountsOf (rules_of G) C → IsGrammar (rules_of G) → n < sum_by node_weight (preorder (rules_of G) (length G - 1)) → n < told measure.Nodes C.rows (C.rules - 1) 0
-told-low G C n a g low = omega (arith, low, total-told a.0 (rules_of G) C a.1 g measure.Nodes, ap (sum_by node_weight) (value-last G))
 
 some-term : (ranks : List ℕ) (ls : List Label) → IsTerm ranks ls → 0 < length ls
 some-term ranks [] t = absurd t

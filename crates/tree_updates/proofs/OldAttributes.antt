@@ -30,7 +30,7 @@ use Rattle.tree_updates.specs.declared.store.EditError.TheVariants.{NoNode, NotA
 use Rattle.tree_updates.specs.declared.store.Store.{Store}
 use Rattle.tree_updates.proofs.AttributeNames.{unnamed-kids}
 use Rattle.tree_updates.proofs.AttributePlaces.{attribute-texts, element, element-low, its-kind, kids-split, lawful-kids, no-own}
-use Rattle.tree_updates.proofs.AttributeTokens.{place-has}
+use Rattle.tree_updates.proofs.AttributeNumbers.{place-has}
 use Rattle.tree_updates.proofs.Attributes.{attr-old}
 use Rattle.tree_updates.proofs.NodePlaces.{placed as place-of-node, allowed-there}
 use Rattle.tree_updates.proofs.Ranks.{rank-inside, rank-told}

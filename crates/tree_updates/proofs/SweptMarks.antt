@@ -29,7 +29,6 @@ use Rattle.segment_counts.specs.Weights.{weigh}
 use Rattle.preorder_address.specs.Marks.{AreMarks, IsMark}
 use Rattle.preorder_address.specs.Routes.{stop_weight}
 use Rattle.preorder_address.specs.declared.marks.Mark.{Mark}
-use Rattle.preorder_address.specs.declared.marks.Marks.{Marks}
 use Rattle.preorder_address.proofs.TourSums.{none-behind, tour-sums}
 
 abbrev moved : {X Y : Type 0} → (X → Y) → Stop X → Stop Y
@@ -116,12 +115,12 @@ module _ (names : List (Kind × List ℕ)) (g : Keyed) (k : IsKeyed g) (r : ℕ)
         ∙ ap (λ xs. sum_by (stop_weight (weigh names by) H) (tour kids_of ([] ∷ []) (take m.place xs))) (sym nodes-left);
   }
 
-  marks-left : (marks : Marks) → AreMarks names G marks → AreMarks names H marks
-  marks-left marks a = All-weaker (IsMark names G) (IsMark names H) mark-left marks.list.items a
+  marks-left : (marks : List Mark) → AreMarks names G marks → AreMarks names H marks
+  marks-left marks a = All-weaker (IsMark names G) (IsMark names H) mark-left marks a
 
 -- the marks of the start stay where a rule goes that nobody calls
 pub marks-dropped : (names : List (Kind × List ℕ)) (g : Keyed) → IsKeyed g → (r : ℕ) → r + 1 < length g.rules → calls_of (rules_of g.rules) r ≡ 0 → (H : List KeyedRule) → H ≡ rule_dropped g.rules r → HasRuleMore r (rules_of H) (rules_of g.rules)
-    → (marks : Marks) → AreMarks names g.rules marks → AreMarks names H marks
+    → (marks : List Mark) → AreMarks names g.rules marks → AreMarks names H marks
 marks-dropped names g k r there uncalled H e more marks a =
     subst (λ (K : List KeyedRule). AreMarks names K marks) (sym e)
     (marks-left names g k r there uncalled (subst (λ (K : List KeyedRule). HasRuleMore r (rules_of K) (rules_of g.rules)) e more) marks a)

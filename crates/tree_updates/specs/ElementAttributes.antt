@@ -1,9 +1,10 @@
 -- The attributes of an element.
-use Rattle.std.specs.Prelude.{◌≡◌, ℕ, Bool, true, false, List}
+use Rattle.std.specs.Prelude.{◌≡◌, ℕ, Bool, true, false, List, Some, slice_get}
 use Rattle.std.specs.Str.{bytes_eq}
 use Rattle.plain_tree.specs.declared.kind.Kind.TheVariants.{Attribute}
 use Rattle.plain_tree.specs.Edits.{chained}
-use Rattle.plain_tree.specs.Tree.{node, Trees, none, more, node_count_all}
+use Rattle.plain_tree.specs.Numbers.{nodes}
+use Rattle.plain_tree.specs.Tree.{Tree, node, Trees, none, more, node_count_all}
 use Rattle.tree_updates.specs.declared.kid_attributes.AttributePlace.{AttributePlace}
 
 -- attributes alone, none of this name
@@ -24,3 +25,7 @@ pub record IsAttributePlace (name : List ℕ) (kids : Trees) (place : AttributeP
   pub others : AreOtherAttributes name front
   pub next : IsNextAttribute name behind place.found
   pub before : place.before ≡ node_count_all front
+
+-- node n is an attribute of this name
+abbrev pub IsAttributeAt : Tree → ℕ → List ℕ → Type 0
+IsAttributeAt t n name = (value : List ℕ) × (slice_get (nodes t) n ≡ Some (node Attribute name value none))

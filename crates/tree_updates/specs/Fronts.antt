@@ -5,7 +5,7 @@ use Rattle.rule_arena.specs.declared.key.Key.{Key}
 use Rattle.slt_grammar.specs.Keyed.{KeyedRule, key_at}
 use Rattle.slt_grammar.specs.declared.level.Level.{Level}
 use Rattle.preorder_address.specs.Marks.{AreMarks, IsSameBefore}
-use Rattle.preorder_address.specs.declared.marks.Marks.{Marks}
+use Rattle.preorder_address.specs.declared.marks.Mark.{Mark}
 
 -- the key of the first level's node
 abbrev pub first_key : List Level → Option Key
@@ -28,4 +28,4 @@ pub record StandsBehindFirst (levels : List Level) (G H : List KeyedRule) (key :
 
 -- what are marks of each start that is the same before the first level's node are marks of H's
 abbrev pub KeepsMarks : List Level → List KeyedRule → List KeyedRule → Type 0
-KeepsMarks levels G H = (names : List (Kind × List ℕ)) (marks : Marks) → ((K : List KeyedRule) → IsSameBeforeFirst levels G K → AreMarks names K marks) → AreMarks names H marks
+KeepsMarks levels G H = (names : List (Kind × List ℕ)) (marks : List Mark) → ((K : List KeyedRule) → IsSameBeforeFirst levels G K → AreMarks names K marks) → AreMarks names H marks

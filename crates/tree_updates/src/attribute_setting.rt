@@ -31,9 +31,9 @@ use std::alloc::{AllocError, Global};
 use std::sync::ledger::Ledger;
 
 /// The attribute with this name of the element with this number gets the value, which consists of characters of XML. Where the element has
-/// none, it comes behind the others; its name is a Name of XML. It reads the way to the element, its attributes up to that one, and for a new
-/// one the bodies on the way and how often each rule is called. `EditError` says when it is refused; the document and its rules stay then. It
-/// is refused for want of memory at any time, and the name may be in the table then.
+/// none, it comes behind the others; its name is a Name of XML. It reads the way to the element, those to its attributes up to that one, and for
+/// a new one the bodies on the way and how often each rule is called. `EditError` says when it is refused; the document and its rules stay then.
+/// It is refused for want of memory at any time, and the name may be in the table then.
 pub(crate) fn set_attribute<L: Ledger>(
     alloc: Global,
     store: &mut Store,
@@ -53,7 +53,7 @@ pub(crate) fn set_attribute<L: Ledger>(
     // The call tells what is true of every grammar.
     let _limit = store.grammar.limit();
     let spot = element_spot(alloc, store, marks, number, steps)?;
-    let place = find_attribute(alloc, store, number, name, steps)?;
+    let place = find_attribute(alloc, store, marks, number, name, steps)?;
     if place.found {
         let rank = spot.text_rank() + place.before;
         return put_value(alloc, store, number + 1 + place.before, rank, value);

@@ -52,10 +52,7 @@ pub(crate) fn delete<L: Ledger>(
             marks.cut(spot.first());
             delete_apart(store, number, &spot, extent, steps)
         }
-        Some(beside) => {
-            marks.clear();
-            delete_between(alloc, store, number, extent, &beside, steps)
-        }
+        Some(beside) => delete_between(alloc, store, marks, number, extent, &beside, steps),
     }
 }
 

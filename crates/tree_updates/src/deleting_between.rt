@@ -8,6 +8,7 @@ ghost use Rattle.plain_tree.specs.Siblings.{from_node};
 ghost use Rattle.plain_tree.specs.Tree.{Tree, Trees, node, none, more};
 ghost use Rattle.slt_grammar.specs.Keyed.{Keyed};
 ghost use Rattle.path_isolation.specs.Isolations.{room_along};
+ghost use Rattle.preorder_address.specs.Marks.{AreMarks, MarksFirst};
 ghost use Rattle.preorder_address.specs.Spots.{IsSpot};
 ghost use Rattle.preorder_address.specs.TreeNumbers.{text_rank_at};
 ghost use Rattle.tree_updates.specs.Extents.{AreBeside, IsExtentOf};
@@ -22,7 +23,7 @@ use crate::sweeping::sweep;
 use crate::taking_out::{take_out, take_out_located};
 use path_isolation::{nodes_along, nodes_elsewhere};
 use plain_tree::Bytes;
-use preorder_address::Spot;
+use preorder_address::{Marks, Spot};
 use read_steps::Steps;
 use std::alloc::{AllocError, Global};
 use std::sync::ledger::Ledger;
@@ -35,28 +36,33 @@ pub(crate) struct JoinedText {
 }
 
 // Deletes the node with this number and extent, which stands between two texts: the left one gets the value of both, the right one goes, and then
-// the node. All memory is taken first; in this order no document on the way has more nodes than the store's.
+// the node. All memory is taken first; in this order no document on the way has more nodes than the store's. The marks before the node's stay.
 pub(crate) fn delete_between<L: Ledger>(
     alloc: Global,
     store: &mut Store,
+    marks: &mut Marks,
     number: u64,
     extent: Extent,
     beside: &Neighbours,
     steps: &mut Steps<L>,
 ) -> Result<(), EditError>
     requires store { (t : Tree) × IsStoreFor store.old t × IsAllowed t (Delete number) × IsExtentOf t number extent × AreBeside store.old t number beside.now }
+    requires marks { AreMarks store.old.names store.old.grammar.rules marks.old }
+    requires first { MarksFirst store.old.names store.old.grammar.rules beside.now.right.levels.items beside.now.right.first }
     ensures applies { (t : Tree) → IsStoreFor store.old t → IsAllowed t (Delete number) → IsExtentOf t number extent → AreBeside store.old t number beside.now
         → Applies t (Delete number) store.old result store.new }
+    ensures marks { AreMarks store.old.names store.new.grammar.rules marks.new }
 {
     let joined = join_texts(alloc, store, beside)?;
     let right = text_extent(beside.right.text_rank());
     reserve_twice(store, &beside.right, steps)?;
+    marks.cut(beside.right.first());
     store.texts.set(joined.rank, joined.value);
     // The calls tell what is true of every grammar.
     let _before = store.grammar.limit();
     take_out(store, beside.number, &beside.right, right, steps);
     let _between = store.grammar.limit();
-    take_out_located(store, number, extent, steps);
+    take_out_located(store, marks, number, extent, steps);
     sweep(store);
     Ok(())
 }

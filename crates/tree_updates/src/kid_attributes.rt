@@ -1,17 +1,19 @@
-// The attributes of an element, found without unfolding anything.
-ghost use Rattle.std.specs.Prelude.{◌≡◌, ◌<◌, ℕ, Some, true, false, IfOk, IfSome, IfNone, List, slice_get};
+// The attributes of an element, which stand before its other kids and have none, found by their numbers from the marks of the start.
+ghost use Rattle.std.specs.Prelude.{◌≡◌, ◌<◌, ℕ, Some, IfOk, IfSome, IfNone, List, slice_get};
 ghost use Rattle.plain_tree.specs.declared.kind.Kind.TheVariants.{Attribute};
 ghost use Rattle.plain_tree.specs.Siblings.{first_kids, from_node};
 ghost use Rattle.plain_tree.specs.Tree.{Tree, none, more, node_count};
-ghost use Rattle.tree_updates.specs.ElementAttributes.{IsAttributePlace};
+ghost use Rattle.preorder_address.specs.Marks.{AreMarks};
+ghost use Rattle.preorder_address.specs.TreeNumbers.{kind_at, parent_at};
+ghost use Rattle.tree_updates.specs.ElementAttributes.{IsAttributeAt, IsAttributePlace};
 ghost use Rattle.tree_updates.specs.Stores.{IsStoreFor};
 
 use crate::store::Store;
 use plain_tree::{Kind, Names};
+use preorder_address::{Marks, find_marked};
 use read_steps::Steps;
 use std::alloc::{AllocError, Global};
 use std::sync::ledger::Ledger;
-use value_cursor::{Cursor, Token};
 
 // Whether an element has an attribute of a name, and how many others stand before it, or are there at all.
 #[derive(Clone, Copy, Drop)]
@@ -20,29 +22,23 @@ pub(crate) struct AttributePlace {
     pub(crate) found: bool,
 }
 
-// Where the attribute of this name stands among those of the node with this number. It reads the tokens of its attributes, and one more.
+// Where the attribute of this name stands among those of the node with this number, which is none itself. It reads the ways to its attributes,
+// and to the node behind them.
 pub(crate) fn find_attribute<L: Ledger>(
     alloc: Global,
     store: &Store,
+    marks: &mut Marks,
     number: u64,
     name: &[u8],
     steps: &mut Steps<L>,
 ) -> Result<AttributePlace, AllocError>
-    requires store { (t : Tree) × IsStoreFor store.now t × (number < node_count t) }
-    ensures { IfOk result (λ place. (t : Tree) → IsStoreFor store.now t → IsAttributePlace name.now (first_kids (from_node number (more t none))) place) }
+    requires store { (t : Tree) × IsStoreFor store.now t × (number < node_count t) × (kind_at t number ≡ Some Attribute → ⊥) }
+    requires marks { AreMarks store.now.names store.now.grammar.rules marks.old }
+    ensures place { IfOk result (λ place. (t : Tree) → IsStoreFor store.now t → (kind_at t number ≡ Some Attribute → ⊥) → IsAttributePlace name.now (first_kids (from_node number (more t none))) place) }
+    ensures marks { AreMarks store.now.names store.now.grammar.rules marks.new }
 {
-    // The call tells what is true of every grammar.
-    let _limit = store.grammar.limit();
-    let found = Cursor::new(alloc, &store.grammar, &store.counts, number, steps)?;
-    let Some(mut cursor) = found else {
-        unreachable!()
-    };
-    let _node = cursor.next(&store.grammar, steps);
     let mut before = 0;
-    while let Some(kid) = opened(cursor.next(&store.grammar, steps)) {
-        let Some(own) = attribute_name(&store.names, kid) else {
-            return Ok(absent(before));
-        };
+    while let Some(own) = attribute_at(alloc, store, marks, number + 1 + before, steps)? {
         if own == name {
             return Ok(AttributePlace {
                 before,
@@ -50,31 +46,62 @@ pub(crate) fn find_attribute<L: Ledger>(
             });
         }
         before += 1;
-        // An attribute has no kids.
-        let _end = cursor.next(&store.grammar, steps);
     }
-    Ok(absent(before))
-}
-
-// No attribute has the name.
-fn absent(before: u64) -> AttributePlace
-    ensures { result ≡ record { before = before; found = false } }
-{
-    AttributePlace {
+    Ok(AttributePlace {
         before,
         found: false,
-    }
+    })
 }
 
-// The symbol of the node that a token opens.
-fn opened(token: Option<Token>) -> Option<usize>
-    ensures some { IfSome result (λ symbol. token ≡ Some (Token.Open symbol)) }
-    ensures none { IfNone result ((symbol : ℕ) → token ≡ Some (Token.Open symbol) → ⊥) }
+// The number of the element of the attribute with this number: the last node before it that is no attribute.
+pub(crate) fn element_of<L: Ledger>(
+    alloc: Global,
+    store: &Store,
+    marks: &mut Marks,
+    number: u64,
+    steps: &mut Steps<L>,
+) -> Result<u64, AllocError>
+    requires store { (t : Tree) × IsStoreFor store.now t × (Some Attribute ≡ kind_at t number) }
+    requires marks { AreMarks store.now.names store.now.grammar.rules marks.old }
+    ensures parent { IfOk result (λ element. (t : Tree) → IsStoreFor store.now t → Some Attribute ≡ kind_at t number → Some (Some element) ≡ parent_at (more t none) number) }
+    ensures marks { AreMarks store.now.names store.now.grammar.rules marks.new }
 {
-    match token {
-        Some(Token::Open { symbol }) => Some(symbol),
-        _ => None,
+    let mut element = number - 1;
+    while attribute_at(alloc, store, marks, element, steps)?.is_some() {
+        element -= 1;
     }
+    Ok(element)
+}
+
+// The name of the node with this number, where there is one and it is an attribute.
+fn attribute_at<'a, L: Ledger>(
+    alloc: Global,
+    store: &'a Store,
+    marks: &mut Marks,
+    number: u64,
+    steps: &mut Steps<L>,
+) -> Result<Option<&'a [u8]>, AllocError>
+    requires store { (t : Tree) × IsStoreFor store.now t }
+    requires marks { AreMarks store.now.names store.now.grammar.rules marks.old }
+    ensures yes { IfOk result (λ found. IfSome found (λ name. (t : Tree) → IsStoreFor store.now t → IsAttributeAt t number name.now)) }
+    ensures no { IfOk result (λ found. IfNone found ((t : Tree) (name : List ℕ) → IsStoreFor store.now t → IsAttributeAt t number name → ⊥)) }
+    ensures marks { AreMarks store.now.names store.now.grammar.rules marks.new }
+{
+    // The call tells what is true of every grammar.
+    let _limit = store.grammar.limit();
+    let found = find_marked(
+        alloc,
+        &store.grammar,
+        &store.counts,
+        &store.names,
+        number,
+        marks,
+        steps,
+    )?;
+    let Some(spot) = found else {
+        return Ok(None);
+    };
+    Ok(attribute_name(&store.names, spot.symbol()))
 }
 
 // The name of a symbol that is an attribute's.

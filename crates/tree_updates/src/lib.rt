@@ -12,7 +12,7 @@
 //!
 //! What comes into a document comes at a place of its code, which is counted with the bottoms: `place_spots` finds one, with the levels that lead
 //! there, `code_places` isolates it and puts a body around it, and `growing` does so for a whole store, texts and counts with it. `kid_attributes`
-//! finds an element's attribute; `fragment_growing`, `fragment_nodes` and `fragment_kinds` tell of a fragment where it comes, how many nodes it
+//! finds an element's attribute, and an attribute's element; `fragment_growing`, `fragment_nodes` and `fragment_kinds` tell of a fragment where it comes, how many nodes it
 //! has and where it may stand.
 //!
 //! What comes before a node comes where the node stands: `fragment_spots` tells whether it may, `fragment_code` makes its code, `finding_seams`

@@ -3,7 +3,7 @@ ghost use Rattle.std.specs.Prelude.{◌≡◌, ◌<◌, IfNone, IfOk, IfSome};
 ghost use Rattle.plain_tree.specs.Edits.{edited, placed};
 ghost use Rattle.plain_tree.specs.Tree.{Tree};
 ghost use Rattle.plain_tree.specs.declared.edit.Edit.TheVariants.{Delete};
-ghost use Rattle.preorder_address.specs.Marks.{AreMarks};
+ghost use Rattle.preorder_address.specs.Marks.{AreMarks, MarksFirst};
 ghost use Rattle.preorder_address.specs.Spots.{IsSpot};
 ghost use Rattle.tree_updates.specs.CallAnswers.{is_text};
 ghost use Rattle.tree_updates.specs.Extents.{AreBeside, IsSpanOf};
@@ -39,11 +39,13 @@ pub(crate) fn meeting_texts<L: Ledger>(
     requires behind { 0 < number }
     requires spot { IsSpot store.now.names store.now.grammar.rules number spot.now }
     requires marks { AreMarks store.now.names store.now.grammar.rules marks.old }
+    requires first { IfSome span.behind (λ behind. MarksFirst store.now.names store.now.grammar.rules behind.levels.items behind.first) }
     ensures apart { IfOk result (λ found. IfNone found ((t : Tree) → IsStoreFor store.now t → IsSpanOf store.now t number span
         → edited t (Delete number) ≡ placed t (Delete number))) }
     ensures meets { IfOk result (λ found. IfSome found (λ beside. (t : Tree) → IsStoreFor store.now t → IsSpanOf store.now t number span
         → AreBeside store.now t number beside)) }
     ensures marks { AreMarks store.now.names store.now.grammar.rules marks.new }
+    ensures first { IfOk result (λ found. IfSome found (λ beside. MarksFirst store.now.names store.now.grammar.rules beside.right.levels.items beside.right.first)) }
 {
     let Span { extent, behind } = span;
     let Some(right) = behind else {

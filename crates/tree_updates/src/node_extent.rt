@@ -1,7 +1,7 @@
 // Which nodes and texts of a document a node has with all below it.
-ghost use Rattle.std.specs.Prelude.{◌≡◌, IfOk};
+ghost use Rattle.std.specs.Prelude.{◌≡◌, IfOk, IfSome};
 ghost use Rattle.plain_tree.specs.Tree.{Tree};
-ghost use Rattle.preorder_address.specs.Marks.{AreMarks};
+ghost use Rattle.preorder_address.specs.Marks.{AreMarks, MarksFirst};
 ghost use Rattle.preorder_address.specs.Spots.{IsSpot};
 ghost use Rattle.tree_updates.specs.Extents.{IsCodedBy, IsExtentOf, IsSpanOf, IsUnsweptFor};
 
@@ -40,6 +40,7 @@ pub(crate) fn span_of<L: Ledger>(
     requires marks { AreMarks store.now.names store.now.grammar.rules marks.old }
     ensures span { IfOk result (λ span. (t : Tree) → IsCodedBy store.now t → IsSpanOf store.now t number span) }
     ensures marks { AreMarks store.now.names store.now.grammar.rules marks.new }
+    ensures first { IfOk result (λ span. IfSome span.behind (λ behind. MarksFirst store.now.names store.now.grammar.rules behind.levels.items behind.first)) }
 {
     // The call tells what is true of every grammar.
     let _limit = store.grammar.limit();

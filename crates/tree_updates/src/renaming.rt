@@ -13,14 +13,14 @@ ghost use Rattle.preorder_address.specs.TreeNumbers.{kind_at};
 ghost use Rattle.tree_updates.specs.Stores.{Applies, IsRefusedFor, IsStoreFor};
 
 use crate::isolating::relabel_node;
-use crate::kid_attributes::find_attribute;
+use crate::kid_attributes::{element_of, find_attribute};
 use crate::node_spots::spot_at;
 use crate::store::{EditError, Store};
 use crate::sweeping::sweep_uncalled;
 use digram_index::Index;
 use path_isolation::nodes_along;
 use plain_tree::Kind;
-use preorder_address::{Marks, Spot, parent_of};
+use preorder_address::{Marks, Spot};
 use read_steps::Steps;
 use slt_grammar::Grammar;
 use std::alloc::{AllocError, Global};
@@ -36,8 +36,8 @@ struct Nameable {
 
 /// The node with this number of the store's document gets this name, which is a Name of XML: an element any, an attribute one that no other
 /// attribute of its element has, an instruction a target. It reads the way to the node, how often each rule is called and, at an attribute,
-/// those of its element up to one that has the name. `EditError` says when it is refused; the document and its rules stay then. It is refused
-/// for want of memory at any time, and the name may be in the table then.
+/// the ways to those before it, to its element, and to those up to one that has the name. `EditError` says when it is refused; the document and
+/// its rules stay then. It is refused for want of memory at any time, and the name may be in the table then.
 pub(crate) fn rename<L: Ledger>(
     alloc: Global,
     store: &mut Store,
@@ -115,7 +115,7 @@ fn find_nameable<L: Ledger>(
     let Some(kind) = spot.kind(&store.names) else {
         unreachable!()
     };
-    if may_be_named(alloc, store, number, &spot, kind, name, steps)? {
+    if may_be_named(alloc, store, marks, number, &spot, kind, name, steps)? {
         Ok(Nameable { spot, kind })
     } else {
         Err(EditError::NotAllowed { kind })
@@ -126,6 +126,7 @@ fn find_nameable<L: Ledger>(
 fn may_be_named<L: Ledger>(
     alloc: Global,
     store: &Store,
+    marks: &mut Marks,
     number: u64,
     spot: &Spot,
     kind: Kind,
@@ -135,12 +136,14 @@ fn may_be_named<L: Ledger>(
     requires store { (t : Tree) × IsStoreFor store.now t × (Some kind ≡ kind_at t number) }
     requires spot { IsSpot store.now.names store.now.grammar.rules number spot.now }
     requires name { IsName name.now }
-    ensures { IfOk result (λ may. (t : Tree) → IsStoreFor store.now t → Some kind ≡ kind_at t number → (IsTrue may ↔ IsAllowed t (Rename number name.now))) }
+    requires marks { AreMarks store.now.names store.now.grammar.rules marks.old }
+    ensures allowed { IfOk result (λ may. (t : Tree) → IsStoreFor store.now t → Some kind ≡ kind_at t number → (IsTrue may ↔ IsAllowed t (Rename number name.now))) }
+    ensures marks { AreMarks store.now.names store.now.grammar.rules marks.new }
 {
     match kind {
         Kind::Element => Ok(true),
         Kind::Instruction => Ok(is_lawful_name(kind, name)),
-        Kind::Attribute => is_alone(alloc, store, number, spot, name, steps),
+        Kind::Attribute => is_alone(alloc, store, marks, number, spot, name, steps),
         _ => Ok(false),
     }
 }
@@ -149,6 +152,7 @@ fn may_be_named<L: Ledger>(
 fn is_alone<L: Ledger>(
     alloc: Global,
     store: &Store,
+    marks: &mut Marks,
     number: u64,
     spot: &Spot,
     name: &[u8],
@@ -156,7 +160,9 @@ fn is_alone<L: Ledger>(
 ) -> Result<bool, AllocError>
     requires store { (t : Tree) × IsStoreFor store.now t × (Some Kind.Attribute ≡ kind_at t number) }
     requires spot { IsSpot store.now.names store.now.grammar.rules number spot.now }
-    ensures { IfOk result (λ alone. (t : Tree) → IsStoreFor store.now t → Some Kind.Attribute ≡ kind_at t number → (IsTrue alone ↔ IsAllowed t (Rename number name.now))) }
+    requires marks { AreMarks store.now.names store.now.grammar.rules marks.old }
+    ensures allowed { IfOk result (λ alone. (t : Tree) → IsStoreFor store.now t → Some Kind.Attribute ≡ kind_at t number → (IsTrue alone ↔ IsAllowed t (Rename number name.now))) }
+    ensures marks { AreMarks store.now.names store.now.grammar.rules marks.new }
 {
     let Some(symbol) = store.names.find(Kind::Attribute, name) else {
         return Ok(true);
@@ -164,11 +170,7 @@ fn is_alone<L: Ledger>(
     if spot.symbol() == symbol {
         return Ok(true);
     }
-    let told = parent_of(&store.grammar, &store.counts, number, steps)?;
-    let parent = told.unwrap_or(None);
-    let Some(element) = parent else {
-        unreachable!()
-    };
-    let place = find_attribute(alloc, store, element, name, steps)?;
+    let element = element_of(alloc, store, marks, number, steps)?;
+    let place = find_attribute(alloc, store, marks, element, name, steps)?;
     Ok(!place.found)
 }

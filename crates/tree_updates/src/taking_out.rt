@@ -7,12 +7,14 @@ ghost use Rattle.plain_tree.specs.Tree.{Tree};
 ghost use Rattle.slt_grammar.specs.Bodies.{real_nodes};
 ghost use Rattle.slt_grammar.specs.ChangedValues.{start_body};
 ghost use Rattle.slt_grammar.specs.Grammars.{size};
-ghost use Rattle.slt_grammar.specs.Keyed.{rules_of};
+ghost use Rattle.slt_grammar.specs.Keyed.{KeyedRule, rules_of};
 ghost use Rattle.slt_grammar.specs.Segments.{preorder};
+ghost use Rattle.segment_counts.specs.Counting.{AreCounts};
 ghost use Rattle.segment_counts.specs.Weights.{node_weight};
 ghost use Rattle.path_isolation.specs.Isolations.{DifferInStart, room_along};
-ghost use Rattle.preorder_address.specs.Numberings.{AreCountsOf};
+ghost use Rattle.preorder_address.specs.Marks.{AreMarks};
 ghost use Rattle.preorder_address.specs.Spots.{IsSpot};
+ghost use Rattle.preorder_address.specs.Starting.{started};
 ghost use Rattle.preorder_address.specs.Told.{AreTold, told_levels};
 ghost use Rattle.tree_updates.specs.Extents.{IsExtentOf, IsUnsweptFor, LeavesDocument};
 ghost use Rattle.tree_updates.specs.Fronts.{IsSameBeforeFirst};
@@ -21,7 +23,8 @@ ghost use Rattle.tree_updates.specs.Ways.{levels_to, room_to};
 use crate::isolating::{lift_along, lift_node};
 use crate::node_extent::Extent;
 use crate::store::Store;
-use preorder_address::{CountedDescent, Spot, locate};
+use plain_tree::Names;
+use preorder_address::{Marks, PlaceStart, Spot, StartedDescent, begin_node};
 use read_steps::Steps;
 use segment_counts::Counts;
 use slt_grammar::Grammar;
@@ -58,9 +61,11 @@ pub(crate) fn take_out<L: Ledger>(
     store.counts.lower_start(extent.nodes, extent.texts);
 }
 
-// The same of the node with this number, to which the counts tell the way: a spot from before is none of changed rules.
+// The same of the node with this number, to which the counts tell the way from a mark: a spot from before is none of changed rules. The marks
+// before the node's stay.
 pub(crate) fn take_out_located<L: Ledger>(
     store: &mut Store,
+    marks: &mut Marks,
     number: u64,
     extent: Extent,
     steps: &mut Steps<L>,
@@ -69,27 +74,49 @@ pub(crate) fn take_out_located<L: Ledger>(
     requires room { room_to store.old.grammar.rules number ≤ store.old.grammar.spare_nodes }
     requires links { room_to store.old.grammar.rules number + 1 ≤ store.old.index.spare_links }
     requires cells { store.old.grammar.limit ≤ length store.old.index.cells }
+    requires marks { AreMarks store.old.names store.old.grammar.rules marks.old }
     ensures store { (t : Tree) → IsUnsweptFor store.old t → IsExtentOf t number extent → LeavesDocument t (Delete number) → IsUnsweptFor store.new (placed t (Delete number)) }
     ensures names { store.new.names ≡ store.old.names }
     ensures most { size (rules_of store.new.grammar.rules) + real_nodes (start_body (rules_of store.old.grammar.rules)) ≤ 2 * size (rules_of store.old.grammar.rules) }
+    ensures marks { AreMarks store.old.names store.new.grammar.rules marks.new }
 {
     // The call tells what is true of every grammar.
     let _limit = store.grammar.limit();
-    let way = way_to(&store.grammar, &store.counts, number);
+    let way = way_to(
+        &store.grammar,
+        &store.counts,
+        &store.names,
+        number,
+        marks,
+        steps,
+    );
     lift_along(&mut store.grammar, &mut store.index, way, steps);
     store.texts.remove_range(extent.rank, extent.texts);
     store.counts.lower_start(extent.nodes, extent.texts);
 }
 
-// The way to the node with this number, by the counts.
-fn way_to<'a>(grammar: &Grammar, counts: &'a Counts, number: u64) -> CountedDescent<'a>
-    requires counts { AreCountsOf (rules_of grammar.now.rules) counts.now }
+// The way to the node with this number, by the counts from the last mark before it. Of the marks those stay that stand before its first level's
+// node.
+fn way_to<'a, L: Ledger>(
+    grammar: &Grammar,
+    counts: &'a Counts,
+    names: &Names,
+    number: u64,
+    marks: &mut Marks,
+    steps: &mut Steps<L>,
+) -> StartedDescent<'a>
+    requires counts { AreCounts names.now (rules_of grammar.now.rules) counts.now }
     requires low { number < sum_by node_weight (preorder (rules_of grammar.now.rules) (length grammar.now.rules - 1)) }
-    ensures ready { AreTold result.descent.by result.counts.now grammar.now.rules result.descent.next }
-    ensures levels { told_levels result.descent.by result.counts.now grammar.now.rules result.descent.next ≡ levels_to grammar.now.rules number }
+    requires marks { AreMarks names.now grammar.now.rules marks.old }
+    ensures ready { AreTold result.rest.descent.by result.rest.counts.now grammar.now.rules result.rest.descent.next }
+    ensures levels { started result.first (told_levels result.rest.descent.by result.rest.counts.now grammar.now.rules result.rest.descent.next) ≡ levels_to grammar.now.rules number }
+    ensures marks { (H : List KeyedRule) → IsSameBeforeFirst (levels_to grammar.now.rules number) grammar.now.rules H → AreMarks names.now H marks.new }
 {
     // The call tells what is true of every grammar.
     let _limit = grammar.limit();
-    let descent = locate(counts, number).unwrap();
-    descent.over(counts)
+    let PlaceStart { level, first, rest } = begin_node(
+        grammar, counts, names, number, marks, steps,
+    );
+    marks.cut(first);
+    rest.behind(level, counts)
 }

@@ -2,8 +2,8 @@ use Rattle.std.proofs.Common.{ℕ, ◌+◌, ◌-◌, ◌∙◌, ◌<◌, ◌^◌
 use Rattle.std.specs.Prelude.{sum}
 use Rattle.rule_arena.specs.Terms.{Node}
 use Rattle.slt_grammar.specs.Keyed.{nodes_at, rules_of}
-use Rattle.slt_grammar.proofs.KeyedLemmas.{key_at-within}
-use Rattle.slt_grammar.proofs.TourLemmas.{length-node_tour}
+use Rattle.slt_grammar.proofs.KeyedLemmas.{key_at-within, length-rules_of}
+use Rattle.slt_grammar.proofs.TourLemmas.{length-node_tour, params-preorder}
 use Rattle.slt_grammar.proofs.TourWalking.{node-key}
 use Rattle.segment_counts.specs.Weights.{node_weight}
 use Rattle.preorder_address.specs.Ranges.{WeighsRange}
@@ -156,3 +156,10 @@ returns-clause-steps g c =
     let k = (node-key (nodes_at a.grammar.now.rules a.rule) t.0 t.1 t.2 ∙ ap Some t.3) in
     let h = key_at-within a.grammar.now.rules a.rule t.0 a.key k in
     omega (arith, c.first_kid_weights-weights.ensures.steps a.rule t.0 k, c.first_kid_weights-counted.ensures.steps a.rule t.0 k, c.params_before-before.ensures.steps, length-node_tour a.grammar.now c.requires.keyed a.rule h.0)
+
+pub closed_range_weight-requires-clause-closed : goal.closed_range_weight-requires-clause-closed
+closed_range_weight-requires-clause-closed g c =
+    let a = c.args in
+    let t = c.requires.there in
+    let h = key_at-within a.grammar.now.rules a.rule t.0 a.key (node-key (nodes_at a.grammar.now.rules a.rule) t.0 t.1 t.2 ∙ ap Some t.3) in
+    omega (arith, params-preorder (rules_of a.grammar.now.rules) a.rule c.requires.keyed.grammar (omega (arith, h.0, length-rules_of a.grammar.now.rules)), c.rank.ensures, c.if-rank-eq0.true)

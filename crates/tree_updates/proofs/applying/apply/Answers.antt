@@ -1,6 +1,6 @@
-use Rattle.std.proofs.Common.{sym, subst}
+use Rattle.std.proofs.Common.{List, sym, subst}
 use Rattle.preorder_address.specs.Marks.{AreMarks}
-use Rattle.preorder_address.specs.declared.marks.Marks.{Marks}
+use Rattle.preorder_address.specs.declared.marks.Mark.{Mark}
 use Rattle.tree_updates.proofs.AppliedMarks.{applies-marked, marked, names-grow, store-marked}
 use Rattle.tree_updates.proofs.applying.apply.Goals as goal
 
@@ -16,7 +16,7 @@ returns-clause-applies g c = λ t i.
 pub make-result-requires-clause-marks : goal.make-result-requires-clause-marks
 make-result-requires-clause-marks g c =
     let s = c.args.store.now in
-    subst (λ (m : Marks). AreMarks s.names s.grammar.rules m) (sym c.replace-marks.ensures.value) c.requires.marks
+    subst (λ (m : List Mark). AreMarks s.names s.grammar.rules m) (sym c.replace-marks.ensures.value) c.requires.marks
 
 pub returns-clause-marks : goal.returns-clause-marks
 returns-clause-marks g c =

@@ -1,7 +1,7 @@
 use Rattle.std.proofs.Common.{◌+◌, length, ap, arith}
 use Rattle.plain_tree.specs.declared.edit.Edit.TheVariants.{Attr}
 use Rattle.plain_tree.specs.EditLaws.{IsEditOf}
-use Rattle.tree_updates.proofs.AttributePlaces.{before-low, place-fits}
+use Rattle.tree_updates.proofs.AttributePlaces.{before-low, element-other, place-fits}
 use Rattle.tree_updates.proofs.GrownStores.{texts-few}
 use Rattle.tree_updates.proofs.NodeExtents.{spot-low}
 use Rattle.tree_updates.proofs.OldAttributes.{attribute-applies, old-rank, value-allowed}
@@ -13,11 +13,15 @@ use Rattle.tree_updates.proofs.Fronts.{cut-stay}
 use Rattle.tree_updates.proofs.IsolatedPlaces.{places-coded}
 use Rattle.tree_updates.proofs.attribute_setting.set_attribute.Goals as goal
 
-pub find_attribute-requires : goal.find_attribute-requires
-find_attribute-requires g c =
+pub find_attribute-requires-clause-store : goal.find_attribute-requires-clause-store
+find_attribute-requires-clause-store g c =
     let s = c.args.store.now in
-    let r = c.requires.store in
-    record { store = (r.0, r.1, spot-low s.names s.grammar.rules r.0 c.args.number c.in_ok-spot.spot r.1.stand.code c.in_ok-spot.ensures.spot) }
+    let r = c.requires.store in (
+      r.0,
+      r.1,
+      spot-low s.names s.grammar.rules r.0 c.args.number c.in_ok-spot.spot r.1.stand.code c.in_ok-spot.ensures.spot,
+      element-other r.0 c.args.number c.args.name.now c.args.value.now (c.in_ok-spot.ensures.answer r.0 c.args.name.now c.args.value.now r.1),
+    )
 
 pub overflow_add-number : goal.overflow_add-number
 overflow_add-number g c =
@@ -31,7 +35,7 @@ overflow_add-number-then-place g c =
     let x = c.args.name.now in
     let w = c.args.value.now in
     let edit : IsEditOf r.0 (Attr c.args.number x w) = record { document_is = r.1.stand.document; allowed = c.in_ok-spot.ensures.answer r.0 x w r.1; parts = (c.requires.name, c.requires.chars) } in
-    omega (arith, before-low r.0 c.args.number x w edit c.in_ok-place.place (c.in_ok-place.ensures r.0 r.1), r.1.small)
+    omega (arith, before-low r.0 c.args.number x w edit c.in_ok-place.place (c.in_ok-place.ensures.place r.0 r.1 (element-other r.0 c.args.number x w (c.in_ok-spot.ensures.answer r.0 x w r.1))), r.1.small)
 
 pub overflow_add-rank : goal.overflow_add-rank
 overflow_add-rank g c =
@@ -41,7 +45,7 @@ overflow_add-rank g c =
     let x = c.args.name.now in
     let w = c.args.value.now in
     let edit : IsEditOf r.0 (Attr n x w) = record { document_is = r.1.stand.document; allowed = c.in_ok-spot.ensures.answer r.0 x w r.1; parts = (c.requires.name, c.requires.chars) } in
-    let place = c.in_ok-place.ensures r.0 r.1 in
+    let place = c.in_ok-place.ensures.place r.0 r.1 (element-other r.0 c.args.number x w (c.in_ok-spot.ensures.answer r.0 x w r.1)) in
     let rank = c.text_rank.result + c.in_ok-place.place.before in
     let told = old-rank s r.0 r.1 n x w edit c.in_ok-place.place place c.if-place.true c.text_rank.result (c.text_rank.ensures s.names s.grammar.rules n r.0 c.in_ok-spot.ensures.spot r.1.stand.code) in
     let within = rank-within s r.0 r.1 (n + 1 + c.in_ok-place.place.before) w c.requires.chars (value-allowed s r.0 r.1 n x w edit c.in_ok-place.place place c.if-place.true) rank told in
@@ -55,7 +59,7 @@ put_value-requires-clause-store g c =
     let x = c.args.name.now in
     let w = c.args.value.now in
     let edit : IsEditOf r.0 (Attr n x w) = record { document_is = r.1.stand.document; allowed = c.in_ok-spot.ensures.answer r.0 x w r.1; parts = (c.requires.name, c.requires.chars) } in
-    let place = c.in_ok-place.ensures r.0 r.1 in (
+    let place = c.in_ok-place.ensures.place r.0 r.1 (element-other r.0 c.args.number x w (c.in_ok-spot.ensures.answer r.0 x w r.1)) in (
       r.0,
       r.1,
       value-allowed s r.0 r.1 n x w edit c.in_ok-place.place place c.if-place.true,
@@ -69,7 +73,7 @@ returns-then-place-clause-applies g c = λ t i.
     let x = c.args.name.now in
     let w = c.args.value.now in
     let edit : IsEditOf t (Attr n x w) = record { document_is = i.stand.document; allowed = c.in_ok-spot.ensures.answer t x w i; parts = (c.requires.name, c.requires.chars) } in
-    let place = c.in_ok-place.ensures t i in
+    let place = c.in_ok-place.ensures.place t i (element-other t c.args.number x w (c.in_ok-spot.ensures.answer t x w i)) in
     let rank = old-rank s t i n x w edit c.in_ok-place.place place c.if-place.true c.text_rank.result (c.text_rank.ensures s.names s.grammar.rules n t c.in_ok-spot.ensures.spot i.stand.code) in
     attribute-applies s t i n x w edit c.in_ok-place.place place c.if-place.true c.put_value.result c.put_value.new.store
     (c.put_value.ensures.applies t i (value-allowed s t i n x w edit c.in_ok-place.place place c.if-place.true) rank)
@@ -80,7 +84,7 @@ attribute_site-site-requires-clause-store g c =
     let x = c.args.name.now in
     let w = c.args.value.now in
     let edit : IsEditOf r.0 (Attr c.args.number x w) = record { document_is = r.1.stand.document; allowed = c.in_ok-spot.ensures.answer r.0 x w r.1; parts = (c.requires.name, c.requires.chars) } in
-    (r.0, w, r.1, edit, c.in_ok-place.ensures r.0 r.1)
+    (r.0, w, r.1, edit, c.in_ok-place.ensures.place r.0 r.1 (element-other r.0 c.args.number x w (c.in_ok-spot.ensures.answer r.0 x w r.1)))
 
 pub add_attribute-requires-clause-store : goal.add_attribute-requires-clause-store
 add_attribute-requires-clause-store g c =
@@ -88,14 +92,14 @@ add_attribute-requires-clause-store g c =
     let x = c.args.name.now in
     let w = c.args.value.now in
     let edit : IsEditOf r.0 (Attr c.args.number x w) = record { document_is = r.1.stand.document; allowed = c.in_ok-spot.ensures.answer r.0 x w r.1; parts = (c.requires.name, c.requires.chars) } in
-    (r.0, c.args.number, r.1, edit, c.attribute_site-site.ensures r.0 w r.1 edit (c.in_ok-place.ensures r.0 r.1))
+    (r.0, c.args.number, r.1, edit, c.attribute_site-site.ensures r.0 w r.1 edit (c.in_ok-place.ensures.place r.0 r.1 (element-other r.0 c.args.number x w (c.in_ok-spot.ensures.answer r.0 x w r.1))))
 
 pub returns-clause-applies : goal.returns-clause-applies
 returns-clause-applies g c = λ t i.
     let x = c.args.name.now in
     let w = c.args.value.now in
     let edit : IsEditOf t (Attr c.args.number x w) = record { document_is = i.stand.document; allowed = c.in_ok-spot.ensures.answer t x w i; parts = (c.requires.name, c.requires.chars) } in
-    c.add_attribute.ensures.applies t c.args.number i edit (c.attribute_site-site.ensures t w i edit (c.in_ok-place.ensures t i))
+    c.add_attribute.ensures.applies t c.args.number i edit (c.attribute_site-site.ensures t w i edit (c.in_ok-place.ensures.place t i (element-other t c.args.number x w (c.in_ok-spot.ensures.answer t x w i))))
 
 pub returns-in_err-place-clause-applies : goal.returns-in_err-place-clause-applies
 returns-in_err-place-clause-applies g c =
@@ -112,7 +116,7 @@ find_place-requires-clause-low g c =
     let x = c.args.name.now in
     let w = c.args.value.now in
     let edit : IsEditOf r.0 (Attr c.args.number x w) = record { document_is = r.1.stand.document; allowed = c.in_ok-spot.ensures.answer r.0 x w r.1; parts = (c.requires.name, c.requires.chars) } in
-    let site = c.attribute_site-site.ensures r.0 w r.1 edit (c.in_ok-place.ensures r.0 r.1) in
+    let site = c.attribute_site-site.ensures r.0 w r.1 edit (c.in_ok-place.ensures.place r.0 r.1 (element-other r.0 c.args.number x w (c.in_ok-spot.ensures.answer r.0 x w r.1))) in
     omega (arith, place-fits r.0 c.args.number x w edit s.names c.attribute_site-site.result site, places-coded s.names s.grammar.rules r.0 r.1.stand.code)
 
 pub returns-in_err-end-clause-applies : goal.returns-in_err-end-clause-applies

@@ -39,12 +39,12 @@ delete_apart-requires-clause-store g c =
     let r = c.requires.store in
     (r.0, r.1, c.in_ok-spot.ensures.answer r.0 r.1, (c.in_ok-span.ensures.span r.0 (coded a r.0 (unswept a r.0 r.1))).extent)
 
-pub delete_between-requires : goal.delete_between-requires
-delete_between-requires g c =
+pub delete_between-requires-clause-store : goal.delete_between-requires-clause-store
+delete_between-requires-clause-store g c =
     let a = c.args.store.now in
     let r = c.requires.store in
     let x = c.in_ok-span.ensures.span r.0 (coded a r.0 (unswept a r.0 r.1)) in
-    record { store = (r.0, r.1, c.in_ok-spot.ensures.answer r.0 r.1, x.extent, beside-there c.args.store.now c.args.number c.in_ok-span.span c.in_ok-found.found c.in-Some.beside c.in-Some.is c.in_ok-found.ensures.meets r.0 r.1 x) }
+    (r.0, r.1, c.in_ok-spot.ensures.answer r.0 r.1, x.extent, beside-there c.args.store.now c.args.number c.in_ok-span.span c.in_ok-found.found c.in-Some.beside c.in-Some.is c.in_ok-found.ensures.meets r.0 r.1 x)
 
 pub returns-in-None-clause-applies : goal.returns-in-None-clause-applies
 returns-in-None-clause-applies g c = λ t i.
@@ -63,6 +63,3 @@ returns-in-None-clause-marks g c =
     let s = c.args.store.now in
     c.delete_apart.ensures.marks s.names c.cut.new.self
     (cut-stay s.names s.grammar c.in_ok-spot.spot.levels.items c.in_ok-spot.spot.first c.first.result c.meeting_texts.new.marks c.cut.new.self c.cut.ensures c.limit-limit.ensures.keyed c.meeting_texts.ensures.marks c.first.ensures c.in_ok-spot.ensures.first)
-
-pub returns-clause-marks : goal.returns-clause-marks
-returns-clause-marks g c = c.clear.ensures c.args.store.now.names c.delete_between.new.store.grammar.rules

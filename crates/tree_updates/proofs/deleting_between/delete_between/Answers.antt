@@ -8,6 +8,8 @@ use Rattle.plain_tree.specs.Tree.{Tree}
 use Rattle.slt_grammar.specs.Grammars.{size}
 use Rattle.slt_grammar.specs.Keyed.{KeyedRule, rules_of}
 use Rattle.text_list.specs.RoomyTexts.{RoomyTexts}
+use Rattle.plain_tree.specs.NodePairs.{Pair}
+use Rattle.preorder_address.specs.Marks.{AreMarks, MarksFirst}
 use Rattle.preorder_address.specs.Spots.{IsSpot}
 use Rattle.preorder_address.specs.TreeNumbers.{text_rank_at}
 use Rattle.tree_updates.specs.Extents.{IsExtentOf, IsUnsweptFor, StandsBetween}
@@ -17,6 +19,7 @@ use Rattle.tree_updates.specs.declared.node_extent.Extent.{Extent}
 use Rattle.tree_updates.specs.declared.store.Store.{Store}
 use Rattle.tree_updates.proofs.BetweenStores.{joined-store, store-steps, text-there, thrice, tripled}
 use Rattle.tree_updates.proofs.BetweenTexts.{AreSteps, valued_left, without_right}
+use Rattle.tree_updates.proofs.Fronts.{cut-stay}
 use Rattle.tree_updates.proofs.NodeExtents.{extent-is}
 use Rattle.tree_updates.proofs.NodeWays.{node-low, own-node, some-rules}
 use Rattle.tree_updates.proofs.deleting_between.delete_between.Goals as goal
@@ -160,30 +163,49 @@ sweep-requires g c =
     let v = c.take_out.ensures.store (valued s r.0 i n m b r.2) u x S.right_leaves in
     record { store = (placed T (Delete n), c.take_out_located.ensures.store T v (S.node_extent c.args.extent r.3) S.node_leaves) }
 
-pub returns : goal.returns
-returns g c = record {
-  applies = λ t o allowed ext B.
-      let a = c.args.store.now in
-      let s = c.reserve_twice.new.store in
-      let j = c.in_ok-joined.joined in
-      let n : ℕ = c.args.number in
-      let m : ℕ = c.args.beside.now.number in
-      let b = B.between in
-      let i = c.reserve_twice.ensures.store t o in
-      let S = steps s t i n m b allowed in
-      let u = joined s t i n m b allowed j.rank (c.in_ok-joined.ensures.rank t n o B) j.value (c.in_ok-joined.ensures.value t n B o) c.set.new.self c.set.ensures.texts in
-      let x = right s t i n m b allowed c.text_rank.result (c.text_rank.ensures a.names a.grammar.rules m t B.right o.stand.code) c.text_extent-right.result c.text_extent-right.ensures in
-      let T : Tree = two s t i n m b allowed in
-      let v = c.take_out.ensures.store (valued s t i n m b allowed) u x S.right_leaves in
-      let z = c.take_out_located.ensures.store T v (S.node_extent c.args.extent ext) S.node_leaves in
-      let e = c.reserve_twice.ensures.rules in
-      let G : List KeyedRule = s.grammar.rules in
-      let tripled-size = thrice G c.take_out.new.store.grammar.rules c.take_out_located.new.store.grammar.rules (some-rules G c.limit-before.ensures.keyed.grammar) c.take_out.ensures.others c.take_out.ensures.most c.take_out_located.ensures.most in
-      record {
-        allowed = allowed;
-        store = subst (IsStoreFor c.sweep.new.store) (sym S.edited_is) (c.sweep.ensures.store (placed T (Delete n)) z);
-        names = c.sweep.ensures.names ∙ c.take_out_located.ensures.names ∙ c.take_out.ensures.names ∙ c.reserve_twice.ensures.names;
-        size = tripled (size (rules_of c.args.store.now.grammar.rules)) (size (rules_of c.sweep.new.store.grammar.rules)) (merged t (Delete n)) S.one_merged
-            (omega (arith, tripled-size, c.sweep.ensures.size, ap (λ (R : List KeyedRule). size (rules_of R)) e));
-      };
-}
+pub returns-clause-applies : goal.returns-clause-applies
+returns-clause-applies g c =
+    λ t o allowed ext B.
+    let a = c.args.store.now in
+    let s = c.reserve_twice.new.store in
+    let j = c.in_ok-joined.joined in
+    let n : ℕ = c.args.number in
+    let m : ℕ = c.args.beside.now.number in
+    let b = B.between in
+    let i = c.reserve_twice.ensures.store t o in
+    let S = steps s t i n m b allowed in
+    let u = joined s t i n m b allowed j.rank (c.in_ok-joined.ensures.rank t n o B) j.value (c.in_ok-joined.ensures.value t n B o) c.set.new.self c.set.ensures.texts in
+    let x = right s t i n m b allowed c.text_rank.result (c.text_rank.ensures a.names a.grammar.rules m t B.right o.stand.code) c.text_extent-right.result c.text_extent-right.ensures in
+    let T : Tree = two s t i n m b allowed in
+    let v = c.take_out.ensures.store (valued s t i n m b allowed) u x S.right_leaves in
+    let z = c.take_out_located.ensures.store T v (S.node_extent c.args.extent ext) S.node_leaves in
+    let e = c.reserve_twice.ensures.rules in
+    let G : List KeyedRule = s.grammar.rules in
+    let tripled-size = thrice G c.take_out.new.store.grammar.rules c.take_out_located.new.store.grammar.rules (some-rules G c.limit-before.ensures.keyed.grammar) c.take_out.ensures.others c.take_out.ensures.most c.take_out_located.ensures.most in
+    record {
+      allowed = allowed;
+      store = subst (IsStoreFor c.sweep.new.store) (sym S.edited_is) (c.sweep.ensures.store (placed T (Delete n)) z);
+      names = c.sweep.ensures.names ∙ c.take_out_located.ensures.names ∙ c.take_out.ensures.names ∙ c.reserve_twice.ensures.names;
+      size = tripled (size (rules_of c.args.store.now.grammar.rules)) (size (rules_of c.sweep.new.store.grammar.rules)) (merged t (Delete n)) S.one_merged
+          (omega (arith, tripled-size, c.sweep.ensures.size, ap (λ (R : List KeyedRule). size (rules_of R)) e));
+    }
+
+-- the marks before the right text's are marks without it
+pub take_out_located-requires-clause-marks : goal.take_out_located-requires-clause-marks
+take_out_located-requires-clause-marks g c =
+    let a = c.args.store.now in
+    let s = c.reserve_twice.new.store in
+    let e = sym c.reserve_twice.ensures.rules in
+    let right = c.args.beside.now.right in
+    let own = subst (λ (R : List KeyedRule). MarksFirst a.names R right.levels.items right.first) e c.requires.first in
+    let old = subst (λ (R : List KeyedRule). AreMarks a.names R c.args.marks.now) e c.requires.marks in
+    let new = cut-stay a.names s.grammar right.levels.items right.first c.first.result c.args.marks.now c.cut.new.self c.cut.ensures c.limit-before.ensures.keyed old c.first.ensures own c.take_out.new.store.grammar.rules c.take_out.ensures.front in
+    subst (λ (ns : List Pair). AreMarks ns c.take_out.new.store.grammar.rules c.cut.new.self) (sym (c.take_out.ensures.names ∙ c.reserve_twice.ensures.names)) new
+
+pub returns-clause-marks : goal.returns-clause-marks
+returns-clause-marks g c =
+    let new = subst (λ (ns : List Pair). AreMarks ns c.take_out_located.new.store.grammar.rules c.take_out_located.new.marks) (c.take_out.ensures.names ∙ c.reserve_twice.ensures.names) c.take_out_located.ensures.marks in
+    c.sweep.ensures.marks c.args.store.now.names c.take_out_located.new.marks new
+
+pub returns-in_err-reserve_twice-clause-marks : goal.returns-in_err-reserve_twice-clause-marks
+returns-in_err-reserve_twice-clause-marks g c = subst (λ (R : List KeyedRule). AreMarks c.args.store.now.names R c.args.marks.now) (sym c.reserve_twice.ensures.rules) c.requires.marks

@@ -5,13 +5,13 @@ use Rattle.plain_tree.specs.declared.kind.Kind.{Kind}
 use Rattle.tree_updates.proofs.NameableNodes.{allowed-name, at-told, element-named, name-allowed, never-named}
 use Rattle.tree_updates.proofs.renaming.may_be_named.Goals as goal
 
-pub returns-in-Element : goal.returns-in-Element
-returns-in-Element g c = λ t i told.
+pub returns-in-Element-clause-allowed : goal.returns-in-Element-clause-allowed
+returns-in-Element-clause-allowed g c = λ t i told.
     let p = (at-told t c.args.number c.args.kind told).place in
     (λ h. name-allowed t c.args.number c.args.kind told c.args.name.now (element-named c.args.name.now c.args.kind p.before p.behind c.in-Element.is), λ h. refl)
 
-pub returns-in-Instruction : goal.returns-in-Instruction
-returns-in-Instruction g c = λ t i told.
+pub returns-in-Instruction-clause-allowed : goal.returns-in-Instruction-clause-allowed
+returns-in-Instruction-clause-allowed g c = λ t i told.
     let p = (at-told t c.args.number c.args.kind told).place in
     let x = c.args.name.now in
     let k : Kind = c.args.kind in
@@ -20,7 +20,7 @@ returns-in-Instruction g c = λ t i told.
       λ h. c.is_lawful_name.ensures.1 (subst (λ (j : Kind). IsLawfulName j x) (sym is) (subst (λ (j : Kind). MayBeNamed x j p.before p.behind) is (allowed-name t c.args.number k told x h))),
     )
 
-pub returns-in_default : goal.returns-in_default
-returns-in_default g c = λ t i told.
+pub returns-in_default-clause-allowed : goal.returns-in_default-clause-allowed
+returns-in_default-clause-allowed g c = λ t i told.
     let p = (at-told t c.args.number c.args.kind told).place in
     (λ h. cc, λ h. absurd (never-named c.args.name.now c.args.kind p.before p.behind c.in_default.not-Element c.in_default.not-Attribute c.in_default.not-Instruction (allowed-name t c.args.number c.args.kind told c.args.name.now h)))

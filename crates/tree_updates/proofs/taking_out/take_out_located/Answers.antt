@@ -5,12 +5,13 @@ use Rattle.slt_grammar.specs.Keyed.{rules_of}
 use Rattle.slt_grammar.specs.Standing.{StandsFor}
 use Rattle.slt_grammar.specs.declared.level.Level.{Level}
 use Rattle.path_isolation.specs.Isolations.{room_along}
+use Rattle.tree_updates.specs.Fronts.{IsSameBeforeFirst}
 use Rattle.tree_updates.proofs.NodeExtents.{all-go, extent-low, fits, left-less, left-nodes, left-stands, nodes-go, texts-go}
 use Rattle.tree_updates.proofs.NodeWays.{lead-there, node-low}
 use Rattle.tree_updates.proofs.taking_out.take_out_located.Goals as goal
 
 pub way_to-way-requires-clause-counts : goal.way_to-way-requires-clause-counts
-way_to-way-requires-clause-counts g c = let r = c.requires.store in (c.args.store.now.names, r.1.counts)
+way_to-way-requires-clause-counts g c = c.requires.store.1.counts
 
 pub way_to-way-requires-clause-low : goal.way_to-way-requires-clause-low
 way_to-way-requires-clause-low g c = let r = c.requires.store in node-low c.args.store.now.names c.args.store.now.grammar.rules r.0 c.args.number r.1.stand.code (extent-low r.0 c.args.number c.args.extent r.2)
@@ -74,3 +75,9 @@ returns-clause-store g c = λ t s x v.
       counts = c.lower_start.ensures.counts a.names G H s.counts c.lift_along.ensures.values (left-less G H a.names a.texts.texts t s.stand n low e x loses v);
       index = c.lift_along.ensures.index;
     }
+
+pub returns-clause-marks : goal.returns-clause-marks
+returns-clause-marks g c =
+    let G = c.args.store.now.grammar.rules in
+    let H = c.lift_along.new.grammar.rules in
+    c.way_to-way.ensures.marks H (subst (λ (ls : List Level). IsSameBeforeFirst ls G H) c.way_to-way.ensures.levels c.lift_along.ensures.front)

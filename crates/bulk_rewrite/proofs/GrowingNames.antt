@@ -1,5 +1,5 @@
 -- The names that come while nodes are renamed.
-use Rattle.std.proofs.Common.{◌≡◌, ℕ, not, List, [], ◌∷◌, ◌++◌, length, map, take, filter, cond, Bool, true, false, Option, Some, slice_get, slice_index_or, refl, sym, ap, ◌∙◌, subst, inl, inr, append_assoc, take_all, le_refl}
+use Rattle.std.proofs.Common.{◌≡◌, ℕ, not, List, [], ◌∷◌, ◌++◌, length, map, take, filter, cond, All, Bool, true, false, Option, Some, slice_get, slice_index_or, refl, sym, ap, ◌∙◌, subst, inl, inr, append_assoc, take_all, le_refl}
 use Rattle.std.specs.List.{AllZip}
 use Rattle.std.proofs.Math.Seq.{take-append_seam}
 use Rattle.std.proofs.lemmas.List.Elements.{All-cons, All-nil, All-head, All-tail}
@@ -9,7 +9,7 @@ use Rattle.plain_tree.specs.Tree.{Tree, node, none, more}
 use Rattle.slt_grammar.specs.Coding.{Codes}
 use Rattle.slt_grammar.specs.Terms.{Term}
 use Rattle.fcns_encoding.specs.Interning.{IsIn, Interns}
-use Rattle.fcns_encoding.proofs.InternLemmas.{Codes-keeps, Interns-append, Interns-keeps}
+use Rattle.fcns_encoding.proofs.InternLemmas.{Codes-keeps, Interns-append, Interns-keeps, get-front}
 use Rattle.bulk_rewrite.specs.NewNames.{FirstLacks, AreIn, TellsKnown}
 use Rattle.bulk_rewrite.specs.Refusing.{no_sign, signs_of}
 use Rattle.bulk_rewrite.specs.declared.refusing.Sign.{Sign}
@@ -141,3 +141,29 @@ module _ (names : List Pair) (name : List ℕ) (signs : List Sign) (told : AllZi
       by_allowed : (b : Bool) → (signs_of signs).allowed g ≡ b → (filter lacks fs ≡ [] → AreIn names (map (pair_with name) ss)) → cond (not b) (g ∷ filter lacks fs) (filter lacks fs) ≡ [] → AreIn names (map (pair_with name) (node k o v ks ∷ ss))
       by_allowed true h ih x = All-cons (λ p. IsIn p names) (k, name) (map (pair_with name) ss) ((sign g (k, o) a.0).known h) (ih x)
       by_allowed false h ih x = absurd (cc)
+
+  -- where those that lack are all one symbol, no pair lacks once that symbol's kind has the name
+  pub only-lacks : (fs : List ℕ) (ss : List Tree) → AllZip (IsOf names) fs ss → (f : ℕ) → All (λ g. g ≡ f) (filter lacks fs) → (p : Pair) → slice_get names f ≡ Some p → AreIn (names ++ (p.0, name) ∷ []) (map (pair_with name) ss)
+  only-lacks [] [] a f e p at = All-nil (λ q. IsIn q (names ++ (p.0, name) ∷ []))
+  only-lacks [] (s ∷ ss) a f e p at = absurd a
+  only-lacks (g ∷ fs) [] a f e p at = absurd a
+  only-lacks (g ∷ fs) (node k o v ks ∷ ss) a f e p at = by_allowed ((signs_of signs).allowed g) refl (λ x. only-lacks fs ss a.1 f x p at) e
+    where
+      new : List Pair
+      new = names ++ (p.0, name) ∷ []
+
+      In : Pair → Type 0
+      In q = IsIn q new
+
+      there : IsIn (k, name) names → In (k, name)
+      there i = (i.0, get-front names ((p.0, name) ∷ []) i.0 (k, name) i.1)
+
+      come : g ≡ f → In (k, name)
+      come same =
+          let pairs : ◌≡◌ {A = Option Pair} (Some (k, o)) (Some p) = sym a.0 ∙ ap (slice_get names) same ∙ at in
+          let one : ◌≡◌ {A = Pair} (k, o) p = cc in
+          subst In (sym (ap (λ (q : Pair). (q.0, name)) one)) (length names, get-last names (p.0, name))
+
+      by_allowed : (b : Bool) → (signs_of signs).allowed g ≡ b → (All (λ h. h ≡ f) (filter lacks fs) → AreIn new (map (pair_with name) ss)) → All (λ h. h ≡ f) (cond (not b) (g ∷ filter lacks fs) (filter lacks fs)) → AreIn new (map (pair_with name) (node k o v ks ∷ ss))
+      by_allowed true h ih x = All-cons In (k, name) (map (pair_with name) ss) (there ((sign g (k, o) a.0).known h)) (ih x)
+      by_allowed false h ih x = All-cons In (k, name) (map (pair_with name) ss) (come (All-head (λ h. h ≡ f) g (filter lacks fs) x)) (ih (All-tail (λ h. h ≡ f) g (filter lacks fs) x))

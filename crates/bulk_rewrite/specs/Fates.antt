@@ -40,6 +40,11 @@ redone [] vs = record { front = []; values = [] }
 redone (x ∷ xs) [] = record { front = []; values = [] }
 redone (x ∷ xs) (v ∷ vs) = redone_one x v (redone xs vs)
 
+-- the same of values that all have one fate, before others
+abbrev pub redone_alike : Fate → List (List ℕ) → Redone → Redone
+redone_alike x [] r = r
+redone_alike x (v ∷ vs) r = redone_one x v (redone_alike x vs r)
+
 -- what of trees is a part of the text before them
 abbrev pub met_front : Before → Rests → List ℕ
 met_front NoText ts = []

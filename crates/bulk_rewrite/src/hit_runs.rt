@@ -7,7 +7,7 @@ ghost use Rattle.rule_runs.specs.Notes.{IsRisen};
 ghost use Rattle.bulk_rewrite.specs.FirstHits.{IsFirstHit};
 
 use read_steps::Steps;
-use rule_runs::{Answers, Hit, RiseTable, Spent, fall};
+use rule_runs::{Answers, RiseTable, Spent, fall};
 use slt_grammar::{Falling, Grammar};
 use std::alloc::{AllocError, Global};
 use std::sync::ledger::Ledger;
@@ -28,22 +28,34 @@ pub(crate) fn hits_nothing<A: Falling, L: Ledger>(
     Ok(fallen.count() == 0)
 }
 
-// The first node that is hit, if there is one.
+// The symbol of the first node that is hit, and whether all that are hit are seen to have it.
+#[derive(Clone, Copy, Drop)]
+pub(crate) struct FirstHit {
+    pub(crate) symbol: usize,
+    pub(crate) only: bool,
+}
+
+// What is told of the first node that is hit, if there is one.
 pub(crate) fn first_hit<A: Falling, L: Ledger>(
     alloc: Global,
     grammar: &Grammar,
     automaton: &A,
     risen: &RiseTable<A::State>,
     steps: &mut Steps<L>,
-) -> Result<Option<Hit>, AllocError>
+) -> Result<Option<FirstHit>, AllocError>
     requires run { IsRisen (A.algebra automaton.now) (rules_of grammar.now.rules) risen.now }
     requires small { nodes_in (value (rules_of grammar.now.rules)) < 2 ^ 63 }
     ensures { IfOk result (IsFirstHit (A.algebra automaton.now) (A.downward automaton.now) (value (rules_of grammar.now.rules))) }
 {
     let fallen = fall(alloc, grammar, automaton, risen, unspent(), true, steps)?;
     let mut answers = Answers::new(alloc, &fallen)?;
-    let hit = answers.next_hit()?;
-    Ok(hit)
+    match answers.next_alike()? {
+        Some(hits) => Ok(Some(FirstHit {
+            symbol: hits.symbol,
+            only: hits.count == fallen.count(),
+        })),
+        None => Ok(None),
+    }
 }
 
 // No down state from which nothing is hit is known.

@@ -1,5 +1,5 @@
 // The names that nodes get which are hit come to the table.
-ghost use Rattle.std.specs.Prelude.{◌≡◌, ◌<◌, ◌^◌, ℕ, IfOk, IfSome, IfNone, OnOk, OnErr, take};
+ghost use Rattle.std.specs.Prelude.{◌≡◌, ◌<◌, ◌^◌, ◌++◌, ◌∷◌, ℕ, [], true, IfOk, IfSome, IfNone, OnOk, OnErr, take};
 ghost use Rattle.plain_tree.specs.Tree.{Tree, none, more};
 ghost use Rattle.fcns_encoding.specs.Interning.{Interns};
 ghost use Rattle.slt_grammar.specs.Automata.{hits, nodes_in};
@@ -20,6 +20,13 @@ use slt_grammar::{Falling, Grammar};
 use std::alloc::{AllocError, Global};
 use std::sync::ledger::Ledger;
 
+// A kind that doesn't have the name in the table, and whether it is seen to be the only one among the nodes that are hit.
+#[derive(Clone, Copy, Drop)]
+struct Lacking {
+    kind: Kind,
+    only: bool,
+}
+
 // The kinds of the nodes that are hit come to the table with the name, in document order. Each run downward finds the next of them, and there
 // are few kinds.
 pub(crate) fn grow_names<A: Falling, L: Ledger>(
@@ -37,10 +44,13 @@ pub(crate) fn grow_names<A: Falling, L: Ledger>(
     ensures grown { OnOk result ((t : Tree) → Codes names.old (more t none) (value (rules_of grammar.now.rules)) → Interns names.old (renamed_pairs (hits (A.algebra automaton.now) (A.downward automaton.now) (value (rules_of grammar.now.rules))) name.now t) names.new) }
     ensures some { OnErr result ((t : Tree) → Codes names.old (more t none) (value (rules_of grammar.now.rules)) → (k : ℕ) × Interns names.old (take k (renamed_pairs (hits (A.algebra automaton.now) (A.downward automaton.now) (value (rules_of grammar.now.rules))) name.now t)) names.new) }
 {
-    'kinds: while let Some(kind) = first_lacking(
+    'kinds: while let Some(lacking) = first_lacking(
         alloc, grammar, names, automaton, risen, name, steps,
     )? {
-        names.intern(alloc, kind, name)?;
+        names.intern(alloc, lacking.kind, name)?;
+        if lacking.only {
+            return Ok(());
+        }
     }
     Ok(())
 }
@@ -54,11 +64,12 @@ fn first_lacking<A: Falling, L: Ledger>(
     risen: &RiseTable<A::State>,
     name: &[u8],
     steps: &mut Steps<L>,
-) -> Result<Option<Kind>, AllocError>
+) -> Result<Option<Lacking>, AllocError>
     requires run { IsRisen (A.algebra automaton.now) (rules_of grammar.now.rules) risen.now }
     requires small { nodes_in (value (rules_of grammar.now.rules)) < 2 ^ 63 }
     requires coded { (t : Tree) × Codes names.now (more t none) (value (rules_of grammar.now.rules)) }
-    ensures first { IfOk result (λ found. IfSome found (λ kind. (t : Tree) → Codes names.now (more t none) (value (rules_of grammar.now.rules)) → FirstLacks names.now (renamed_pairs (hits (A.algebra automaton.now) (A.downward automaton.now) (value (rules_of grammar.now.rules))) name.now t) (kind, name.now))) }
+    ensures first { IfOk result (λ found. IfSome found (λ lacking. (t : Tree) → Codes names.now (more t none) (value (rules_of grammar.now.rules)) → FirstLacks names.now (renamed_pairs (hits (A.algebra automaton.now) (A.downward automaton.now) (value (rules_of grammar.now.rules))) name.now t) (lacking.kind, name.now))) }
+    ensures only { IfOk result (λ found. IfSome found (λ lacking. lacking.only ≡ true → (t : Tree) → Codes names.now (more t none) (value (rules_of grammar.now.rules)) → AreIn (names.now ++ (lacking.kind, name.now) ∷ []) (renamed_pairs (hits (A.algebra automaton.now) (A.downward automaton.now) (value (rules_of grammar.now.rules))) name.now t))) }
     ensures none { IfOk result (λ found. IfNone found ((t : Tree) → Codes names.now (more t none) (value (rules_of grammar.now.rules)) → AreIn names.now (renamed_pairs (hits (A.algebra automaton.now) (A.downward automaton.now) (value (rules_of grammar.now.rules))) name.now t))) }
 {
     let signs = known_signs(alloc, names, name)?;
@@ -67,7 +78,10 @@ fn first_lacking<A: Falling, L: Ledger>(
         return Ok(None);
     };
     match names.at(hit.symbol) {
-        Some((kind, _)) => Ok(Some(kind)),
+        Some((kind, _)) => Ok(Some(Lacking {
+            kind,
+            only: hit.only,
+        })),
         None => unreachable!(),
     }
 }

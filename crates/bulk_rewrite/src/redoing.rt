@@ -1,6 +1,6 @@
 // Texts that are redone one after another.
-ghost use Rattle.std.specs.Prelude.{◌≡◌, ◌<◌, ◌+◌, ◌++◌, [], None, IfOk, OnOk, drop, length, slice_index_or, option_to_list};
-ghost use Rattle.bulk_rewrite.specs.Fates.{Redone, Stays, Joins, redone, redone_one};
+ghost use Rattle.std.specs.Prelude.{◌≡◌, ◌<◌, ◌≤◌, ◌+◌, ◌++◌, [], None, IfOk, OnOk, drop, length, slice_index_or, slice_range, option_to_list};
+ghost use Rattle.bulk_rewrite.specs.Fates.{Redone, Stays, Joins, redone, redone_one, redone_alike};
 ghost use Rattle.bulk_rewrite.specs.Redoing.{all_texts, nothing_redone, opened};
 ghost use Rattle.bulk_rewrite.specs.Tags.{told_fates};
 
@@ -66,14 +66,32 @@ impl<'a> Redoing<'a> {
         Ok(())
     }
 
-    // The text at a place stays.
-    fn stay(&mut self, place: u64) -> Result<(), AllocError>
-        requires { place < length self.old.originals }
+    // So many texts stay, from the one at a place on.
+    fn stay(&mut self, place: u64, count: u64) -> Result<(), AllocError>
+        requires some { 0 < count }
+        requires range { place + count ≤ length self.old.originals }
         ensures originals { self.new.originals ≡ self.old.originals }
-        ensures texts { OnOk result ((r : Redone) → all_texts self.new r ≡ all_texts self.old (redone_one Stays (slice_index_or self.old.originals place []) r)) }
+        ensures texts { OnOk result ((r : Redone) → all_texts self.new r ≡ all_texts self.old (redone_alike Stays (slice_range self.old.originals place (place + count)) r)) }
     {
+        // The call tells that places are machine words.
+        let _places = self.originals();
         self.close()?;
-        self.open_text = OpenText::Kept(place);
+        self.done.copy_many(place, count - 1)?;
+        self.open_text = OpenText::Kept(place + (count - 1));
+        Ok(())
+    }
+
+    // So many texts go to the end of the open one, from the one at a place on.
+    fn join_all(&mut self, place: u64, count: u64) -> Result<(), AllocError>
+        requires { place + count ≤ length self.old.originals }
+        ensures originals { self.new.originals ≡ self.old.originals }
+        ensures texts { OnOk result ((r : Redone) → all_texts self.new r ≡ all_texts self.old (redone_alike Joins (slice_range self.old.originals place (place + count)) r)) }
+    {
+        // The call tells that places are machine words.
+        let _places = self.originals();
+        'texts: for next in 0..count {
+            self.join(place + next)?;
+        }
         Ok(())
     }
 
@@ -97,14 +115,16 @@ impl<'a> Redoing<'a> {
         Ok(())
     }
 
-    fn redo(&mut self, fate: Fate, place: u64) -> Result<(), AllocError>
-        requires { place < length self.old.originals }
+    // So many texts are redone that have one fate, from the one at a place on.
+    fn redo(&mut self, fate: Fate, place: u64, count: u64) -> Result<(), AllocError>
+        requires some { 0 < count }
+        requires range { place + count ≤ length self.old.originals }
         ensures originals { self.new.originals ≡ self.old.originals }
-        ensures texts { OnOk result ((r : Redone) → all_texts self.new r ≡ all_texts self.old (redone_one fate (slice_index_or self.old.originals place []) r)) }
+        ensures texts { OnOk result ((r : Redone) → all_texts self.new r ≡ all_texts self.old (redone_alike fate (slice_range self.old.originals place (place + count)) r)) }
     {
         match fate {
-            Fate::Stays => self.stay(place),
-            Fate::Joins => self.join(place),
+            Fate::Stays => self.stay(place, count),
+            Fate::Joins => self.join_all(place, count),
             Fate::Drops => Ok(()),
         }
     }
@@ -147,24 +167,31 @@ pub(crate) fn redo_all(
 ) -> Result<(), AllocError>
     ensures { OnOk result (all_texts redoing.new nothing_redone ≡ all_texts redoing.old (redone (told_fates answers.old) redoing.old.originals)) }
 {
-    'texts: for place in 0..redoing.originals() {
-        redo_next(answers, place, redoing)?;
+    let count = redoing.originals();
+    let mut place = 0;
+    'texts: while place < count {
+        place += redo_next(answers, place, redoing)?;
     }
     Ok(())
 }
 
-// The text at a place is redone, whose fate is told next.
+// The texts from a place on are redone whose fates are told next, and it answers how many.
 fn redo_next(
     answers: &mut Answers<'_>,
     place: u64,
     redoing: &mut Redoing<'_>,
-) -> Result<(), AllocError>
+) -> Result<u64, AllocError>
     requires { place < length redoing.old.originals }
     ensures originals { redoing.new.originals ≡ redoing.old.originals }
-    ensures texts { OnOk result (all_texts redoing.new (redone (told_fates answers.new) (drop (place + 1) redoing.old.originals)) ≡ all_texts redoing.old (redone (told_fates answers.old) (drop place redoing.old.originals))) }
+    ensures some { IfOk result (λ count. 0 < count) }
+    ensures within { IfOk result (λ count. place + count ≤ length redoing.old.originals) }
+    ensures texts { IfOk result (λ count. all_texts redoing.new (redone (told_fates answers.new) (drop (place + count) redoing.old.originals)) ≡ all_texts redoing.old (redone (told_fates answers.old) (drop place redoing.old.originals))) }
 {
-    let Some(hit) = answers.next_hit()? else {
-        return Ok(());
+    let left = redoing.originals() - place;
+    let Some(hits) = answers.next_alike()? else {
+        return Ok(left);
     };
-    redoing.redo(told_fate(hit.symbol), place)
+    let count = hits.count.min(left);
+    redoing.redo(told_fate(hits.symbol), place, count)?;
+    Ok(count)
 }

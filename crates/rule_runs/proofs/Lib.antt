@@ -32,3 +32,5 @@ pub mod Triples
 pub mod Passing
 pub mod Answering
 pub mod OneState
+pub mod OneSymbol
+pub mod AlikeRuns

@@ -4,6 +4,7 @@ pub mod Tables
 pub mod Risen
 pub mod Frames
 pub mod Hits
+pub mod Alike
 pub mod Listing
 pub mod Cuts
 pub mod Walks

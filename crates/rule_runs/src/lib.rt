@@ -9,7 +9,8 @@
 //! Where an automaton has one state, `one_state` notes all pairs without reading.
 //! Downward: `falling` runs over the bodies of `descent`, which `kept` has as their `notes`, with what is open in `layers`, and keeps in
 //! `spots` what each was found to be, as stretches of nodes (`told`). At a down state from which nothing is hit, `spent` tells that by
-//! counts. `listing` tells a list that is made of earlier lists, for `answers`.
+//! counts. `listing` tells a list that is made of earlier lists, for `answers`, and `alike`
+//! those of a list at once whose symbols are alike.
 //! What `memo`, `kept` and `spots` keep of each pair or spot stands in lists that all share, at a `span`; a `place` has 32 bits, and a
 //! `note_list` has the states of symbols apart from the notes. `memo`, and the `table` under `spots`, have an `index`, which finds most of its
 //! keys by a number and without a hash.
@@ -18,6 +19,7 @@
 //! `nodes-weigh` of `proofs/Sizes.antt`; a hit's symbol tells its node's kind and name, by `document-symbol` of `proofs/Symbols.antt`.
 #![tactic(auto)]
 
+mod alike;
 mod answers;
 mod body;
 mod calls;
@@ -41,6 +43,7 @@ mod stack;
 mod table;
 mod told;
 
+pub use alike::AlikeHits;
 pub use answers::Answers;
 pub use falling::{FallTable, fall};
 pub use index::Numbered;

@@ -1,8 +1,9 @@
 -- Texts that are copied by their numbers.
-use Rattle.std.proofs.Common.{Bor, option_copied, ◌≡◌, ℕ, zero, suc, ◌<◌, ◌⊎◌, inl, inr, List, [], ◌∷◌, ◌++◌, length, get_or, replicate, Option, Some, None, slice_get, refl, ap, sym, subst, append-nil}
-use Rattle.std.specs.Prelude.{slice_set, option_to_list}
+use Rattle.std.proofs.Common.{Bor, option_copied, ◌≡◌, ℕ, zero, suc, ◌+◌, ◌-◌, ◌<◌, ◌≤◌, ◌⊎◌, inl, inr, List, [], ◌∷◌, ◌++◌, length, get_or, take, drop, replicate, Option, Some, None, slice_get, refl, ap, sym, ◌∙◌, subst, arith, append-nil, append_assoc}
+use Rattle.std.specs.Prelude.{slice_range, slice_set, option_to_list}
+use Rattle.std.proofs.lemmas.List.{drop-drop, drop-map, drop-take, map-append, take-append-drop, take-append-le, take-map, take-take, take_more}
 use Rattle.std.proofs.lemmas.Option.{slice_get-map, get_or_from_slice_get, slice_get_within}
-use Rattle.text_list.specs.Copied.{AreKnown}
+use Rattle.text_list.specs.Copied.{CopiedTexts, DifferentTexts, AreKnown, AreCopied}
 use Rattle.text_list.specs.Numbers.{texts_at, AreWithin}
 use Rattle.text_list.specs.declared.table.TheConstants.{FREE}
 
@@ -60,3 +61,43 @@ found_is there at o text e f = let h : option_copied (Some text) ≡ slice_get t
 
 pub grown_by : (there old new : List (List ℕ)) (at : ℕ) (text : List ℕ) → slice_get there at ≡ Some text → (new ≡ old) ⊎ (new ≡ old ++ text ∷ []) → (new ≡ old) ⊎ (new ≡ old ++ get_or there at [] ∷ [])
 grown_by there old new at text e g = subst (λ t. (new ≡ old) ⊎ (new ≡ old ++ t ∷ [])) (sym (get_or_from_slice_get there at text [] e)) g
+
+-- two parts of a range, one after the other
+take_both : {X : Type 0} (m k : ℕ) (xs : List X) → take (m + k) xs ≡ take m xs ++ take k (drop m xs)
+take_both m k xs = sym (take-append-drop m (take (m + k) xs)) ∙ ap (λ ys. ys ++ drop m (take (m + k) xs)) (take-take m (m + k) xs (omega arith)) ∙ ap (λ ys. take m xs ++ ys) (drop-take m k xs)
+
+-- a part of the range more has come, of which so many numbers are copied
+pub copied_more : (old new newer : DifferentTexts) (ns ms ps from part whole rest : List ℕ) (at done taken k : ℕ) → drop (at + done) from ≡ whole ++ rest → part ≡ take taken whole → taken ≤ length whole → k ≤ taken
+    → new.there ≡ old.there → AreCopied old ns from at done new ms → AreCopied new ms part 0 k newer ps → AreCopied old ns from at (done + k) newer ps
+copied_more old new newer ns ms ps from part whole rest at done taken k d p w l t e f =
+    let A = λ (xs : List ℕ). texts_at old.there xs in
+    let D : List ℕ = drop at from in
+    let next : take k part ≡ take k (drop done D) = ap (take k) p ∙ take-take k taken whole l ∙ sym (take-append-le k whole rest (omega arith)) ∙ ap (take k) (sym d ∙ sym (drop-drop done at from)) in
+    let one : (at + done) - at ≡ done = omega arith in
+    let two : (at + (done + k)) - at ≡ done + k = omega arith in
+    let three : (0 + k) - 0 ≡ k = omega arith in
+    let e' : texts_at new.here ms ≡ texts_at old.here ns ++ A (take done D) = rw one at e in
+    let f' : texts_at newer.here ps ≡ texts_at new.here ms ++ texts_at new.there (take k part) = rw three at f in
+    rw two (f' ∙ ap (λ ts. ts ++ texts_at new.there (take k part)) e' ∙ ap (λ us. (texts_at old.here ns ++ A (take done D)) ++ texts_at us (take k part)) t
+    ∙ append_assoc (texts_at old.here ns) (A (take done D)) (A (take k part)) ∙ ap (λ xs. texts_at old.here ns ++ (A (take done D) ++ A xs)) next
+    ∙ ap (λ ts. texts_at old.here ns ++ ts) (sym (map-append (λ n. get_or old.there n []) (take done D) (take k (drop done D))) ∙ ap A (sym (take_both done k D))))
+
+-- a number more is copied
+pub copied_one : (old new newer : DifferentTexts) (ns ms ps from : List ℕ) (at number : ℕ) → at < length from → number ≡ get_or from at number → new.there ≡ old.there
+    → AreCopied old ns from 0 at new ms → texts_at newer.here ps ≡ texts_at new.here ms ++ get_or new.there number [] ∷ [] → AreCopied old ns from 0 (at + 1) newer ps
+copied_one old new newer ns ms ps from at number h g t e f =
+    let A = λ (xs : List ℕ). texts_at old.there xs in
+    let one : (0 + at) - 0 ≡ at = omega arith in
+    let two : (0 + (at + 1)) - 0 ≡ at + 1 = omega arith in
+    let e' : texts_at new.here ms ≡ texts_at old.here ns ++ A (take at from) = rw one at e in
+    let next : take (at + 1) from ≡ take at from ++ number ∷ [] = take_more from at number h ∙ ap (λ n. take at from ++ n ∷ []) (sym g) in
+    rw two (f ∙ ap (λ ts. ts ++ get_or new.there number [] ∷ []) e' ∙ ap (λ us. (texts_at old.here ns ++ A (take at from)) ++ get_or us number [] ∷ []) t
+    ∙ append_assoc (texts_at old.here ns) (A (take at from)) (A (number ∷ [])) ∙ ap (λ ts. texts_at old.here ns ++ ts) (sym (map-append (λ n. get_or old.there n []) (take at from) (number ∷ [])) ∙ ap A (sym next)))
+
+-- texts of a range that have come, among the texts there
+pub range_there : (there before : List (List ℕ)) (from : List ℕ) (after : List (List ℕ)) (seen : CopiedTexts) (at count : ℕ) → record { originals = texts_at there from; texts = before } ≡ seen
+    → after ≡ before ++ texts_at there (slice_range from at (at + count)) → after ≡ seen.texts ++ slice_range seen.originals at (at + count)
+range_there there before from after seen at count v e =
+    let f = λ (n : ℕ). get_or there n [] in
+    subst (λ (s : CopiedTexts). after ≡ s.texts ++ slice_range s.originals at (at + count)) v
+    (e ∙ ap (λ ts. before ++ ts) (sym (take-map f ((at + count) - at) (drop at from)) ∙ ap (take ((at + count) - at)) (sym (drop-map f at from))))

@@ -8,3 +8,5 @@ pub mod GapLemmas
 pub mod NumberLemmas
 pub mod DifferentLemmas
 pub mod CopyLemmas
+pub mod MarkingLemmas
+pub mod PlaceMarks

@@ -59,6 +59,14 @@ impl Chunk {
         self.numbers.get(at).copied()
     }
 
+    // The numbers from a place on.
+    pub(crate) fn behind(&self, at: usize) -> &[u32]
+        requires { at ≤ length self.now.numbers }
+        ensures { result.now ≡ drop at self.now.numbers }
+    {
+        &self.numbers[at..]
+    }
+
     pub(crate) fn set(&mut self, at: usize, number: u32)
         requires { at < length self.old.numbers }
         ensures { self.new.numbers ≡ slice_set self.old.numbers at number }

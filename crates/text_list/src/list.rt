@@ -8,7 +8,7 @@ ghost use Rattle.text_list.specs.Numbers.{texts_at, AreWithin};
 
 use crate::blob::Blob;
 use crate::chunk::MOST_NUMBERS;
-use crate::marking::marks_by_number;
+use crate::marking::{mark_places, marks_by_number};
 use crate::places::Places;
 use crate::table::TextTable;
 use plain_tree::{Bytes, Texts};
@@ -94,13 +94,7 @@ impl TextList {
         ensures { IfOk result (λ marks. marks.items ≡ map (mark_of literals.now) self.now.texts) }
     {
         let by_number = marks_by_number(alloc, &self.kept, self.loose.as_slice(), literals)?;
-        let mut marks = Vec::with_capacity(alloc, self.places.len())?;
-        'places: for at in 0..self.places.len() {
-            if let Some(number) = self.places.get(at) {
-                marks.push(by_number[number as usize])?;
-            }
-        }
-        Ok(marks)
+        mark_places(alloc, &self.places, by_number.as_slice())
     }
 
     /// Makes room for this many more texts at one place. It is refused only for want of memory or of numbers for texts. Where

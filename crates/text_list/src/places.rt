@@ -1,5 +1,5 @@
 // Numbers in chunks, so that one that is put in moves those of its chunk alone.
-ghost use Rattle.std.specs.Prelude.{◌^◌, ◌≡◌, ◌≤◌, ◌<◌, ◌+◌, ◌++◌, [], ◌∷◌, length, replicate, slice_get, slice_set, slice_range, slice_index, vec_len, vec_capacity, IfOk, OnOk, OnErr};
+ghost use Rattle.std.specs.Prelude.{◌^◌, ◌≡◌, ◌≤◌, ◌<◌, ◌+◌, ◌++◌, ℕ, List, [], ◌∷◌, length, drop, replicate, slice_get, slice_set, slice_range, slice_index, vec_len, vec_capacity, IfOk, OnOk, OnErr};
 ghost use Rattle.std.specs.List.{All, HoldsAt, insert_slice, remove_range};
 ghost use Rattle.text_list.specs.Chunks.{joined, starts_of, AreFit};
 ghost use Rattle.text_list.specs.Numbers.{counted};
@@ -89,6 +89,17 @@ impl Places {
         let chunk = chunk_at(self.starts.as_slice(), at);
         let start = self.starts[chunk];
         self.chunks[chunk].get(at - start)
+    }
+
+    // The numbers from a place on that stand in one chunk with it.
+    pub(crate) fn part_at(&self, at: usize) -> &[u32]
+        requires { at < length self.now.numbers }
+        ensures some { 0 < length result.now }
+        ensures part { (rest : List ℕ) × (drop at self.now.numbers ≡ result.now ++ rest) }
+    {
+        let chunk = chunk_at(self.starts.as_slice(), at);
+        let start = self.starts[chunk];
+        self.chunks[chunk].behind(at - start)
     }
 
     // Puts another number in a place.

@@ -1,12 +1,24 @@
-use Rattle.bulk_rewrite.proofs.FirstFound.{first-found}
+use Rattle.std.proofs.Common.{◌≡◌, List, length, sym, ◌∙◌, eqb-true}
+use Rattle.std.proofs.lemmas.List.{length-map}
+use Rattle.rule_runs.specs.Alike.{symbols}
+use Rattle.rule_runs.specs.declared.listing.Hit.{Hit}
+use Rattle.bulk_rewrite.proofs.FirstFound.{begins-with, only-with}
 use Rattle.bulk_rewrite.proofs.hit_runs.first_hit.Goals as goal
 
-pub returns : goal.returns
-returns g c =
+pub returns-in-Some : goal.returns-in-Some
+returns-in-Some g c =
     let e = c.in_ok-answers.ensures in
+    let found : List Hit = c.in_ok-answers.answers in
+    let hits = c.in-Some.hits in
+    let next = rw c.in-Some.is at c.in_ok-hits.ensures.next in
+    let some = rw c.in-Some.is at c.in_ok-hits.ensures.some in
+    let all : c.count.result ≡ length found = rw e at c.count.ensures.listed in
     record {
-      found = c.in_ok-answers.answers;
+      found = found;
       are = rw e at c.in_ok-fallen.ensures.hits;
       symbols = rw e at c.in_ok-fallen.ensures.symbols;
-      first = first-found c.in_ok-hit.hit c.in_ok-answers.answers c.next_hit.new.self c.in_ok-hit.ensures.next c.in_ok-hit.ensures.end;
+      first = (
+        begins-with hits.count hits.symbol (symbols found) (symbols c.next_alike.new.self) some next,
+        λ only. only-with hits.count hits.symbol (symbols found) (symbols c.next_alike.new.self) next (eqb-true hits.count c.count.result only ∙ all ∙ sym (length-map found (λ (h : Hit). h.symbol))),
+      );
     }

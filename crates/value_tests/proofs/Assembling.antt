@@ -7,13 +7,13 @@ use Rattle.std.specs.List.{AllZip}
 use Rattle.rule_arena.specs.declared.label.Label.{Label}
 use Rattle.slt_grammar.specs.Grammars.{IsGrammar, body_at, rank_at, no_rule, value}
 use Rattle.slt_grammar.specs.declared.rules.Rule.{Rule}
-use Rattle.value_tests.specs.Relabelled.{Spot, relabelled, IsMade, AreMade}
+use Rattle.value_tests.specs.Relabelled.{Spot, Serves, relabelled, IsMade, AreMade}
 use Rattle.value_tests.specs.TextPlaces.{sizes, placing, marked}
-use Rattle.value_tests.specs.Steps.{Extends}
+use Rattle.value_tests.specs.Steps.{Extends, ServesAt, IsPlainSpot, IsMarkedSpot}
 use Rattle.value_tests.specs.Renumbered.{IsRenumbered}
 use Rattle.value_tests.specs.Assembled.{no_spot, spots_at, start_spot, IsBodyFor, IsRuleFor, IsRuleAt, AreRulesFor}
 use Rattle.value_tests.proofs.Becoming.{get-front}
-use Rattle.value_tests.proofs.Renumbering.{renumbered-body}
+use Rattle.value_tests.proofs.Renumbering.{renumbered-body, served-too}
 use Rattle.value_tests.proofs.RuleValues.{values-made}
 
 pub same-spot : (a b : Spot ℕ (Option ℕ)) → Some a ≡ Some b → a ≡ b
@@ -35,6 +35,17 @@ module _ (w : Label → ℕ) (G : List Rule) (symbols : ℕ) (marks : ℕ → �
         rw all (b.becomes (x.0 ++ later));
   }
 
+  -- the rule of a spot serves as the spot did
+  serves-renumbered : (spots : List (Spot ℕ (Option ℕ))) (origins : List ℕ) (p id q : ℕ) (kids : List ℕ) (d : Option ℕ) → slice_get origins p ≡ Some id → ServesAt w G symbols marks spots id q kids d → ServesAt w G symbols marks (spots_at spots origins) p q kids d
+  serves-renumbered spots origins p id q kids d o s = record {
+    serves = record { spot = s.serves.spot; there = origin-spot spots origins p id s.serves.spot o s.serves.there; rule = s.serves.rule; same = s.serves.same };
+    kind = by s.kind;
+  }
+    where
+      by : IsPlainSpot spots id q ⊎ IsMarkedSpot w G symbols marks spots id q kids d → IsPlainSpot (spots_at spots origins) p q ⊎ IsMarkedSpot w G symbols marks (spots_at spots origins) p q kids d
+      by (inl k) = inl (k.0, origin-spot spots origins p id k.0 o k.1, k.2, k.3)
+      by (inr k) = inr (origin-spot spots origins p id (record { rule = q; states = kids; down = d }) o k.0, k.1)
+
   -- a body that is renamed is that of a rule
   pub rule-for : (spots : List (Spot ℕ (Option ℕ))) (origins : List ℕ) (id : ℕ) (body : List Label) (b : IsBodyFor w G symbols marks spots id body) (R : Rule) → R.rank ≡ rank_at G b.spot.rule → AllZip (IsRenumbered origins) body R.body
       → IsRuleFor w G symbols marks (spots_at spots origins) b.spot R
@@ -42,7 +53,7 @@ module _ (w : Label → ℕ) (G : List Rule) (symbols : ℕ) (marks : ℕ → �
     old = b.old;
     states = b.states;
     rank = rank;
-    body = renumbered-body (sizes w) (placing w) (marked w symbols marks) G spots (spots_at spots origins) origins (λ p i s o t. origin-spot spots origins p i s o t) b.spot.states (b.spot.down ∷ []) (body_at G b.spot.rule) body R.body (rw (append-nil spots) at (b.becomes [])) n;
+    body = renumbered-body (sizes w) (placing w) (marked w symbols marks) G (ServesAt w G symbols marks spots) (ServesAt w G symbols marks (spots_at spots origins)) origins (serves-renumbered spots origins) b.spot.states (b.spot.down ∷ []) (body_at G b.spot.rule) body R.body (rw (append-nil spots) at (b.becomes [])) n;
   }
 
   pub are-made : (spots : List (Spot ℕ (Option ℕ))) (origins : List ℕ) (H : List Rule) → length H ≡ length origins → AreRulesFor w G symbols marks spots origins H
@@ -52,7 +63,7 @@ module _ (w : Label → ℕ) (G : List Rule) (symbols : ℕ) (marks : ℕ → �
       let l : p < length H = omega (arith, in_spots, n, length-map origins (λ id. get_or spots id no_spot)) in
       let k = r p (get_or H p no_rule) (slice_get-get_or H p no_rule l) in
       let same : s ≡ k.spot = same-spot s k.spot (sym e ∙ origin-spot spots origins p k.id k.spot k.origin k.there) in
-      subst (IsMade (sizes w) (placing w) (marked w symbols marks) G (spots_at spots origins) H p) (sym same) (record { new = l; old = k.rule.old; states = k.rule.states; rank = k.rule.rank; body = k.rule.body })
+      subst (IsMade (sizes w) (placing w) (marked w symbols marks) G (spots_at spots origins) H p) (sym same) (record { new = l; old = k.rule.old; states = k.rule.states; rank = k.rule.rank; body = served-too (sizes w) (placing w) (marked w symbols marks) G (ServesAt w G symbols marks (spots_at spots origins)) (Serves (sizes w) (placing w) (marked w symbols marks) G (spots_at spots origins)) (λ o q kids d s. s.serves) k.spot.states (k.spot.down ∷ []) (body_at G k.spot.rule) (body_at H p) k.rule.body })
 
   -- Rules that are made of spots, the last of the start's from the first text on: their value is the old one with the new symbols.
   pub assembled-value : (spots : List (Spot ℕ (Option ℕ))) (origins : List ℕ) (H : List Rule) → IsGrammar G → IsGrammar H → length H ≡ length origins → AreRulesFor w G symbols marks spots origins H

@@ -1,5 +1,5 @@
 -- What calls become.
-use Rattle.std.proofs.Common.{◌≡◌, ℕ, ◌+◌, ◌<◌, ◌≤◌, List, [], ◌∷◌, ◌++◌, length, take, refl, ap, sym, ◌∙◌, arith, subst, Some, Option, slice_get, append_assoc}
+use Rattle.std.proofs.Common.{◌≡◌, ℕ, ◌+◌, ◌<◌, ◌≤◌, List, [], ◌∷◌, ◌++◌, length, take, refl, ap, sym, ◌∙◌, arith, subst, Some, Option, slice_get, append_assoc, true, inr}
 use Rattle.std.proofs.lemmas.Option.{slice_get_within}
 use Rattle.plain_tree.specs.declared.kind.Kind.{Kind}
 use Rattle.rule_arena.proofs.PreorderLemmas.{slice_get-left}
@@ -7,10 +7,11 @@ use Rattle.rule_arena.specs.declared.label.Label.{Label}
 use Rattle.segment_counts.specs.Counting.{AreCounts, CountTable, told}
 use Rattle.segment_counts.specs.declared.counts.Measure.TheVariants.{Texts}
 use Rattle.segment_counts.specs.Weights.{text_weight}
-use Rattle.slt_grammar.specs.Grammars.{IsGrammar, rank_at}
+use Rattle.slt_grammar.specs.Grammars.{IsGrammar, rank_at, value_at}
 use Rattle.slt_grammar.specs.declared.rules.Rule.{Rule}
 use Rattle.value_tests.specs.Relabelled.{Spot}
 use Rattle.value_tests.specs.TextPlaces.{places, AreClear}
+use Rattle.value_tests.specs.Marking.{has_mark}
 use Rattle.value_tests.specs.Steps.{IsPlainSpot}
 use Rattle.value_tests.specs.Becoming.{CallBecomes, CallTurns, LabelBecomes}
 use Rattle.rule_arena.specs.declared.label.Label.TheVariants.{Symbol, Call}
@@ -42,8 +43,8 @@ module _ (names : List (Kind × List ℕ)) (G : List Rule) (g : IsGrammar G) (C 
       })
 
   pub call-marked : (spots new : List (Spot ℕ (Option ℕ))) (id : ℕ) (states : List ℕ) → id ≡ length spots → new ≡ spots ++ record { rule = q; states = states; down = Some place } ∷ [] → states ≡ kids
-      → CallTurns (text_weight names) G symbols marks q place all new id left before after
-  call-marked spots new id states i s st ss rest l f =
+      → has_mark (text_weight names) marks (value_at G q) kids place ≡ true → CallTurns (text_weight names) G symbols marks q place all new id left before after
+  call-marked spots new id states i s st m ss rest l f =
       let t = taken-kids (rank_at G q) ss rest kids left all l n e f in
       let x : Spot ℕ (Option ℕ) = record { rule = q; states = kids; down = Some place } in
       let s' : new ≡ spots ++ x ∷ [] = s ∙ ap (λ xs. spots ++ record { rule = q; states = xs; down = Some place } ∷ []) st in
@@ -52,7 +53,9 @@ module _ (names : List (Kind × List ℕ)) (G : List Rule) (g : IsGrammar G) (C 
         opened = places (told Texts C.rows q) 0 kids place;
         on_top = o;
         places = sym (handed-told names G g C k q h kids n place);
-        serves = λ later. record { spot = x; there = ap (λ xs. slice_get (xs ++ later) id) s' ∙ ap (λ xs. slice_get xs id) (append_assoc spots (x ∷ []) later) ∙ ap (slice_get (spots ++ x ∷ later)) i ∙ get-last spots later x; rule = refl; same = refl };
+        serves = λ later.
+            let there : slice_get (new ++ later) id ≡ Some x = ap (λ xs. slice_get (xs ++ later) id) s' ∙ ap (λ xs. slice_get xs id) (append_assoc spots (x ∷ []) later) ∙ ap (slice_get (spots ++ x ∷ later)) i ∙ get-last spots later x in
+            record { serves = record { spot = x; there = there; rule = refl; same = refl }; kind = inr (there, m) };
       })
 
 -- what a call becomes is what its label becomes

@@ -1,5 +1,5 @@
 -- One argument of a call after another.
-use Rattle.std.proofs.Common.{◌≡◌, ℕ, ◌+◌, ◌-◌, ◌<◌, List, [], ◌∷◌, ◌++◌, length, get_or, drop, take, reverse, insert, refl, ap, sym, ◌∙◌, arith, add-one, Option, Some, None, MatchOption}
+use Rattle.std.proofs.Common.{◌≡◌, ℕ, suc, ◌+◌, ◌-◌, ◌<◌, List, [], ◌∷◌, ◌++◌, length, get_or, drop, take, reverse, insert, refl, ap, sym, subst, ◌∙◌, arith, add-one, Option, Some, None, MatchOption}
 use Rattle.std.proofs.Math.Seq.{take-append_seam, drop-append_seam}
 use Rattle.std.proofs.lemmas.List.{drop_more, drop_all, reverse-append, reverse-reverse}
 use Rattle.std.proofs.lemmas.List.Edits.{insert-append_right}
@@ -45,6 +45,14 @@ module _ (c : ℕ → ℕ) (kids : List ℕ) (i : ℕ) (h : i < length kids) (he
 
   pub clear-next : (marks : ℕ → ℕ) → IsClear marks here (c i) → AreClear c marks (i + 1) (drop (i + 1) kids) second → AreClear c marks i (drop i kids) here
   clear-next marks a b = rw (drop_more kids i 0 h) (a, rw (next-place, ← add-one i) b)
+
+  pub next-clear : (marks : ℕ → ℕ) → AreClear c marks i (drop i kids) here → IsClear marks here (c i) × AreClear c marks (i + 1) (drop (i + 1) kids) second
+  next-clear marks a =
+      let b = rw (drop_more kids i 0 h) at a in
+      (b.0, subst (λ n. AreClear c marks n (drop (i + 1) kids) second) (sym (add-one i)) (subst (AreClear c marks (suc i) (drop (i + 1) kids)) next-place b.1))
+
+pub last-clear : (c : ℕ → ℕ) (kids : List ℕ) (i : ℕ) → i ≡ length kids → (marks : ℕ → ℕ) (p : ℕ) → AreClear c marks i (drop i kids) p → IsClear marks p (c (length kids))
+last-clear c kids i e marks p a = rw (e, drop_all (length kids) kids (omega arith)) at a
 
 pub clear-last : (c : ℕ → ℕ) (kids : List ℕ) (i : ℕ) → i ≡ length kids → (marks : ℕ → ℕ) (p : ℕ) → IsClear marks p (c (length kids)) → AreClear c marks i (drop i kids) p
 clear-last c kids i e marks p a = rw (e, drop_all (length kids) kids (omega arith)) a

@@ -2,6 +2,7 @@ pub mod Handing
 pub mod Relabelling
 pub mod RuleValues
 pub mod TextPlaces
+pub mod Unmarked
 pub mod Stepping
 pub mod CallSteps
 pub mod MarkedCodes
@@ -12,3 +13,9 @@ pub mod Assembling
 pub mod MadeBodies
 pub mod ReadBodies
 pub mod Wholes
+pub mod Sums
+pub mod Occurrences
+pub mod CallSums
+pub mod Isolating
+pub mod Tested
+pub mod Clear

@@ -1,5 +1,5 @@
 -- Bodies that become others label by label.
-use Rattle.std.proofs.Common.{◌≡◌, ℕ, zero, suc, ◌+◌, ◌<◌, ◌≤◌, List, [], ◌∷◌, ◌++◌, length, get_or, take, drop, map, refl, ap, sym, ◌∙◌, arith, subst, Some, None, Option}
+use Rattle.std.proofs.Common.{◌≡◌, ℕ, zero, suc, ◌+◌, ◌<◌, ◌≤◌, List, [], ◌∷◌, ◌++◌, length, get_or, take, drop, map, refl, ap, sym, ◌∙◌, arith, subst, Some, None, Option, inl, Bool, true, false, if◌then◌else◌, slice_get}
 use Rattle.std.proofs.lemmas.List.{length-map, length-take-le}
 use Rattle.rule_arena.specs.Preorder.{AreTerms}
 use Rattle.std.specs.List.{AllZip}
@@ -18,9 +18,12 @@ use Rattle.value_tests.specs.TextPlaces.{sizes, placing, marked}
 use Rattle.value_tests.specs.Steps.{sizes_of, kid_notes, notes_of, sized, ServesAt, Becomes, StepsTo, IsPlainSpot, IsPlainStep}
 use Rattle.segment_counts.specs.Counting.{AreCounts, CountTable, told}
 use Rattle.segment_counts.specs.declared.counts.Measure.TheVariants.{Texts}
-use Rattle.segment_counts.specs.Weights.{text_weight, count}
+use Rattle.segment_counts.specs.Weights.{text_weight, count, valued}
+use Rattle.plain_tree.specs.Numbers.{has_value}
 use Rattle.value_tests.specs.TextPlaces.{places, whole_size, AreClear}
+use Rattle.value_tests.specs.Marking.{has_mark}
 use Rattle.value_tests.proofs.TextPlaces.{relabelled-none, handed-none, handed-counts, size-counts, clear-counts}
+use Rattle.value_tests.proofs.Unmarked.{unmarked-counts}
 use Rattle.value_tests.proofs.Handing.{linear}
 use Rattle.value_tests.proofs.Relabelling.{append-parts}
 use Rattle.plain_tree.specs.declared.kind.Kind.{Kind}
@@ -61,11 +64,11 @@ abbrev pub nones : ℕ → List (Option ℕ)
 nones zero = []
 nones (suc n) = None ∷ nones n
 
-nones-append : (m n : ℕ) → nones m ++ nones n ≡ nones (m + n)
+pub nones-append : (m n : ℕ) → nones m ++ nones n ≡ nones (m + n)
 nones-append zero n = let e : 0 + n ≡ n = omega arith in rw e refl
 nones-append (suc m) n = let e : suc m + n ≡ suc (m + n) = omega arith in rw e (ap (λ xs. None ∷ xs) (nones-append m n))
 
-nones-map : {X : Type 0} (xs : List X) (n : ℕ) → length xs ≡ n → map (λ x. None) xs ≡ nones n
+pub nones-map : {X : Type 0} (xs : List X) (n : ℕ) → length xs ≡ n → map (λ x. None) xs ≡ nones n
 nones-map [] zero e = refl
 nones-map [] (suc n) e = absurd (omega arith)
 nones-map (x ∷ xs) zero e = absurd (omega arith)
@@ -83,10 +86,8 @@ module _ (w : Label → ℕ) (G : List Rule) (g : IsGrammar G) (symbols : ℕ) (
   pub plain-serves : (id q : ℕ) (kids : List ℕ) (d : Option ℕ) → IsPlainSpot spots id q → relabelled (sizes w) (placing w) (marked w symbols marks) (value_at G q) kids d ≡ value_at G q
       → ServesAt w G symbols marks spots id q kids d
   plain-serves id q kids d s e = record {
-    spot = s.0;
-    there = s.1;
-    rule = s.2;
-    same = rw (s.3, s.2) (relabelled-none w symbols marks (value_at G q) s.0.states ∙ sym e);
+    serves = record { spot = s.0; there = s.1; rule = s.2; same = rw (s.3, s.2) (relabelled-none w symbols marks (value_at G q) s.0.states ∙ sym e) };
+    kind = inl s;
   }
 
   -- a body without marked texts becomes the one with plain spots
@@ -104,21 +105,44 @@ module _ (w : Label → ℕ) (G : List Rule) (g : IsGrammar G) (symbols : ℕ) (
       let h : handed (sizes w) (placing w) (value_at G q) kids None ≡ nones k = handed-none w (value_at G q) kids ∙ nones-map (holes_of (value_at G q)) k (holes-count G g q) in
       ((p.0.0, p.0.1, plain-serves p.0.0 q kids None p.0.2 (relabelled-none w symbols marks (value_at G q) kids)), rw (h, nones-append k n) (plain-body (k + n) args ls ms t p.1))
 
+-- a label has one text at most
+text-light : (names : List (Kind × List ℕ)) (l : Label) → text_weight names l ≤ 1
+text-light names Bottom = omega arith
+text-light names Param = omega arith
+text-light names (Call q) = omega arith
+text-light names (Symbol f) = light (slice_get names f)
+  where
+    bit : (b : Bool) → (if b then 1 else 0) ≤ 1
+    bit true = omega arith
+    bit false = omega arith
+
+    light : (o : Option (Kind × List ℕ)) → valued o ≤ 1
+    light None = omega arith
+    light (Some pair) = bit (has_value pair.0)
+
 -- what the counts that are kept tell
 module _ (names : List (Kind × List ℕ)) (G : List Rule) (C : CountTable) (c : AreCounts names G C) (q : ℕ) (h : q < length G) where
   pub told-counts : told Texts C.rows q ≡ count (text_weight names) G q
   told-counts = fun_ext (λ i. c.numbers.each Texts q i h)
 
-module _ (names : List (Kind × List ℕ)) (G : List Rule) (g : IsGrammar G) (C : CountTable) (c : AreCounts names G C) (q : ℕ) (h : q < length G) (kids : List ℕ) (n : length kids ≡ rank_at G q) where
+module _ (names : List (Kind × List ℕ)) (G : List Rule) (g : IsGrammar G) (C : CountTable) (c : AreCounts names G C) (q : ℕ) (h : q < length G) (kids : List ℕ) (many : length kids ≡ rank_at G q) where
   pub handed-told : (p : ℕ) → handed (sizes (text_weight names)) (placing (text_weight names)) (value_at G q) kids (Some p) ≡ map Some (places (told Texts C.rows q) 0 kids p)
-  handed-told p = rw (told-counts names G C c q h) (handed-counts (text_weight names) refl G g q h kids n p)
+  handed-told p = rw (told-counts names G C c q h) (handed-counts (text_weight names) refl G g q h kids many p)
 
   pub size-told : get_or (all_meanings (sizes (text_weight names)) G) q (λ _. 0) kids ≡ whole_size (told Texts C.rows q) 0 kids
-  size-told = rw (told-counts names G C c q h) (sym (up-value_at (sizes (text_weight names)) G q kids n) ∙ size-counts (text_weight names) refl G g q h kids n)
+  size-told = rw (told-counts names G C c q h) (sym (up-value_at (sizes (text_weight names)) G q kids many) ∙ size-counts (text_weight names) refl G g q h kids many)
 
   pub clear-told : (symbols : ℕ) (marks : ℕ → ℕ) (p : ℕ) → AreClear (told Texts C.rows q) marks 0 kids p
       → relabelled (sizes (text_weight names)) (placing (text_weight names)) (marked (text_weight names) symbols marks) (value_at G q) kids (Some p) ≡ value_at G q
-  clear-told symbols marks p a = clear-counts (text_weight names) refl G g q h kids n symbols marks p (subst (λ k. AreClear k marks 0 kids p) (told-counts names G C c q h) a)
+  clear-told symbols marks p a = clear-counts (text_weight names) refl G g q h kids many symbols marks p (subst (λ k. AreClear k marks 0 kids p) (told-counts names G C c q h) a)
+
+  -- where not all texts of the segments are clear, the value has a mark
+  pub mark-told : (marks : ℕ → ℕ) (p : ℕ) → (AreClear (told Texts C.rows q) marks 0 kids p → ⊥) → has_mark (text_weight names) marks (value_at G q) kids p ≡ true
+  mark-told marks p n = by (has_mark (text_weight names) marks (value_at G q) kids p) refl
+    where
+      by : (b : Bool) → b ≡ has_mark (text_weight names) marks (value_at G q) kids p → has_mark (text_weight names) marks (value_at G q) kids p ≡ true
+      by true e = sym e
+      by false e = absurd (n (subst (λ k. AreClear k marks 0 kids p) (sym (told-counts names G C c q h)) (unmarked-counts (text_weight names) refl (text-light names) G g q h kids many marks p (sym e))))
 
 -- the numbers that a call takes off are the sizes of its arguments
 pub taken-kids : (k : ℕ) (ss rest kids left all : List ℕ) → k ≤ length ss → length kids ≡ k → kids ++ left ≡ all → all ≡ take k ss ++ rest → (kids ≡ take k ss) × (left ≡ rest)

@@ -1,7 +1,7 @@
 -- The rules that are made of spots, one after another.
-use Rattle.std.specs.Prelude.{◌≡◌, ◌<◌, ◌-◌, ℕ, List, [], ◌∷◌, ◌++◌, length, map, get_or, slice_get, Option, Some, None}
+use Rattle.std.specs.Prelude.{◌≡◌, ◌⊎◌, ◌≤◌, ◌<◌, ◌+◌, ◌-◌, ℕ, List, [], ◌∷◌, ◌++◌, length, map, get_or, slice_get, Option, Some, None}
 use Rattle.rule_arena.specs.declared.label.Label.{Label}
-use Rattle.slt_grammar.specs.Grammars.{body_at, rank_at}
+use Rattle.slt_grammar.specs.Grammars.{body_at, rank_at, calls_of}
 use Rattle.slt_grammar.specs.declared.rules.Rule.{Rule}
 use Rattle.value_tests.specs.Relabelled.{Spot}
 use Rattle.value_tests.specs.Steps.{Becomes}
@@ -17,6 +17,26 @@ start_spot G = record { rule = length G - 1; states = []; down = Some 0 }
 -- the spots of the new rules, by their numbers
 abbrev pub spots_at : List (Spot ℕ (Option ℕ)) → List ℕ → List (Spot ℕ (Option ℕ))
 spots_at spots origins = map (λ id. get_or spots id no_spot) origins
+
+-- a number where no place is, and else none
+abbrev pub if_plain : Option ℕ → ℕ → ℕ
+if_plain None n = n
+if_plain (Some place) n = 0
+
+-- how many nodes a new rule has that is without marks
+abbrev pub plain_nodes : List Rule → List (Spot ℕ (Option ℕ)) → ℕ → ℕ
+plain_nodes G spots p =
+    let s = get_or spots p no_spot in
+    if_plain s.down (length (body_at G s.rule))
+
+-- A spot without marks is of a rule from `next` on that is before the start's, and the next one then is the rule behind. One with marks
+-- changes nothing.
+abbrev pub RisesTo : Spot ℕ (Option ℕ) → ℕ → ℕ → ℕ → Type 0
+RisesTo s start next after = ((s.down ≡ None) × (next ≤ s.rule) × (s.rule < start) × (after ≡ s.rule + 1)) ⊎ ((place : ℕ) × (s.down ≡ Some place) × (after ≡ next))
+
+-- a new rule is without marks, or is called at one place at most
+abbrev pub IsCalledOnce : List Rule → List (Spot ℕ (Option ℕ)) → ℕ → Type 0
+IsCalledOnce H spots p = ((get_or spots p no_spot).down ≡ None) ⊎ (calls_of H p ≤ 1)
 
 module _ (w : Label → ℕ) (G : List Rule) (symbols : ℕ) (marks : ℕ → ℕ) where
   -- a body was made for the spot of a number, whatever spots come later

@@ -1,10 +1,13 @@
 pub mod MarkLists
 pub mod Relabelled
 pub mod TextPlaces
+pub mod Marking
 pub mod Steps
 pub mod Becoming
 pub mod MarkedCodes
 pub mod MarkedValues
+pub mod MarkedInstances
+pub mod Isolated
 pub mod Spots
 pub mod Renumbered
 pub mod Walks

@@ -1,5 +1,5 @@
 -- Bodies label by label: how many texts terms have, and what a label becomes.
-use Rattle.std.specs.Prelude.{◌≡◌, ℕ, ◌+◌, List, [], ◌∷◌, ◌++◌, take, drop, get_or, map, Option, Some, None, slice_get}
+use Rattle.std.specs.Prelude.{◌≡◌, ℕ, ◌+◌, List, [], ◌∷◌, ◌++◌, take, drop, get_or, map, Option, Some, None, slice_get, true, ◌⊎◌}
 use Rattle.rule_arena.specs.declared.label.Label.{Label}
 use Rattle.rule_arena.specs.declared.label.Label.TheVariants.{Bottom, Symbol, Call, Param}
 use Rattle.slt_grammar.specs.Algebras.{apply, ranks_of, all_meanings}
@@ -8,7 +8,12 @@ use Rattle.slt_grammar.specs.Bodies.{arity}
 use Rattle.slt_grammar.specs.Grammars.{value_at}
 use Rattle.slt_grammar.specs.declared.rules.Rule.{Rule}
 use Rattle.value_tests.specs.Relabelled.{Spot, Serves, AreRelabelled, states_of}
+use Rattle.value_tests.specs.Marking.{is_marked}
 use Rattle.value_tests.specs.TextPlaces.{sizes, placing, marked}
+
+-- a spot without a marked text
+abbrev pub IsPlainSpot : List (Spot ℕ (Option ℕ)) → ℕ → ℕ → Type 0
+IsPlainSpot spots id q = (s : Spot ℕ (Option ℕ)) × (slice_get spots id ≡ Some s) × (s.rule ≡ q) × (s.down ≡ None)
 
 module _ (w : Label → ℕ) (G : List Rule) where
   -- how many texts the terms have that labels are, with parameters of these sizes among them
@@ -32,8 +37,14 @@ module _ (w : Label → ℕ) (G : List Rule) where
   sized l ss = apply (sizes w) (all_meanings (sizes w) G) l (take (arity (ranks_of G) l) ss) ∷ drop (arity (ranks_of G) l) ss
 
   module _ (symbols : ℕ) (marks : ℕ → ℕ) (spots : List (Spot ℕ (Option ℕ))) where
-    abbrev pub ServesAt : ℕ → ℕ → List ℕ → Option ℕ → Type 0
-    ServesAt = Serves (sizes w) (placing w) (marked w symbols marks) G spots
+    -- the spot of a marked instance
+    abbrev pub IsMarkedSpot : ℕ → ℕ → List ℕ → Option ℕ → Type 0
+    IsMarkedSpot id q kids d = (slice_get spots id ≡ Some (record { rule = q; states = kids; down = d })) × (is_marked w marks G q kids d ≡ true)
+
+    -- a spot has the value of a rule at a place, and is without marks or of this very instance, which is marked
+    pub record ServesAt (id q : ℕ) (kids : List ℕ) (d : Option ℕ) : Type 0 where
+      pub serves : Serves (sizes w) (placing w) (marked w symbols marks) G spots id q kids d
+      pub kind : IsPlainSpot spots id q ⊎ IsMarkedSpot id q kids d
 
     -- a body becomes another, from sizes of its parameters and the places of its terms
     abbrev pub Becomes : List ℕ → List (Option ℕ) → List Label → List Label → Type 0
@@ -47,10 +58,6 @@ module _ (w : Label → ℕ) (G : List Rule) where
     StepsTo (Call q) p ss m opened =
         let kids = take (get_or (ranks_of G) q 0) ss in
         ((id : ℕ) × (m ≡ Call id) × ServesAt id q kids (Some p)) × (map Some opened ≡ handed (sizes w) (placing w) (value_at G q) kids (Some p))
-
--- a spot without a marked text
-abbrev pub IsPlainSpot : List (Spot ℕ (Option ℕ)) → ℕ → ℕ → Type 0
-IsPlainSpot spots id q = (s : Spot ℕ (Option ℕ)) × (slice_get spots id ≡ Some s) × (s.rule ≡ q) × (s.down ≡ None)
 
 -- a label where no text is marked becomes another
 abbrev pub IsPlainStep : List (Spot ℕ (Option ℕ)) → Label → Label → Type 0

@@ -5,10 +5,12 @@ ghost use Rattle.slt_grammar.specs.Keyed.{rules_of};
 ghost use Rattle.slt_grammar.specs.Grammars.{value};
 ghost use Rattle.slt_grammar.specs.declared.rules.Rule.{Rule};
 ghost use Rattle.value_tests.specs.Assembled.{start_spot};
+ghost use Rattle.value_tests.specs.Isolated.{IsIsolated};
 ghost use Rattle.value_tests.specs.MarkedValues.{marked_value};
 ghost use Rattle.value_tests.specs.Renumbered.{IsRenumbered};
 ghost use Rattle.value_tests.specs.Sources.{rules_in, IsMadeFor, AreMadeFor, IsRuleIn, AreRulesIn};
 
+use crate::apart::{are_called_once, are_rising};
 use crate::source::Source;
 use crate::spots::Spots;
 use slt_grammar::{Body, Grammar, Label, RuleList, check};
@@ -30,7 +32,8 @@ pub(crate) fn assemble(
 ) -> Result<Grammar, AllocError>
     requires start { slice_get spots.now 0 ≡ Some (start_spot (rules_in source.now)) }
     requires made { AreMadeFor source.now spots.now made.items }
-    ensures { IfOk result (λ g. value (rules_of g.rules) ≡ marked_value source.now.names.now source.now.marks.now (rules_in source.now)) }
+    ensures value { IfOk result (λ g. value (rules_of g.rules) ≡ marked_value source.now.names.now source.now.marks.now (rules_in source.now)) }
+    ensures isolated { IfOk result (λ g. IsIsolated source.now.names.now source.now.marks.now (rules_in source.now) (rules_of g.rules)) }
 {
     // The call tells that the rules are a grammar.
     let _rules = source.grammar.rules();
@@ -51,10 +54,16 @@ pub(crate) fn assemble(
     if list.as_slice().len() != count {
         return Err(AllocError);
     }
-    match check(alloc, list) {
-        Ok(new) => Ok(new),
-        Err(_) => Err(AllocError),
+    let Ok(new) = check(alloc, list) else {
+        return Err(AllocError);
+    };
+    if !are_rising(spots, origins.as_slice(), source.grammar) {
+        return Err(AllocError);
     }
+    if !are_called_once(spots, origins.as_slice(), &new) {
+        return Err(AllocError);
+    }
+    Ok(new)
 }
 
 // The spots of the rules that are made, by the rules' numbers: the last that was made comes first.

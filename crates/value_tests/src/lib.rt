@@ -7,9 +7,10 @@
 //! `marks` has the marks of all texts. What becomes a rule are `spots`: a rule without marked texts, or a rule at a place of the list of
 //! texts. Their `bodies` are made of what stands in a `source`: counts tell of `calls` how many texts they have, so that a body is
 //! measured from its end (`sizes`) and then gets its symbols from its root on (`relabel`), with numbers on a `stack`. `assemble` makes a
-//! grammar of all bodies.
+//! grammar of all bodies, and tests that the rules of marked instances are `apart`.
 #![tactic(auto)]
 
+mod apart;
 mod assemble;
 mod bodies;
 mod calls;

@@ -1,6 +1,6 @@
 // Which texts of a list have marks.
-ghost use Rattle.std.specs.Prelude.{◌≡◌, true, IfOk};
-ghost use Rattle.value_tests.specs.MarkLists.{mark_at};
+ghost use Rattle.std.specs.Prelude.{◌≡◌, ◌↔◌, true, IfOk, IsTrue};
+ghost use Rattle.value_tests.specs.MarkLists.{mark_at, NoneIsMarked};
 ghost use Rattle.value_tests.specs.TextPlaces.{IsClear};
 
 use std::alloc::{AllocError, Global};
@@ -47,6 +47,13 @@ impl Marks {
         Ok(Marks { marks, next })
     }
 
+    /// Whether no text is marked. It takes no memory, and as long for many texts as for few.
+    pub fn are_clear(&self) -> bool
+        ensures { IsTrue result ↔ NoneIsMarked self.now }
+    {
+        self.is_clear(0, self.next.len() as u64)
+    }
+
     // The mark of the text at a place, and 0 where there is no text.
     pub(crate) fn at(&self, place: u64) -> u64
         ensures { result ≡ mark_at self.now place }
@@ -59,13 +66,14 @@ impl Marks {
 
     // Whether no text is marked among so many from a place on.
     pub(crate) fn is_clear(&self, from: u64, count: u64) -> bool
-        ensures { result ≡ true → IsClear (mark_at self.now) from count }
+        ensures clear { result ≡ true → IsClear (mark_at self.now) from count }
+        ensures all { IsClear (mark_at self.now) from count → result ≡ true }
     {
         let from = from as usize;
         if from >= self.next.len() {
             return true;
         }
-        let next = self.next[from] as u64;
-        next >= from as u64 && next - from as u64 >= count
+        let next = self.next[from] as usize;
+        next >= self.next.len() || next >= from && (next - from) as u64 >= count
     }
 }

@@ -19,6 +19,9 @@ mod Parents
 mod Finding
 mod Reaching
 mod Selected
+pub mod Literals
+mod Agreeing
 mod Naming
 pub mod Coded
 pub mod Selecting
+pub mod Unmarked

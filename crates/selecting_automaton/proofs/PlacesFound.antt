@@ -1,5 +1,5 @@
 -- The place at which a table of distinct names has a name is the first one.
-use Rattle.std.proofs.Common.{◌≡◌, ◌≢◌, ℕ, zero, suc, ◌+◌, List, [], ◌∷◌, Bool, true, false, Option, Some, None, refl, ap, sym, ◌∙◌, arith, slice_get}
+use Rattle.std.proofs.Common.{◌≡◌, ◌≢◌, ℕ, zero, suc, ◌+◌, ◌*◌, length, List, [], ◌∷◌, Bool, true, false, Option, Some, None, refl, ap, sym, ◌∙◌, arith, slice_get}
 use Rattle.std.proofs.Math.Bool.{true≢false}
 use Rattle.std.proofs.lemmas.Bool.Decides.{Decides-and, Decides-eqb}
 use Rattle.std.proofs.lemmas.Slice.Eq.{bytes_eq-Decides}
@@ -7,15 +7,18 @@ use Rattle.std.specs.Prelude.{◌==◌, ◌&&◌, if◌then◌else◌}
 use Rattle.std.specs.Option.{option_map_or}
 use Rattle.std.specs.Str.{bytes_eq}
 use Rattle.plain_tree.specs.declared.kind.Kind.{Kind}
+use Rattle.plain_tree.specs.declared.kind.Kind.TheVariants as kinds
 use Rattle.plain_tree.specs.Tree.{kind_code, kind_code-inj}
 use Rattle.plain_tree.specs.NameTable.{AreDistinct}
 use Rattle.xpath_parser.specs.declared.query.Axis.{Axis}
 use Rattle.xpath_parser.specs.declared.query.Test.{Test}
 use Rattle.xpath_parser.specs.declared.query.Test.TheVariants as tests
 use Rattle.xpath_parser.specs.Numbering.{principal}
+use Rattle.xpath_parser.specs.Queries.{NameOf}
 use Rattle.xpath_parser.specs.Shown.{test_of}
-use Rattle.selecting_automaton.specs.declared.turns.Wanted.TheVariants.{Nothing, Named}
+use Rattle.selecting_automaton.specs.declared.turns.Wanted.TheVariants.{Nothing, Named, Exactly}
 use Rattle.selecting_automaton.specs.Wanting.{place_from, wanted}
+use Rattle.selecting_automaton.proofs.Truths.{none_equal}
 
 if_true : {A : Type 0} (b : Bool) (x y : A) → b ≡ true → (if b then x else y) ≡ x
 if_true true x y e = refl
@@ -71,18 +74,35 @@ module _ (kind : Kind) (name : List ℕ) where
   absent [] i e = refl
   absent (p ∷ pairs) i e = absent_by (is_pair p) p pairs i refl (λ q. e 0 (ap Some q)) (absent pairs (suc i) (λ j. e (suc j)))
 
--- what a step with a name wants
-pub wanted-found : (names : List (Kind × List ℕ)) (a : Axis) (test : Test) (kind : Kind) (name bytes : List ℕ) (place : ℕ) → test ≡ tests.Name name → kind ≡ principal a → bytes ≡ name
-    → slice_get names place ≡ Some (kind, bytes) → AreDistinct names → Named place ≡ wanted names a (test_of test)
-wanted-found names a test kind name bytes place t k b e d =
-    let f = found kind bytes names 0 place e in
-    let same : place ≡ f.0 = d kind bytes place f.0 e f.2 in
-    let at : 0 + f.0 ≡ f.0 = omega arith in
-    ap Named (same ∙ sym at) ∙ ap (λ o. option_map_or Named o Nothing) (sym f.1)
-    ∙ ap (λ x. option_map_or Named (place_from 0 x bytes names) Nothing) k ∙ ap (λ x. option_map_or Named (place_from 0 (principal a) x names) Nothing) b ∙ ap (λ x. wanted names a (test_of x)) (sym t)
+module _ (names : List (Kind × List ℕ)) (mark : List ℕ → ℕ) (a : Axis) where
+  -- what a step with a name wants
+  pub wanted-found : (test : Test) (kind : Kind) (name bytes : List ℕ) (place : ℕ) → test ≡ tests.Name name → kind ≡ principal a → bytes ≡ name → slice_get names place ≡ Some (kind, bytes) → AreDistinct names
+      → Named place ≡ wanted names mark a (test_of test)
+  wanted-found test kind name bytes place t k b e d =
+      let f = found kind bytes names 0 place e in
+      let same : place ≡ f.0 = d kind bytes place f.0 e f.2 in
+      let at : 0 + f.0 ≡ f.0 = omega arith in
+      ap Named (same ∙ sym at) ∙ ap (λ o. option_map_or Named o Nothing) (sym f.1)
+      ∙ ap (λ x. option_map_or Named (place_from 0 x bytes names) Nothing) k ∙ ap (λ x. option_map_or Named (place_from 0 (principal a) x names) Nothing) b ∙ ap (λ x. wanted names mark a (test_of x)) (sym t)
 
-pub wanted-absent : (names : List (Kind × List ℕ)) (a : Axis) (test : Test) (kind : Kind) (name bytes : List ℕ) → test ≡ tests.Name name → kind ≡ principal a → bytes ≡ name
-    → ((i : ℕ) → slice_get names i ≢ Some (kind, bytes)) → Nothing ≡ wanted names a (test_of test)
-wanted-absent names a test kind name bytes t k b e =
-    ap (λ o. option_map_or Named o Nothing) (sym (absent kind bytes names 0 e))
-    ∙ ap (λ x. option_map_or Named (place_from 0 x bytes names) Nothing) k ∙ ap (λ x. option_map_or Named (place_from 0 (principal a) x names) Nothing) b ∙ ap (λ x. wanted names a (test_of x)) (sym t)
+  pub wanted-absent : (test : Test) (kind : Kind) (name bytes : List ℕ) → test ≡ tests.Name name → kind ≡ principal a → bytes ≡ name → ((i : ℕ) → slice_get names i ≢ Some (kind, bytes)) → Nothing ≡ wanted names mark a (test_of test)
+  wanted-absent test kind name bytes t k b e =
+      ap (λ o. option_map_or Named o Nothing) (sym (absent kind bytes names 0 e))
+      ∙ ap (λ x. option_map_or Named (place_from 0 x bytes names) Nothing) k ∙ ap (λ x. option_map_or Named (place_from 0 (principal a) x names) Nothing) b ∙ ap (λ x. wanted names mark a (test_of x)) (sym t)
+
+  -- what a comparison with an attribute wants
+  module _ (x v : List ℕ) where
+    marked-exactly : (o : Option ℕ) → (mark v ≡ 0 → ⊥) → place_from 0 kinds.Attribute x names ≡ o → wanted names mark a (NameOf x v) ≡ option_map_or (λ (s : ℕ). Exactly (s + length names * mark v)) o Nothing
+    marked-exactly o n e =
+        if_false (mark v == 0) Nothing (option_map_or (λ (s : ℕ). Exactly (s + length names * mark v)) (place_from 0 kinds.Attribute x names) Nothing) (none_equal (mark v) 0 n)
+        ∙ ap (λ p. option_map_or (λ (s : ℕ). Exactly (s + length names * mark v)) p Nothing) e
+
+    pub exactly-found : (place m symbol : ℕ) → m ≡ mark v → (m ≡ 0 → ⊥) → slice_get names place ≡ Some (kinds.Attribute, x) → AreDistinct names → symbol ≡ place + length names * m → Exactly symbol ≡ wanted names mark a (NameOf x v)
+    exactly-found place m symbol k n e d s =
+        let f = found kinds.Attribute x names 0 place e in
+        let same : place ≡ f.0 = d kinds.Attribute x place f.0 e f.2 in
+        let at : symbol ≡ 0 + f.0 + length names * mark v = omega (arith, s, same, ap (λ i. length names * i) k) in
+        ap Exactly at ∙ sym (marked-exactly (Some (0 + f.0)) (λ z. n (k ∙ z)) f.1)
+
+    pub exactly-absent : (m : ℕ) → m ≡ mark v → (m ≡ 0 → ⊥) → ((i : ℕ) → slice_get names i ≢ Some (kinds.Attribute, x)) → Nothing ≡ wanted names mark a (NameOf x v)
+    exactly-absent m k n e = sym (marked-exactly None (λ z. n (k ∙ z)) (absent kinds.Attribute x names 0 e))

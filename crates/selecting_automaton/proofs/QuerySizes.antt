@@ -1,12 +1,13 @@
 -- A query that is spelled is as large as it is written out.
-use Rattle.std.proofs.Common.{◌≡◌, ◌≤◌, ℕ, ◌+◌, true, false, List, [], refl, ap, arith}
+use Rattle.std.proofs.Common.{◌≡◌, ◌≤◌, inl, inr, ℕ, ◌+◌, true, false, List, [], refl, ap, arith}
 use Rattle.xpath_parser.specs.declared.query.Axis.{Axis}
-use Rattle.xpath_parser.specs.Grammar.{Leads, at_front, at_root, below_root, after_slash, after_slashes, IsSteps, steps_of, IsStep, a_dot, a_tested, IsTested, with_axis, without_axis, with_filter as one_filter, IsOr, or_of, or_more, IsAnd, and_of, and_more, IsUnit, a_truth, in_parens, negated, a_search, IsPath, path_of, the_root, IsPaths, one_path, more_paths}
+use Rattle.xpath_parser.specs.Grammar.{Leads, at_front, at_root, below_root, after_slash, after_slashes, IsSteps, steps_of, IsStep, a_dot, a_tested, IsTested, with_axis, without_axis, with_filter as one_filter, IsOr, or_of, or_more, IsAnd, and_of, and_more, IsUnit, a_truth, in_parens, negated, a_comparison, a_search, IsPath, path_of, the_root, IsPaths, one_path, more_paths}
 use Rattle.xpath_parser.specs.Limits as read
 use Rattle.xpath_parser.specs.Meant.{meant_steps, meant_filters, meant_filter, meant_paths, named}
 use Rattle.xpath_parser.specs.Queries.{Steps, no_steps, step, Filters, no_filters, filter_and, Filter, Paths, no_paths, path_or, Test, with_step, with_filter, with_path}
 use Rattle.xpath_parser.specs.Spelled.{Spells}
 use Rattle.xpath_parser.specs.Trees as trees
+use Rattle.xpath_parser.proofs.Comparing.{compared-is}
 use Rattle.selecting_automaton.specs.Sizes.{parts_of_steps, parts_of_filters, parts_of_filter, parts_of_paths, parts_of_more, steps_along, parts_along, steps_outside, parts_inside}
 
 steps-with_step : (ss : Steps) (a : Axis) (t : Test) (fs : Filters) → steps_along (with_step ss a t fs) ≡ steps_along ss + 1
@@ -122,6 +123,7 @@ module _ (bytes : List ℕ) where
     unit-same _ _ _ (a_truth false a) = refl
     unit-same _ _ _ (in_parens f a b i) = or-same f a _ i
     unit-same _ _ _ (negated f a b i) = omega (arith, or-same f a _ i)
+    unit-same _ _ _ (a_comparison c v a) = elim (compared-is bytes c v) [ inl w ↦ ap parts_of_filter w.1 | inr w ↦ ap parts_of_filter w.2 ]
     unit-same _ _ _ (a_search ps a b i) = paths-same _ ps a b i (λ x y h. elim h [ path_of side ss a b s ↦ let k = some-parts _ trees.no_steps a b s in omega arith ])
 
     path-same : (side : _) (ss : trees.Steps) (a b : _) → IsPath side ss a b → SameSteps ss

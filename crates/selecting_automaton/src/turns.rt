@@ -2,13 +2,17 @@
 use plain_tree::Kind;
 use xpath_parser::Axis;
 
-/// Which symbols a step takes.
+/// Which symbols a step takes. Symbol f of N names, at a node whose text has mark m, is f + N*m; all but the last two leave marks aside.
 #[derive(Clone, Copy, Debug, PartialEq, Eq)]
 pub enum Wanted {
     Nothing,
     Anything,
     OfKind(Kind),
     Named(usize),
+    /// Those of texts with this mark.
+    TextWith(usize),
+    /// This one alone, with its mark.
+    Exactly(usize),
 }
 
 /// One turn of the selector at a node.

@@ -5,7 +5,7 @@ use Rattle.xpath_parser.specs.declared.postfix.Side.{Side}
 use Rattle.xpath_parser.specs.declared.postfix.Side.TheVariants.{Outer, Inner}
 use Rattle.xpath_parser.specs.declared.postfix.Op.{Op}
 use Rattle.xpath_parser.specs.declared.postfix.Op.TheVariants as ops
-use Rattle.xpath_parser.specs.Trees.{Steps, no_steps, then_step, Filters, no_filters, then_filter, Filter, Either, Both, Negated, Told, Found, Paths, first_path, then_path, steps_on, filters_on, filter_on, paths_on, code_of}
+use Rattle.xpath_parser.specs.Trees.{Steps, no_steps, then_step, Filters, no_filters, then_filter, Filter, Either, Both, Negated, Told, Found, Compared, Paths, first_path, then_path, steps_on, filters_on, filter_on, paths_on, code_of}
 use Rattle.xpath_parser.specs.Queries as queries
 use Rattle.xpath_parser.specs.Queries.{with_step, with_filter, with_path, filtered}
 use Rattle.xpath_parser.specs.Meant.{named, meant_steps, meant_filters, meant_filter, meant_paths}
@@ -39,6 +39,7 @@ mutual
   filter-built b (Both f g) o = ap (applied b ops.And) (filter-built b g (filter_on f o) ∙ ap (truth_on (meant_filter b g)) (filter-built b f o))
   filter-built b (Negated f) o = ap (applied b ops.Not) (filter-built b f o)
   filter-built b (Told t) o = refl
+  filter-built b (Compared c v) o = refl
   filter-built b (Found ps) o = ap (applied b ops.Exists) (paths-built b Inner ps (ops.Begin ∷ o) refl refl) ∙ ap (λ qs. truth_on (queries.Exists qs) (built b o)) (all-paths b ps)
 
   filters-built : (b : List ℕ) (fs : Filters) (o : List Op) (ss : queries.Steps) (x : Axis) (t : queries.Test) → (built b o).search.steps ≡ with_step ss x t queries.no_filters

@@ -17,7 +17,7 @@ use Rattle.xpath_parser.specs.declared.machine.Frame.TheVariants as frames
 use Rattle.xpath_parser.specs.declared.machine.Mode.{Mode}
 use Rattle.xpath_parser.specs.declared.machine.Mode.TheVariants as modes
 use Rattle.xpath_parser.specs.Trees.{Steps, Filters, Filter, Paths, steps_on, filters_on, filter_on, paths_on, code_of}
-use Rattle.xpath_parser.specs.Grammar.{IsTest, a_kind, a_name, a_name_and, a_name_or, Leads, at_front, at_root, below_root, after_slash, after_slashes, IsSteps, steps_of, IsStep, a_dot, a_tested, IsTested, with_axis, without_axis, with_filter, IsOr, or_of, or_more, IsAnd, and_of, and_more, IsUnit, a_truth, in_parens, negated, a_search, IsPath, path_of, the_root, IsPaths, one_path, more_paths}
+use Rattle.xpath_parser.specs.Grammar.{IsTest, a_kind, a_name, a_name_and, a_name_or, Leads, at_front, at_root, below_root, after_slash, after_slashes, IsSteps, steps_of, IsStep, a_dot, a_tested, IsTested, with_axis, without_axis, with_filter, IsOr, or_of, or_more, IsAnd, and_of, and_more, IsUnit, a_truth, in_parens, negated, a_comparison, a_search, IsPath, path_of, the_root, IsPaths, one_path, more_paths}
 use Rattle.xpath_parser.specs.Run.{first_level, path_wanted, side_of}
 use Rattle.xpath_parser.proofs.ListRun.{moved, level_on, after_unit, run, start}
 
@@ -93,6 +93,7 @@ unit-of-step x l fs o [] e = e
 unit-of-step x l fs o (tokens.Open ∷ ts) e = refused x _ ts e
 unit-of-step x l fs o (tokens.NotOpen ∷ ts) e = refused x _ ts e
 unit-of-step x l fs o (tokens.Truth b ∷ ts) e = refused x _ ts e
+unit-of-step x l fs o (tokens.Compares c v ∷ ts) e = refused x _ ts e
 unit-of-step x l fs o (_ ∷ ts) e = e
 
 search-ended : (x : List Op) (l : Level) (fs : List Frame) (o : List Op) (ts : List Token) → Reads x (modes.UnitDone l) fs (ops.Exists ∷ o) ts → after_whole Inner l fs o ts ≡ Some x
@@ -175,6 +176,7 @@ mutual
   unit-read : (x : List Op) (f : Filter) (a b : List Token) → IsUnit f a b → (l : Level) (fs : List Frame) (o : List Op)
       → Reads x (modes.UnitDone l) fs (filter_on f o) b → Reads x (modes.UnitWanted l) fs o a
   unit-read x _ _ _ (a_truth t a) l fs o e = e
+  unit-read x _ _ _ (a_comparison c v a) l fs o e = e
   unit-read x _ _ _ (in_parens f a b s) l fs o e = or-read x f a (tokens.Close ∷ b) s (frames.Parens l ∷ fs) o e
   unit-read x _ _ _ (negated f a b s) l fs o e = or-read x f a (tokens.Close ∷ b) s (frames.NotParens l ∷ fs) o e
   unit-read x _ _ _ (a_search ps a b s) l fs o e = unit-of-step x l fs o a (paths-read x Inner ps a b s l fs (ops.Begin ∷ o) (search-ended x l fs _ b e))

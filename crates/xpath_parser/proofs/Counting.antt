@@ -4,7 +4,7 @@ use Rattle.xpath_parser.specs.declared.postfix.Side.TheVariants.{Outer, Inner}
 use Rattle.xpath_parser.specs.declared.postfix.Op.{Op}
 use Rattle.xpath_parser.specs.declared.postfix.Op.TheVariants as ops
 use Rattle.xpath_parser.specs.declared.postfix.Counts.{Counts}
-use Rattle.xpath_parser.specs.Trees.{Steps, no_steps, then_step, Filters, no_filters, then_filter, Filter, Either, Both, Negated, Told, Found, Paths, first_path, then_path, steps_on, filters_on, filter_on, paths_on, code_of}
+use Rattle.xpath_parser.specs.Trees.{Steps, no_steps, then_step, Filters, no_filters, then_filter, Filter, Either, Both, Negated, Told, Found, Compared, Paths, first_path, then_path, steps_on, filters_on, filter_on, paths_on, code_of}
 use Rattle.xpath_parser.specs.Limits.{steps_outside, outside, parts_of_filters, parts_of_filter, parts_of_paths, parts_of_steps, steps_inside, inside}
 use Rattle.xpath_parser.specs.Noting.{counted}
 use Rattle.xpath_parser.proofs.Kept.{counts}
@@ -49,6 +49,7 @@ mutual
   filter-counted (Both f g) o = ap one (filter-counted g (filter_on f o) ∙ ap (λ c. more c 0 (parts_of_filter g)) (filter-counted f o)) ∙ joined (counts o) (parts_of_filter f) (parts_of_filter g)
   filter-counted (Negated f) o = ap one (filter-counted f o) ∙ more-one (counts o) (parts_of_filter f)
   filter-counted (Told b) o = same_counts (counts o).outer ((counts o).outer + 0) ((counts o).inner + 1) ((counts o).inner + 1) (omega arith) refl
+  filter-counted (Compared c v) o = same_counts (counts o).outer ((counts o).outer + 0) ((counts o).inner + 1) ((counts o).inner + 1) (omega arith) refl
   filter-counted (Found ps) o = paths-counted ps (ops.Begin ∷ o)
 
   paths-counted : (ps : Paths) (o : List Op) → counts (paths_on Inner ps o) ≡ more (counts o) 0 (parts_of_paths ps)

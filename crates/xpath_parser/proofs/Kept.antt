@@ -40,6 +40,7 @@ passed (ops.Bar Outer) c h = h
 passed (ops.Bar Inner) c h = grind (arith)
 passed ops.Exists c h = h
 passed (ops.Truth b) c h = grind (arith)
+passed (ops.Compare operand v) c h = grind (arith)
 passed ops.Not c h = grind (arith)
 passed ops.And c h = grind (arith)
 passed ops.Or c h = grind (arith)
@@ -121,6 +122,7 @@ wanted-kept : (l : Level) (fs : List Frame) (o : List Op) (t : Token) → Follow
 wanted-kept l fs o tokens.Open = refl
 wanted-kept l fs o tokens.NotOpen = refl
 wanted-kept l fs o (tokens.Truth b) = refl
+wanted-kept l fs o (tokens.Compares c v) = refl
 wanted-kept l fs o t = step-kept (Inside l) fs (ops.Begin ∷ o) t
 
 first-kept : (fs : List Frame) (o : List Op) (t : Token) → Follows (machine.first_wanted noted fs (kept o) t) (plain.first_wanted fs o t)

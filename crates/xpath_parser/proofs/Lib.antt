@@ -6,6 +6,7 @@ pub mod Sound
 pub mod Kept
 pub mod Counting
 pub mod Built
+pub mod Comparing
 pub mod Lexing
 pub mod Feeding
 pub mod NameLaws

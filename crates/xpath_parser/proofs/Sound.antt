@@ -18,8 +18,8 @@ use Rattle.xpath_parser.specs.declared.machine.Frame.{Frame}
 use Rattle.xpath_parser.specs.declared.machine.Frame.TheVariants as frames
 use Rattle.xpath_parser.specs.declared.machine.Mode.{Mode}
 use Rattle.xpath_parser.specs.declared.machine.Mode.TheVariants as modes
-use Rattle.xpath_parser.specs.Trees.{Steps, no_steps, then_step, Filters, no_filters, then_filter, Filter, Either, Both, Negated, Told, Found, Paths, first_path, then_path, then_below, steps_on, filters_on, filter_on, paths_on, code_of}
-use Rattle.xpath_parser.specs.Grammar.{a_kind, a_name, a_name_and, a_name_or, Leads, at_front, at_root, below_root, after_slash, after_slashes, steps_of, IsStep, a_dot, a_tested, IsTested, with_axis, without_axis, with_filter, IsOr, or_of, or_more, IsAnd, and_of, and_more, IsUnit, a_truth, in_parens, negated, a_search, IsPath, path_of, the_root, IsPaths, one_path, more_paths}
+use Rattle.xpath_parser.specs.Trees.{Steps, no_steps, then_step, Filters, no_filters, then_filter, Filter, Either, Both, Negated, Told, Found, Compared, Paths, first_path, then_path, then_below, steps_on, filters_on, filter_on, paths_on, code_of}
+use Rattle.xpath_parser.specs.Grammar.{a_kind, a_name, a_name_and, a_name_or, Leads, at_front, at_root, below_root, after_slash, after_slashes, steps_of, IsStep, a_dot, a_tested, IsTested, with_axis, without_axis, with_filter, IsOr, or_of, or_more, IsAnd, and_of, and_more, IsUnit, a_truth, in_parens, negated, a_comparison, a_search, IsPath, path_of, the_root, IsPaths, one_path, more_paths}
 use Rattle.xpath_parser.specs.Run.{first_level, path_wanted, side_of}
 use Rattle.xpath_parser.proofs.ListRun.{At, ands_on, ors_on, level_on, closed_parens, closed_filter, after_unit, after_paths, after_step, after_test, test_wanted, step_wanted, unit_wanted, first_wanted, after_root, step, ended_path, ended, run, start}
 
@@ -226,6 +226,7 @@ wanted-sound : (all : List Token) (l : Level) (fs : List Frame) (o : List Op) (t
 wanted-sound all l fs o tokens.Open ts s = first-unit all (frames.Parens l ∷ fs) ts o (in_paren all l fs ts o s)
 wanted-sound all l fs o tokens.NotOpen ts s = first-unit all (frames.NotParens l ∷ fs) ts o (in_not all l fs ts o s)
 wanted-sound all l fs o (tokens.Truth b) ts s = done_at all l fs (Told b) (tokens.Truth b ∷ ts) ts o s (a_truth b ts)
+wanted-sound all l fs o (tokens.Compares c v) ts s = done_at all l fs (Compared c v) (tokens.Compares c v ∷ ts) ts o s (a_comparison c v ts)
 wanted-sound all l fs o t ts s =
     step-sound all (Inside l) fs (ops.Begin ∷ o) t ts (front all (Inside l) fs (t ∷ ts) (ops.Begin ∷ o) (path_at all (Inside l) fs (t ∷ ts) (t ∷ ts) (ops.Begin ∷ o) (ops.Begin ∷ o) (in_at all l fs (t ∷ ts) o s) (no_bar Inner (t ∷ ts) (ops.Begin ∷ o))))
 

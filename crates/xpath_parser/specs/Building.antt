@@ -8,7 +8,7 @@ use Rattle.xpath_parser.specs.declared.query.Filter.{Filter}
 use Rattle.xpath_parser.specs.Shown.{filter_of, paths_of, steps_of}
 use Rattle.xpath_parser.specs.Queries as queries
 use Rattle.xpath_parser.specs.Queries.{with_step, with_path, filtered}
-use Rattle.xpath_parser.specs.Meant.{named, told}
+use Rattle.xpath_parser.specs.Meant.{named, told, compared}
 
 -- paths that are being built
 pub record Search : Type 0 where
@@ -48,6 +48,7 @@ applied b ops.Begin s = record { search = no_search; outer = s.search ∷ s.oute
 applied b (ops.Bar side) s = record { search = next_path s.search; outer = s.outer; truths = s.truths }
 applied b ops.Exists s = record { search = get_or s.outer 0 no_search; outer = drop 1 s.outer; truths = queries.Exists (whole s.search) ∷ s.truths }
 applied b (ops.Truth t) s = record { search = s.search; outer = s.outer; truths = told t ∷ s.truths }
+applied b (ops.Compare c v) s = record { search = s.search; outer = s.outer; truths = compared b c v ∷ s.truths }
 applied b ops.Not s = record { search = s.search; outer = s.outer; truths = queries.Not (top s.truths) ∷ drop 1 s.truths }
 applied b ops.And s = record { search = s.search; outer = s.outer; truths = queries.And (second s.truths) (top s.truths) ∷ drop 2 s.truths }
 applied b ops.Or s = record { search = s.search; outer = s.outer; truths = queries.Or (second s.truths) (top s.truths) ∷ drop 2 s.truths }

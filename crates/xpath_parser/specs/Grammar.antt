@@ -7,10 +7,11 @@ use Rattle.xpath_parser.specs.declared.postfix.Side.{Side}
 use Rattle.xpath_parser.specs.declared.postfix.Side.TheVariants.{Outer, Inner}
 use Rattle.xpath_parser.specs.declared.token.Asked.{Asked}
 use Rattle.xpath_parser.specs.declared.token.Asked.TheVariants as tests
+use Rattle.xpath_parser.specs.declared.token.Operand.{Operand}
 use Rattle.xpath_parser.specs.declared.token.Span.{Span}
 use Rattle.xpath_parser.specs.declared.token.Token.{Token}
 use Rattle.xpath_parser.specs.declared.token.Token.TheVariants as tokens
-use Rattle.xpath_parser.specs.Trees.{Steps, no_steps, then_step, Filters, no_filters, then_filter, Filter, Either, Both, Negated, Told, Found, Paths, first_path, then_path, then_below}
+use Rattle.xpath_parser.specs.Trees.{Steps, no_steps, then_step, Filters, no_filters, then_filter, Filter, Either, Both, Negated, Told, Found, Compared, Paths, first_path, then_path, then_below}
 
 -- NodeTest (2.3): test = '*' | qname | ('node' | 'text' | 'comment' | 'processing-instruction') '(' ')'
 pub data IsTest : Asked → List Token → List Token → Type 0 where
@@ -54,11 +55,12 @@ mutual
     and_of : (f : Filter) (a b : List Token) → IsUnit f a b → IsAnd f a b
     and_more : (f g : Filter) (w : Span) (a b c : List Token) → IsAnd f a (tokens.AndWord w ∷ b) → IsUnit g b c → IsAnd (Both f g) a c
 
-  -- what `and` joins (3.1, 3.3, 4.3): unit = 'not' '(' or ')' | 'true' '(' ')' | 'false' '(' ')' | '(' or ')' | steps ('|' steps)*
+  -- what `and` joins (3.1, 3.3, 3.4, 4.3): unit = 'not' '(' or ')' | 'true' '(' ')' | 'false' '(' ')' | '(' or ')' | comparison | steps ('|' steps)*
   pub data IsUnit : Filter → List Token → List Token → Type 0 where
     a_truth : (t : Bool) (a : List Token) → IsUnit (Told t) (tokens.Truth t ∷ a) a
     in_parens : (f : Filter) (a b : List Token) → IsOr f a (tokens.Close ∷ b) → IsUnit f (tokens.Open ∷ a) b
     negated : (f : Filter) (a b : List Token) → IsOr f a (tokens.Close ∷ b) → IsUnit (Negated f) (tokens.NotOpen ∷ a) b
+    a_comparison : (c : Operand) (v : Span) (a : List Token) → IsUnit (Compared c v) (tokens.Compares c v ∷ a) a
     a_search : (ps : Paths) (a b : List Token) → IsPaths Inner ps a b → IsUnit (Found ps) a b
 
   -- LocationPath (2): path = '/' | '/' steps | '//' steps | steps at the top, and steps inside filters

@@ -9,6 +9,7 @@ pub mod Noting
 pub mod Run
 pub mod Spelled
 pub mod Meant
+pub mod Comparing
 pub mod Building
 pub mod Laws
 pub mod Numbering

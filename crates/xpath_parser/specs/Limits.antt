@@ -1,6 +1,6 @@
 -- How large a query is: its steps outside filters, and the parts in its filters.
 use Rattle.std.specs.Prelude.{ℕ, ◌+◌, ◌<◌, ◌⊎◌}
-use Rattle.xpath_parser.specs.Trees.{Steps, no_steps, then_step, Filters, no_filters, then_filter, Filter, Either, Both, Negated, Told, Found, Paths, first_path, then_path}
+use Rattle.xpath_parser.specs.Trees.{Steps, no_steps, then_step, Filters, no_filters, then_filter, Filter, Either, Both, Negated, Told, Found, Compared, Paths, first_path, then_path}
 
 -- the steps of a path, those in its filters aside
 abbrev pub steps_outside : Steps → ℕ
@@ -12,7 +12,7 @@ abbrev pub outside : Paths → ℕ
 outside (first_path ss) = steps_outside ss
 outside (then_path ps ss) = outside ps + steps_outside ss
 
--- the parts in the filters of a step: each step, each `or`, `and` and `|`, each `not`, `true()` and `false()` is one
+-- the parts in the filters of a step: each step, each `or`, `and` and `|`, each `not`, `true()` and `false()`, and each comparison is one
 abbrev mutual
   pub parts_of_filters : Filters → ℕ
   parts_of_filters no_filters = 0
@@ -24,6 +24,7 @@ abbrev mutual
   parts_of_filter (Negated f) = parts_of_filter f + 1
   parts_of_filter (Told b) = 1
   parts_of_filter (Found ps) = parts_of_paths ps
+  parts_of_filter (Compared c v) = 1
 
   pub parts_of_paths : Paths → ℕ
   parts_of_paths (first_path ss) = parts_of_steps ss

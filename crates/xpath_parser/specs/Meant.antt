@@ -2,8 +2,10 @@
 use Rattle.std.specs.Prelude.{ℕ, ◌-◌, Bool, true, false, List, take, drop}
 use Rattle.xpath_parser.specs.declared.token.Asked.{Asked}
 use Rattle.xpath_parser.specs.declared.token.Asked.TheVariants as tests
+use Rattle.xpath_parser.specs.declared.token.Operand.{Operand}
+use Rattle.xpath_parser.specs.declared.token.Operand.TheVariants as operands
 use Rattle.xpath_parser.specs.declared.token.Span.{Span}
-use Rattle.xpath_parser.specs.Trees.{Steps, no_steps, then_step, Filters, no_filters, then_filter, Filter, Either, Both, Negated, Told, Found, Paths, first_path, then_path}
+use Rattle.xpath_parser.specs.Trees.{Steps, no_steps, then_step, Filters, no_filters, then_filter, Filter, Either, Both, Negated, Told, Found, Compared, Paths, first_path, then_path}
 use Rattle.xpath_parser.specs.Queries as queries
 use Rattle.xpath_parser.specs.Queries.{with_step, with_filter, with_path, filtered}
 
@@ -25,6 +27,11 @@ abbrev pub told : Bool → queries.Filter
 told true = queries.True
 told false = queries.False
 
+-- a comparison, with its name and its value
+abbrev pub compared : List ℕ → Operand → Span → queries.Filter
+compared b operands.Texts v = queries.text_is (part b v)
+compared b (operands.Attributes n) v = queries.attribute_is (part b n) (part b v)
+
 -- the same from the front, with names as they are written
 abbrev mutual
   pub meant_steps : List ℕ → Steps → queries.Steps
@@ -41,6 +48,7 @@ abbrev mutual
   meant_filter b (Negated f) = queries.Not (meant_filter b f)
   meant_filter b (Told t) = told t
   meant_filter b (Found ps) = queries.Exists (meant_paths b ps)
+  meant_filter b (Compared c v) = compared b c v
 
   pub meant_paths : List ℕ → Paths → queries.Paths
   meant_paths b (first_path ss) = queries.path_or (meant_steps b ss) queries.no_paths

@@ -18,6 +18,7 @@ counted (ops.Bar Outer) c = c
 counted (ops.Bar Inner) c = record { outer = c.outer; inner = c.inner + 1 }
 counted ops.Exists c = c
 counted (ops.Truth b) c = record { outer = c.outer; inner = c.inner + 1 }
+counted (ops.Compare operand v) c = record { outer = c.outer; inner = c.inner + 1 }
 counted ops.Not c = record { outer = c.outer; inner = c.inner + 1 }
 counted ops.And c = record { outer = c.outer; inner = c.inner + 1 }
 counted ops.Or c = record { outer = c.outer; inner = c.inner + 1 }

@@ -8,14 +8,17 @@ use Rattle.plain_tree.specs.Tree.{Tree, node, node_count, kind_code}
 use Rattle.plain_tree.specs.Numbers.{nodes, kind_of}
 use Rattle.xpath_parser.specs.declared.query.Axis.{Axis}
 use Rattle.xpath_parser.specs.declared.query.Axis.TheVariants as axes
-use Rattle.xpath_parser.specs.Queries.{Test, Star, Name, AnyNode, TextNode, CommentNode, InstructionNode}
+use Rattle.xpath_parser.specs.Queries.{Test, Star, Name, AnyNode, TextNode, CommentNode, InstructionNode, TextOf, NameOf}
 
--- whether a node is of a kind, and has a name
+-- whether a node is of a kind, has a name, and has a value
 abbrev pub is_kind : Kind → Tree → Bool
 is_kind k t = kind_code (kind_of t) == kind_code k
 
 abbrev pub has_name : List ℕ → Tree → Bool
 has_name n (node kind name value kids) = bytes_eq name n
+
+abbrev pub has_text : List ℕ → Tree → Bool
+has_text v (node kind name value kids) = bytes_eq value v
 
 -- the principal node type of an axis (XPath 1.0, 2.3)
 abbrev pub principal : Axis → Kind
@@ -30,6 +33,8 @@ passes_test a AnyNode t = true
 passes_test a TextNode t = is_kind kinds.Text t
 passes_test a CommentNode t = is_kind kinds.Comment t
 passes_test a InstructionNode t = is_kind kinds.Instruction t
+passes_test a (TextOf v) t = is_kind kinds.Text t && has_text v t
+passes_test a (NameOf x v) t = is_kind kinds.Attribute t && (has_name x t && has_text v t)
 
 -- how many nodes there are, how many are below each, which are attributes, and which pass a test
 pub record Numbering : Type 0 where

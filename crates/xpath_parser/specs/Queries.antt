@@ -1,6 +1,7 @@
 -- Queries, written out: the paths, the steps of a path and the filters of a step are lists from the front.
 use Rattle.std.specs.Prelude.{ℕ, List}
 use Rattle.xpath_parser.specs.declared.query.Axis.{Axis}
+use Rattle.xpath_parser.specs.declared.query.Axis.TheVariants as axes
 
 -- NodeTest (XPath 1.0, 2.3)
 pub data Test : Type 0 where
@@ -10,6 +11,9 @@ pub data Test : Type 0 where
   TextNode : Test
   CommentNode : Test
   InstructionNode : Test
+  -- what comparisons ask: a text with a value, and an attribute with a name and a value
+  TextOf : List ℕ → Test
+  NameOf : List ℕ → List ℕ → Test
 
 mutual
   -- RelativeLocationPath (2)
@@ -54,3 +58,10 @@ abbrev pub filtered : Steps → Filter → Steps
 filtered no_steps f = no_steps
 filtered (step a t fs no_steps) f = step a t (with_filter fs f) no_steps
 filtered (step a t fs (step b u gs ss)) f = step a t fs (filtered (step b u gs ss) f)
+
+-- A node-set is compared with a string (3.4): some child is a text with the value, or some attribute has the name and the value.
+abbrev pub text_is : List ℕ → Filter
+text_is v = Exists (path_or (step axes.Child (TextOf v) no_filters no_steps) no_paths)
+
+abbrev pub attribute_is : List ℕ → List ℕ → Filter
+attribute_is x v = Exists (path_or (step axes.Attribute (NameOf x v) no_filters no_steps) no_paths)

@@ -126,6 +126,7 @@ module _ {Code : Type 0} (write : Op → Code → Code) where
   unit_wanted l fs o tokens.Open = moved (modes.UnitWanted first_level) (frames.Parens l ∷ fs) o
   unit_wanted l fs o tokens.NotOpen = moved (modes.UnitWanted first_level) (frames.NotParens l ∷ fs) o
   unit_wanted l fs o (tokens.Truth b) = moved (modes.UnitDone l) fs (write (ops.Truth b) o)
+  unit_wanted l fs o (tokens.Compares c v) = moved (modes.UnitDone l) fs (write (ops.Compare c v) o)
   unit_wanted l fs o t = step_wanted (Inside l) fs (write ops.Begin o) t
 
   -- a path is to come

@@ -1,5 +1,5 @@
 -- The query for which the program's types stand.
-use Rattle.xpath_parser.specs.declared.query.Filter.{Filter, Or', And', Not', True, False, Exists}
+use Rattle.xpath_parser.specs.declared.query.Filter.{Filter, Or', And', Not', True, False, Exists, TextIs, AttributeIs}
 use Rattle.xpath_parser.specs.declared.query.Filter.TheBlock.{Row_of-Filter, end_of-Filter, more_of-Filter}
 use Rattle.xpath_parser.specs.declared.query.Test.{Test}
 use Rattle.xpath_parser.specs.declared.query.Test.TheVariants as tests
@@ -31,6 +31,8 @@ abbrev mutual
   filter_of True = queries.True
   filter_of False = queries.False
   filter_of (Exists ps) = queries.Exists (paths_of ps)
+  filter_of (TextIs v) = queries.text_is v
+  filter_of (AttributeIs x v) = queries.attribute_is x v
 
   pub paths_of : Paths → queries.Paths
   paths_of (Paths' shape all) = path_row all

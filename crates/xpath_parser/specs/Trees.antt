@@ -4,6 +4,8 @@ use Rattle.xpath_parser.specs.declared.query.Axis.{Axis}
 use Rattle.xpath_parser.specs.declared.query.Axis.TheVariants as axes
 use Rattle.xpath_parser.specs.declared.token.Asked.{Asked}
 use Rattle.xpath_parser.specs.declared.token.Asked.TheVariants as tests
+use Rattle.xpath_parser.specs.declared.token.Operand.{Operand}
+use Rattle.xpath_parser.specs.declared.token.Span.{Span}
 use Rattle.xpath_parser.specs.declared.postfix.Side.{Side}
 use Rattle.xpath_parser.specs.declared.postfix.Side.TheVariants as sides
 use Rattle.xpath_parser.specs.declared.postfix.Op.{Op}
@@ -20,13 +22,14 @@ mutual
     no_filters : Filters
     then_filter : Filters → Filter → Filters
 
-  -- one filter: `or`, `and`, `not`, a truth, or paths that lead somewhere
+  -- one filter: `or`, `and`, `not`, a truth, paths that lead somewhere, or a comparison with a literal
   pub data Filter : Type 0 where
     Either : Filter → Filter → Filter
     Both : Filter → Filter → Filter
     Negated : Filter → Filter
     Told : Bool → Filter
     Found : Paths → Filter
+    Compared : Operand → Span → Filter
 
   -- the paths with `|` between them
   pub data Paths : Type 0 where
@@ -53,6 +56,7 @@ abbrev mutual
   filter_on (Negated f) o = ops.Not ∷ filter_on f o
   filter_on (Told b) o = ops.Truth b ∷ o
   filter_on (Found ps) o = ops.Exists ∷ paths_on sides.Inner ps (ops.Begin ∷ o)
+  filter_on (Compared c v) o = ops.Compare c v ∷ o
 
   pub paths_on : Side → Paths → List Op → List Op
   paths_on s (first_path ss) o = steps_on s ss o

@@ -1,14 +1,15 @@
 // A query from its postfix code. Code within the limits makes no tree that is deep.
-ghost use Rattle.std.specs.Prelude.{◌≡◌, ◌-◌, ◌∷◌, [], IfOk, OnOk, reverse, map, take, drop, get_or};
+ghost use Rattle.std.specs.Prelude.{◌≡◌, ◌∷◌, [], IfOk, OnOk, reverse, map, take, drop, get_or};
 ghost use Rattle.xpath_parser.specs.Queries as queries;
 ghost use Rattle.xpath_parser.specs.Shown.{test_of, filter_of, paths_of, steps_of};
-ghost use Rattle.xpath_parser.specs.Meant.{part, named, told};
+ghost use Rattle.xpath_parser.specs.Meant.{named, told, compared};
 ghost use Rattle.xpath_parser.specs.Building.{top, no_search, whole, applied, built};
 ghost use Rattle.xpath_parser.specs.Building.{truths_of, searches_of, search_of, building_of};
 
+use crate::literals::part;
 use crate::postfix::{Op, Side};
 use crate::query::{Axis, Filter, Paths, QuerySteps, Test};
-use crate::token::{Asked, Span};
+use crate::token::{Asked, Operand, Span};
 use plain_tree::Bytes;
 use std::alloc::{AllocError, Global};
 use std::mem;
@@ -41,16 +42,6 @@ pub(crate) struct Builder {
     truths: Vec<Filter>,
 }
 
-/// The bytes at a place, as far as they are there.
-fn part(bytes: &[u8], span: Span) -> &[u8]
-    ensures { result.now ≡ part bytes.now span }
-{
-    let from = span.from.min(bytes.len());
-    let rest = &bytes[from..];
-    let count = span.to.saturating_sub(span.from).min(rest.len());
-    &rest[..count]
-}
-
 /// The test, with its name from the bytes.
 fn test_named(alloc: Global, bytes: &[u8], asked: Asked) -> Result<Test, AllocError>
     ensures { IfOk result (λ t. test_of t ≡ named bytes.now asked) }
@@ -62,6 +53,25 @@ fn test_named(alloc: Global, bytes: &[u8], asked: Asked) -> Result<Test, AllocEr
         Asked::TextNode => Ok(Test::TextNode),
         Asked::CommentNode => Ok(Test::CommentNode),
         Asked::InstructionNode => Ok(Test::InstructionNode),
+    }
+}
+
+/// The comparison of nodes with a value, with their name and the value from the bytes.
+fn compared(
+    alloc: Global,
+    bytes: &[u8],
+    operand: Operand,
+    value: Span,
+) -> Result<Filter, AllocError>
+    ensures { IfOk result (λ f. filter_of f ≡ compared bytes.now operand value) }
+{
+    let text = Bytes::from_slice(alloc, part(bytes, value))?;
+    match operand {
+        Operand::Texts => Ok(Filter::TextIs(text)),
+        Operand::Attributes(name) => {
+            let name = Bytes::from_slice(alloc, part(bytes, name))?;
+            Ok(Filter::AttributeIs(name, text))
+        }
     }
 }
 
@@ -173,6 +183,20 @@ impl Builder {
         Ok(())
     }
 
+    fn compare(
+        &mut self,
+        alloc: Global,
+        bytes: &[u8],
+        operand: Operand,
+        value: Span,
+    ) -> Result<(), AllocError>
+        ensures { OnOk result (building_of self.new ≡ applied bytes.now (Op.Compare operand value) (building_of self.old)) }
+    {
+        let truth = compared(alloc, bytes, operand, value)?;
+        push_truth(&mut self.truths, truth)?;
+        Ok(())
+    }
+
     fn not(&mut self, alloc: Global) -> Result<(), AllocError>
         ensures { OnOk result (building_of self.new ≡ applied [] Op.Not (building_of self.old)) }
     {
@@ -215,6 +239,7 @@ impl Builder {
             Op::Bar(side) => self.bar(alloc, side),
             Op::Exists => self.exists(alloc),
             Op::Truth(truth) => push_truth(&mut self.truths, told(truth)),
+            Op::Compare(operand, value) => self.compare(alloc, bytes, operand, value),
             Op::Not => self.not(alloc),
             Op::And => self.and(alloc),
             Op::Or => self.or(alloc),

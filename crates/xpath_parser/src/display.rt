@@ -1,5 +1,7 @@
 // A query, written out in full. Each `and` and `or` stands in parentheses, and each path of the query begins with `/`.
-use crate::query::{Axis, Filter, Filters, Paths, Query, QueryStep, QuerySteps, Test};
+use crate::parsed::Query;
+use crate::query::{Axis, Filter, Filters, Paths, QueryStep, QuerySteps, Test};
+use plain_tree::Bytes;
 use std::fmt::{self, Display, Formatter};
 use std::str;
 
@@ -21,16 +23,32 @@ impl Display for Test {
     fn fmt<W: fmt::Write>(&self, f: &mut Formatter<W>) -> fmt::Result {
         match self {
             Test::Star => f.write_str("*"),
-            Test::Name(name) => match str::from_utf8(name.as_slice()) {
-                Ok(text) => f.write_str(text),
-                Err(_) => Err(fmt::Error),
-            },
+            Test::Name(name) => write_bytes(f, name),
             Test::AnyNode => f.write_str("node()"),
             Test::TextNode => f.write_str("text()"),
             Test::CommentNode => f.write_str("comment()"),
             Test::InstructionNode => f.write_str("processing-instruction()"),
         }
     }
+}
+
+fn write_bytes<W: fmt::Write>(f: &mut Formatter<W>, bytes: &Bytes) -> fmt::Result {
+    match str::from_utf8(bytes.as_slice()) {
+        Ok(text) => f.write_str(text),
+        Err(_) => Err(fmt::Error),
+    }
+}
+
+// A value between quotes that it lacks.
+fn write_literal<W: fmt::Write>(f: &mut Formatter<W>, value: &Bytes) -> fmt::Result {
+    let quote = if value.as_slice().contains(&b'"') {
+        "'"
+    } else {
+        "\""
+    };
+    f.write_str(quote)?;
+    write_bytes(f, value)?;
+    f.write_str(quote)
 }
 
 #[cycle(display)]
@@ -58,6 +76,16 @@ fn write_filter<W: fmt::Write>(f: &mut Formatter<W>, filter: &Filter) -> fmt::Re
         Filter::True => f.write_str("true()"),
         Filter::False => f.write_str("false()"),
         Filter::Exists(paths) => write_paths(f, paths),
+        Filter::TextIs(value) => {
+            f.write_str("child::text()=")?;
+            write_literal(f, value)
+        }
+        Filter::AttributeIs(name, value) => {
+            f.write_str("attribute::")?;
+            write_bytes(f, name)?;
+            f.write_str("=")?;
+            write_literal(f, value)
+        }
     }
 }
 

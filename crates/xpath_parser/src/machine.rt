@@ -302,6 +302,11 @@ impl Machine {
                 self.mode = Mode::UnitDone(level);
                 Ok(())
             }
+            Token::Compares(operand, value) => {
+                self.write(Op::Compare(operand, value))?;
+                self.mode = Mode::UnitDone(level);
+                Ok(())
+            }
             _ => {
                 self.write(Op::Begin)?;
                 self.step_wanted(Place::Inside(level), token)

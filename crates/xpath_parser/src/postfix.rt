@@ -3,7 +3,7 @@ ghost use Rattle.std.specs.Prelude.{◌≡◌, ◌<◌, ◌≤◌, ◌+◌, OnOk
 ghost use Rattle.xpath_parser.specs.declared.postfix.Counts.{Counts};
 
 use crate::query::Axis;
-use crate::token::Asked;
+use crate::token::{Asked, Operand, Span};
 use std::alloc::{AllocError, Global};
 
 /// How many steps may stand outside filters, and how many parts inside.
@@ -30,6 +30,8 @@ pub(crate) enum Op {
     /// The paths of a filter have ended.
     Exists,
     Truth(bool),
+    /// A truth: whether some node has a value, which stands at this place.
+    Compare(Operand, Span),
     Not,
     And,
     Or,
@@ -80,6 +82,7 @@ impl Counts {
             Op::Bar(Side::Inner) => self.with_inner(),
             Op::Exists => self,
             Op::Truth(_) => self.with_inner(),
+            Op::Compare(_, _) => self.with_inner(),
             Op::Not => self.with_inner(),
             Op::And => self.with_inner(),
             Op::Or => self.with_inner(),

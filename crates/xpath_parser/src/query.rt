@@ -58,7 +58,8 @@ pub struct Paths {
     pub(crate) paths: Vec<Path>,
 }
 
-/// What is true or false of a node (XPath 1.0, 2.4 and 3.4). Paths are true where they lead to some node.
+/// What is true or false of a node (XPath 1.0, 2.4 and 3.4). Paths are true where they lead to some node. A comparison is true where
+/// some child is a text with the value, or some attribute has the name and the value.
 #[cycle(query)]
 #[derive(Drop)]
 pub enum Filter {
@@ -68,6 +69,8 @@ pub enum Filter {
     True,
     False,
     Exists(Paths),
+    TextIs(Bytes),
+    AttributeIs(Bytes, Bytes),
 }
 
 /// The filters of a step.
@@ -75,12 +78,6 @@ pub enum Filter {
 #[derive(Drop)]
 pub struct Filters {
     pub(crate) filters: Vec<Filter>,
-}
-
-/// A query. Its paths begin at the document.
-#[derive(Drop)]
-pub struct Query {
-    pub paths: Paths,
 }
 
 impl Paths {

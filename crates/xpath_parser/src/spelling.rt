@@ -3,6 +3,7 @@ ghost use Rattle.std.specs.Prelude.{◌≡◌, ◌≤◌, ◌<◌, ◌-◌, leng
 ghost use Rattle.plain_tree.specs.XmlNames.{is_space, is_name};
 ghost use Rattle.xml_tokens.specs.Cutting.{back};
 ghost use Rattle.xml_tokens.specs.Seen.{seen_part};
+ghost use Rattle.xpath_parser.specs.Tokens.{is_other_than};
 ghost use Rattle.xpath_parser.specs.Names.{is_part_byte, is_start_byte, begins_part, behind_byte, behind_part, behind_colon, behind_name};
 
 use xml_tokens::{is_name, is_name_char, is_name_start};
@@ -49,6 +50,21 @@ fn skip_part_bytes(bytes: &[u8]) -> &[u8]
     let mut rest = bytes;
     while let [first, tail @ ..] = rest {
         if !is_part_byte(*first) {
+            return rest;
+        }
+        rest = tail;
+    }
+    rest
+}
+
+/// The bytes from the first one on that is this quote.
+pub(crate) fn skip_to(quote: u8, bytes: &[u8]) -> &[u8]
+    ensures left { result.now ≡ back (is_other_than quote) bytes.now }
+    ensures not_longer { length result.now ≤ length bytes.now }
+{
+    let mut rest = bytes;
+    while let [first, tail @ ..] = rest {
+        if *first == quote {
             return rest;
         }
         rest = tail;

@@ -1,7 +1,7 @@
 // What a query's tokens are.
 use crate::query::Axis;
 
-/// The place of a name in the query's bytes.
+/// The place of a name or of a literal in the query's bytes.
 #[derive(Clone, Copy, Debug, PartialEq, Eq)]
 pub(crate) struct Span {
     pub from: usize,
@@ -19,8 +19,15 @@ pub(crate) enum Asked {
     InstructionNode,
 }
 
-/// A token. A name with `::` is one, and so is a name with `(`, and for a test or a truth with `)`. `and` and `or` are signs
-/// where an operand has just ended, and names elsewhere.
+/// Which nodes a comparison compares: the texts among the children, or the attributes with a name, by its place.
+#[derive(Clone, Copy, Debug, PartialEq, Eq)]
+pub(crate) enum Operand {
+    Texts,
+    Attributes(Span),
+}
+
+/// A token. A name with `::` is one, and so is a name with `(`, and for a test or a truth with `)`. A comparison is one, with its
+/// literal, whose place is told. `and` and `or` are signs where an operand has just ended, and names elsewhere.
 #[derive(Clone, Copy, Debug, PartialEq, Eq)]
 pub(crate) enum Token {
     Along(Axis),
@@ -29,6 +36,7 @@ pub(crate) enum Token {
     AndWord(Span),
     OrWord(Span),
     Truth(bool),
+    Compares(Operand, Span),
     Dot,
     Slash,
     Slashes,

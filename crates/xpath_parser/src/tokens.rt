@@ -1,13 +1,16 @@
 // The token at the front of a query's bytes.
 ghost use Rattle.std.specs.Prelude.{◌≡◌, ◌≤◌, ◌<◌, ◌-◌, length, take, codes, IfSome, Some, None};
 ghost use Rattle.std.specs.Str.{bytes_eq};
+ghost use Rattle.plain_tree.specs.XmlNames.{is_space};
+ghost use Rattle.xml_tokens.specs.Cutting.{back};
 ghost use Rattle.xml_tokens.specs.Seen.{seen_part};
 ghost use Rattle.xpath_parser.specs.Names.{is_start_byte, behind_byte, behind_name};
-ghost use Rattle.xpath_parser.specs.Tokens.{behind_again, axis_of, call_of, word_of, call_closed, called, along, named, named_at, slash, sign, token_at, seen};
+ghost use Rattle.xpath_parser.specs.Tokens.{span_before, is_other_than, quoted, literal, compared, behind_text, behind_again, axis_of, call_of, word_of, call_closed, called, along, along_child, along_attribute, named, named_at, slash, sign, token_at, seen};
 
 use crate::query::Axis;
-use crate::spelling::{behind_byte, behind_name, is_start_byte, skip_space};
-use crate::token::{Asked, Span, Token};
+use crate::spelling::{behind_byte, behind_name, is_start_byte, skip_space, skip_to};
+use crate::token::{Asked, Operand, Span, Token};
+use xml_tokens::are_chars;
 
 // A token, and what follows it.
 type Found<'a> = Option<(Token, &'a [u8])>;
@@ -70,19 +73,88 @@ fn word_of(name: &[u8], span: Span) -> Token
     }
 }
 
-fn close_call<'a>(token: Token, more: &'a [u8]) -> Found<'a>
-    ensures found { seen result ≡ call_closed (Some token) more.now }
-    ensures shorter { IfSome result (λ p. length p.1.now ≤ length more.now) }
+/// The place of what stands before the rest of the last bytes of a query of so many.
+fn span_before(total: usize, bytes: &[u8], rest: &[u8]) -> Span
+    requires shorter { length rest.now ≤ length bytes.now }
+    requires within { length bytes.now ≤ total }
+    ensures { result ≡ span_before total bytes.now rest.now }
 {
-    match behind_byte(b')', skip_space(more)) {
-        Some(rest) => Some((token, rest)),
+    Span {
+        from: total - bytes.len(),
+        to: total - rest.len(),
+    }
+}
+
+/// A comparison with the literal whose first quote stood in front.
+fn quoted<'a>(operand: Operand, total: usize, quote: u8, bytes: &'a [u8]) -> Found<'a>
+    requires { length bytes.now ≤ total }
+    ensures found { seen result ≡ quoted operand total quote bytes.now (back (is_other_than quote) bytes.now) }
+    ensures shorter { IfSome result (λ p. length p.1.now ≤ length bytes.now) }
+{
+    let rest = skip_to(quote, bytes);
+    if !are_chars(&bytes[..bytes.len() - rest.len()]) {
+        return None;
+    }
+    let value = span_before(total, bytes, rest);
+    match behind_byte(quote, rest) {
+        Some(after) => Some((Token::Compares(operand, value), after)),
         None => None,
     }
 }
 
-fn call<'a>(name: &[u8], span: Span, rest: &'a [u8], more: &'a [u8]) -> Found<'a>
-    requires { length more.now ≤ length rest.now }
-    ensures found { seen result ≡ called name.now span rest.now more.now }
+/// A comparison with the literal at the front.
+fn literal<'a>(operand: Operand, total: usize, bytes: &'a [u8]) -> Found<'a>
+    requires { length bytes.now ≤ total }
+    ensures found { seen result ≡ literal operand total bytes.now }
+    ensures shorter { IfSome result (λ p. length p.1.now ≤ length bytes.now) }
+{
+    match bytes {
+        [] => None,
+        [first, rest @ ..] => {
+            if *first == b'"' || *first == b'\'' {
+                quoted(operand, total, *first, rest)
+            } else {
+                None
+            }
+        }
+    }
+}
+
+/// A comparison where `=` follows, and else the token after which this comes.
+fn compared<'a>(
+    operand: Operand,
+    total: usize,
+    rest: &'a [u8],
+    token: Token,
+    after: &'a [u8],
+) -> Found<'a>
+    requires within { length rest.now ≤ total }
+    requires shorter { length rest.now ≤ length after.now }
+    ensures found { seen result ≡ compared operand total rest.now token after.now }
+    ensures shorter { IfSome result (λ p. length p.1.now ≤ length after.now) }
+{
+    match behind_byte(b'=', skip_space(rest)) {
+        Some(more) => literal(operand, total, skip_space(more)),
+        None => Some((token, after)),
+    }
+}
+
+fn close_call<'a>(total: usize, token: Token, more: &'a [u8]) -> Found<'a>
+    requires { length more.now ≤ total }
+    ensures found { seen result ≡ call_closed total (Some token) more.now }
+    ensures shorter { IfSome result (λ p. length p.1.now ≤ length more.now) }
+{
+    let rest = behind_byte(b')', skip_space(more))?;
+    match token {
+        Token::Asks(Asked::TextNode) => compared(Operand::Texts, total, rest, token, rest),
+        _ => Some((token, rest)),
+    }
+}
+
+fn call<'a>(total: usize, name: &[u8], span: Span, rest: &'a [u8], more: &'a [u8]) -> Found<'a>
+    requires shorter { length more.now ≤ length rest.now }
+    requires within { length more.now ≤ total }
+    ensures found { seen result ≡ called total name.now span rest.now more.now }
     ensures shorter { IfSome result (λ p. length p.1.now ≤ length rest.now) }
 {
     if is_word(name, b"not") {
@@ -93,17 +165,61 @@ fn call<'a>(name: &[u8], span: Span, rest: &'a [u8], more: &'a [u8]) -> Found<'a
         Some((Token::OrWord(span), rest))
     } else {
         match call_of(name) {
-            Some(token) => close_call(token, more),
+            Some(token) => close_call(total, token, more),
             None => None,
         }
     }
 }
 
-fn along<'a>(axis: Option<Axis>, more: &'a [u8]) -> Found<'a>
-    ensures found { seen result ≡ along axis more.now }
+/// What follows the test `text()`, if it stands at the front.
+fn behind_text(bytes: &[u8]) -> Option<&[u8]>
+    ensures found { seen_part result ≡ behind_text bytes.now }
+    ensures not_longer { IfSome result (λ rest. length rest.now ≤ length bytes.now) }
+{
+    let rest = behind_name(bytes)?;
+    if is_word(&bytes[..bytes.len() - rest.len()], b"text") {
+        behind_byte(b')', skip_space(behind_byte(b'(', skip_space(rest))?))
+    } else {
+        None
+    }
+}
+
+fn along_child<'a>(total: usize, more: &'a [u8]) -> Found<'a>
+    requires { length more.now ≤ total }
+    ensures found { seen result ≡ along_child total more.now (behind_text (back is_space more.now)) }
+    ensures shorter { IfSome result (λ p. length p.1.now ≤ length more.now) }
+{
+    let axis = Token::Along(Axis::Child);
+    match behind_text(skip_space(more)) {
+        Some(rest) => compared(Operand::Texts, total, rest, axis, more),
+        None => Some((axis, more)),
+    }
+}
+
+fn along_attribute<'a>(total: usize, more: &'a [u8]) -> Found<'a>
+    requires { length more.now ≤ total }
+    ensures found { seen result ≡ along_attribute total more.now (behind_name (back is_space more.now)) }
+    ensures shorter { IfSome result (λ p. length p.1.now ≤ length more.now) }
+{
+    let axis = Token::Along(Axis::Attribute);
+    let name = skip_space(more);
+    match behind_name(name) {
+        Some(rest) => {
+            let operand = Operand::Attributes(span_before(total, name, rest));
+            compared(operand, total, rest, axis, more)
+        }
+        None => Some((axis, more)),
+    }
+}
+
+fn along<'a>(total: usize, axis: Option<Axis>, more: &'a [u8]) -> Found<'a>
+    requires { length more.now ≤ total }
+    ensures found { seen result ≡ along total axis more.now }
     ensures shorter { IfSome result (λ p. length p.1.now ≤ length more.now) }
 {
     match axis {
+        Some(Axis::Child) => along_child(total, more),
+        Some(Axis::Attribute) => along_attribute(total, more),
         Some(axis) => Some((Token::Along(axis), more)),
         None => None,
     }
@@ -120,16 +236,17 @@ fn behind_colons(bytes: &[u8]) -> Option<&[u8]>
     }
 }
 
-fn named<'a>(name: &[u8], span: Span, rest: &'a [u8]) -> Found<'a>
-    ensures found { seen result ≡ named name.now span rest.now }
+fn named<'a>(total: usize, name: &[u8], span: Span, rest: &'a [u8]) -> Found<'a>
+    requires { length rest.now ≤ total }
+    ensures found { seen result ≡ named total name.now span rest.now }
     ensures shorter { IfSome result (λ p. length p.1.now ≤ length rest.now) }
 {
     let after = skip_space(rest);
     if let Some(more) = behind_colons(after) {
-        return along(axis_of(name), more);
+        return along(total, axis_of(name), more);
     }
     match behind_byte(b'(', after) {
-        Some(more) => call(name, span, rest, more),
+        Some(more) => call(total, name, span, rest, more),
         None => Some((word_of(name, span), rest)),
     }
 }
@@ -144,14 +261,15 @@ fn slash(bytes: &[u8]) -> Found<'_>
     }
 }
 
-fn sign(first: u8, rest: &[u8]) -> Found<'_>
-    ensures found { seen result ≡ sign first rest.now }
+fn sign(total: usize, first: u8, rest: &[u8]) -> Found<'_>
+    requires { length rest.now ≤ total }
+    ensures found { seen result ≡ sign total first rest.now }
     ensures shorter { IfSome result (λ p. length p.1.now ≤ length rest.now) }
 {
     match first {
         b'/' => slash(rest),
         b'.' => Some((Token::Dot, rest)),
-        b'@' => Some((Token::Along(Axis::Attribute), rest)),
+        b'@' => along_attribute(total, rest),
         b'|' => Some((Token::Bar, rest)),
         b'[' => Some((Token::OpenFilter, rest)),
         b']' => Some((Token::CloseFilter, rest)),
@@ -168,11 +286,8 @@ fn name_token<'a>(total: usize, bytes: &[u8], rest: &'a [u8]) -> Found<'a>
     ensures found { seen result ≡ named_at total bytes.now (Some rest.now) }
     ensures shorter { IfSome result (λ p. length p.1.now ≤ length rest.now) }
 {
-    let span = Span {
-        from: total - bytes.len(),
-        to: total - rest.len(),
-    };
-    named(&bytes[..bytes.len() - rest.len()], span, rest)
+    let span = span_before(total, bytes, rest);
+    named(total, &bytes[..bytes.len() - rest.len()], span, rest)
 }
 
 /// The token at the front of the last bytes of so many, and what follows it.
@@ -188,7 +303,7 @@ pub(crate) fn next_token(total: usize, bytes: &[u8]) -> Found<'_>
             if is_start_byte(*first) {
                 name_token(total, bytes, behind_name(bytes)?)
             } else {
-                sign(*first, tail)
+                sign(total, *first, tail)
             }
         }
     }

@@ -1,5 +1,5 @@
 -- What commands with a query come to.
-use Rattle.std.proofs.Common.{◌≡◌, ◌≤◌, ◌<◌, ◌+◌, ◌^◌, inl, inr, ℕ, List, [], ◌++◌, length, Option, None, Some, Result, Ok, All, refl, sym, ap, ◌∙◌, subst, arith, append-nil}
+use Rattle.std.proofs.Common.{◌≡◌, ◌≤◌, ◌<◌, ◌+◌, ◌*◌, ◌^◌, inl, inr, ℕ, List, [], ◌∷◌, ◌++◌, length, map, Option, None, Some, Result, Ok, All, refl, sym, ap, ◌∙◌, subst, arith, append-nil}
 use Rattle.std.specs.List.{flat_map}
 use Rattle.std.specs.Prelude.{IfSome, IsSome}
 use Rattle.std.proofs.lemmas.Bool.{cases_lt}
@@ -9,7 +9,6 @@ use Rattle.plain_tree.specs.Tree.{Tree}
 use Rattle.slt_grammar.specs.Algebras.{Algebra}
 use Rattle.slt_grammar.specs.Automata.{Downward, nodes_in}
 use Rattle.slt_grammar.specs.Grammars.{value}
-use Rattle.slt_grammar.specs.declared.rules.Rule.{Rule}
 use Rattle.segment_counts.specs.Weights.{node_weight}
 use Rattle.rule_runs.specs.Answering.{Fallen, listed_hits}
 use Rattle.rule_runs.specs.Hits.{numbers}
@@ -24,6 +23,9 @@ use Rattle.selecting_automaton.specs.Sizes.{parts_inside, steps_outside}
 use Rattle.selecting_automaton.proofs.QuerySizes.{inside-meant, outside-meant}
 use Rattle.tree_outside.specs.Outside.{Gets, GetsFront}
 use Rattle.tree_outside.proofs.Beside.{Stays-refl}
+use Rattle.text_list.specs.Marking.{mark_of}
+use Rattle.value_tests.specs.MarkedInstances.{marked_nodes}
+use Rattle.xpath_parser.specs.Comparing.{literals_of}
 use Rattle.xpath_parser.specs.Laws.{SpellsOne}
 use Rattle.xpath_parser.specs.Limits.{IsLarge, inside, outside}
 use Rattle.xpath_parser.specs.Meant.{meant_paths}
@@ -32,11 +34,11 @@ use Rattle.xpath_parser.specs.Trees.{Paths}
 use Rattle.xpath_parser.specs.Queries as queries
 use Rattle.xpath_parser.specs.declared.error.QueryError.{QueryError}
 use Rattle.xpath_parser.specs.declared.error.QueryError.TheVariants as error
-use Rattle.store_core.specs.Acts.{Act, Query, Count, RenameAll, DeleteAll, query_asked}
-use Rattle.store_core.specs.Errors.{IsNoQuery, SaysOfQuery}
+use Rattle.store_core.specs.Acts.{Act, Query, Count, RenameAll, DeleteAll, query_answered, query_asked, query_edited}
+use Rattle.store_core.specs.Errors.{IsNoPlainQuery, IsNoQuery, SaysOfQuery}
 use Rattle.store_core.specs.Machine.{Comes, Queries, Counts, PrintsFirst, Refuses}
 use Rattle.store_core.specs.Printed.{Gathers, hit_line, hit_lines}
-use Rattle.store_core.specs.Reads.{ReadsFew, most_reads}
+use Rattle.store_core.specs.Reads.{ReadsFew, marked_reads, most_reads}
 use Rattle.store_core.specs.Refusals.{Cause, IsReady}
 use Rattle.store_core.specs.Selecting.{HasSelected, Selects, SpellsNoQuery, SpellsLarge, SelectsSoMany}
 use Rattle.store_core.specs.Texts.{answer_line, line_of, selected_line}
@@ -70,6 +72,34 @@ query_refused no.LargeQuery act query parts old new why asked held = (query, ask
 query_refused no.Memory act query parts old new why asked held = asks_ready act query parts old asked held
 query_refused refusal act query parts old new why asked held = absurd why
 
+-- why the text is no query is why it is none that compares nothing
+pub no-plain-query : (refusal : Refusal) (query : List ℕ) → IsNoQuery refusal query → IsNoPlainQuery refusal query
+no-plain-query no.ValueQuery query why = absurd why
+no-plain-query no.BadQuery query why = why
+no-plain-query no.LargeQuery query why = why
+no-plain-query no.Memory query why = tt
+no-plain-query refusal query why = absurd why
+
+-- a command that lists or counts the nodes of a query, or edits them, asks for them
+pub answered-asked : (act : Act) (query : List ℕ) → query_answered act ≡ Some query → query_asked act ≡ Some query
+answered-asked (Query q) query answered = answered
+answered-asked (Count q) query answered = answered
+answered-asked act query answered = absurd (cc)
+
+pub edited-asked : (act : Act) (query : List ℕ) → query_edited act ≡ Some query → query_asked act ≡ Some query
+edited-asked (RenameAll name q) query edits = edits
+edited-asked (DeleteAll q) query edits = edits
+edited-asked act query edits = absurd (cc)
+
+-- so is why it is no query that compares nothing, where the command edits all its nodes
+pub plain_refused :
+    (refusal : Refusal) (act : Act) (query : List ℕ) (parts : Parts) (old new : World) → IsNoPlainQuery refusal query → query_edited act ≡ Some query → parts_in old.state ≡ Some parts → Cause refusal act old new
+plain_refused no.ValueQuery act query parts old new why edits held = (query, edits, asks_ready act query parts old (edited-asked act query edits) held, why)
+plain_refused no.BadQuery act query parts old new why edits held = query_refused no.BadQuery act query parts old new why (edited-asked act query edits) held
+plain_refused no.LargeQuery act query parts old new why edits held = query_refused no.LargeQuery act query parts old new why (edited-asked act query edits) held
+plain_refused no.Memory act query parts old new why edits held = query_refused no.Memory act query parts old new why (edited-asked act query edits) held
+plain_refused refusal act query parts old new why edits held = absurd why
+
 -- what an error of the parser says of the text
 pub query_says : (e : QueryError) (query : List ℕ) → (e ≡ error.Bad → SpellsNoQuery query) → (e ≡ error.Large → SpellsLarge query) → SaysOfQuery e query
 query_says error.Bad query bad large = bad refl
@@ -102,13 +132,20 @@ states-spelled bytes ps qs A W spelled same h =
     (subst (λ (n : ℕ). HasFewStates A W (parts_inside qs) n) (ap steps_outside same ∙ outside-meant bytes ps) h)
 
 -- where the bytes are a query, its reads are few
-pub reads-found : (bytes : List ℕ) (ps : Paths) (G : List Rule) (before now : ℕ) → SpellsOne → Spells bytes ps → now ≤ before + most_reads G (inside ps) (outside ps) → ReadsFew bytes G before now
-reads-found bytes ps G before now one spelled h = record {
+pub reads-found : (bytes : List ℕ) (ps : Paths) (parts : Parts) (before now : ℕ) → SpellsOne → Spells bytes ps → now ≤ before + (most_reads parts.rules (inside ps) (outside ps) + marked_reads parts (literals_of (meant_paths bytes ps))) → ReadsFew bytes parts before now
+reads-found bytes ps parts before now one spelled h = record {
   few = λ paths other.
       let same = one bytes ps paths spelled other in
-      subst (λ (n : ℕ). now ≤ before + most_reads G n (outside paths)) same.2 (subst (λ (n : ℕ). now ≤ before + most_reads G (inside ps) n) same.1 h);
+      let reads : ℕ → ℕ → queries.Paths → ℕ = λ i o meant. most_reads parts.rules i o + marked_reads parts (literals_of meant) in
+      subst (λ (meant : queries.Paths). now ≤ before + reads (inside paths) (outside paths) meant) same.0
+      (subst (λ (n : ℕ). now ≤ before + reads (inside paths) n (meant_paths bytes ps)) same.1 (subst (λ (n : ℕ). now ≤ before + reads n (outside ps) (meant_paths bytes ps)) same.2 h));
   none = λ never. absurd (never ps spelled);
 }
+
+-- a query with literals reads bodies of marked instances beside
+pub marked-some : (parts : Parts) (literals : List (List ℕ)) → (literals ≡ [] → ⊥) → marked_reads parts literals ≡ 4 * marked_nodes parts.names (map (mark_of literals) parts.texts) parts.rules
+marked-some parts [] some = absurd (some refl)
+marked-some parts (v ∷ vs) some = refl
 
 -- nothing changes
 pub same_world : (w : World) → Same w w
@@ -167,6 +204,12 @@ found-listed query parts w tree found held h listed lined = record {
   lined = of-listed found.hits (All (IsLined parts tree)) listed lined;
 }
 
+-- so many were listed
+pub found-counted : (query : List ℕ) (w : World) (tree : Tree) (found : Fallen) → HasSelected query w tree found → IsSome found.hits → found.count ≡ length (listed_hits found.hits)
+found-counted query w tree found h listed =
+    let same : numbers (listed_hits found.hits) ≡ h.answer = of-listed found.hits (λ hs. numbers hs ≡ h.answer) listed h.listed in
+    h.count ∙ (sym (ap (λ (ns : List ℕ). length ns) same) ∙ length-map (listed_hits found.hits) (λ hit. hit.number))
+
 -- all lines were printed
 pub query_done : {E : Type 0} (query : List ℕ) (parts : Parts) (w : World) (hits : List Hit) (before now : Option (List ℕ)) (count : ℕ) (done : Result (Unit {0}) E) (u : Unit {0}) → IsFound query parts w hits → Gathers before now parts.names hits done [] → done ≡ Ok u
     → count ≡ length hits → (text : List ℕ) × Gets before now text × Queries query w (text ++ answer_line (ok.Selected count)) w
@@ -189,9 +232,9 @@ query_fails settings query parts w hits before now found front =
     let line : List ℕ = answer_line (ok.Selected (length hits)) in
     (hit_lines parts.names hits, Ok (ok.Selected (length hits)), GetsFront-first before now (hit_lines parts.names hits) line front, queries_told query parts found.tree hits (length hits) w found.selects found.lined refl)
 
--- few reads for the query and the rules that are held are few for those that a command names
-pub asks_few : (text query : List ℕ) (state : State) (parts other : Parts) (before now : ℕ) → ReadsFew text parts.rules before now → parts_in state ≡ Some parts → Some text ≡ Some query → parts_in state ≡ Some other → ReadsFew query other.rules before now
+-- few reads for the query and what is held are few for those that a command names
+pub asks_few : (text query : List ℕ) (state : State) (parts other : Parts) (before now : ℕ) → ReadsFew text parts before now → parts_in state ≡ Some parts → Some text ≡ Some query → parts_in state ≡ Some other → ReadsFew query other before now
 asks_few text query state parts other before now few held asked named =
     let same : text ≡ query = same_Some text query asked in
-    let rules : parts ≡ other = same_Some parts other (sym held ∙ named) in
-    subst (λ (q : List ℕ). ReadsFew q other.rules before now) same (subst (λ (p : Parts). ReadsFew text p.rules before now) rules few)
+    let parts_same : parts ≡ other = same_Some parts other (sym held ∙ named) in
+    subst (λ (q : List ℕ). ReadsFew q other before now) same (subst (λ (p : Parts). ReadsFew text p before now) parts_same few)

@@ -1,8 +1,9 @@
 -- Edits of all nodes of a query as steps of the machine.
-use Rattle.std.proofs.Common.{◌≡◌, ◌≤◌, ◌<◌, ◌^◌, ℕ, zero, suc, List, [], ◌∷◌, take, sum_by, Option, Some, inl, inr, refl, sym, ap, subst, arith}
+use Rattle.std.proofs.Common.{◌≡◌, ◌≤◌, ◌<◌, ◌^◌, ℕ, zero, suc, List, [], ◌∷◌, take, sum_by, Option, Some, inl, inr, refl, sym, subst, arith}
 use Rattle.tree_outside.proofs.Beside.{Stays-refl}
 use Rattle.tree_outside.specs.Files.{Told}
 use Rattle.plain_tree.specs.NodePairs.{Pair}
+use Rattle.plain_tree.specs.Tree as trees
 use Rattle.plain_tree.specs.Tree.{Tree, node_count}
 use Rattle.slt_grammar.specs.Grammars.{IsGrammar, IsSwept, size, value}
 use Rattle.slt_grammar.specs.Keyed.{KeyedRule, rules_of}
@@ -17,7 +18,7 @@ use Rattle.segment_counts.specs.Weights.{node_weight}
 use Rattle.segment_counts.proofs.Coded.{weight-coded}
 use Rattle.digram_index.specs.Linked.{IsIndexOf}
 use Rattle.preorder_address.specs.Marks.{AreMarks}
-use Rattle.preorder_address.specs.declared.marks.Marks.{Marks}
+use Rattle.preorder_address.specs.declared.marks.Mark.{Mark}
 use Rattle.selecting_automaton.specs.Words.{Selection, word_algebra, word_downward}
 use Rattle.bulk_rewrite.specs.DeletedAll.{AreDeleted, IsNotDeletedFor, deleting_run}
 use Rattle.bulk_rewrite.specs.Making.{AreFew}
@@ -32,14 +33,14 @@ use Rattle.tree_updates.specs.declared.store.Store.{Store}
 use Rattle.tree_updates.proofs.AppliedMarks.{marked}
 use Rattle.tree_updates.proofs.GrownNames.{stands-grown}
 use Rattle.tree_updates.proofs.RegrownNames.{counts-grown}
-use Rattle.store_core.specs.Acts.{Act, Load, LoadGrammar, Query, RenameAll, DeleteAll, file_read, query_asked}
+use Rattle.store_core.specs.Acts.{Act, Load, LoadGrammar, Check, Query, RenameAll, DeleteAll, file_read, query_edited}
 use Rattle.store_core.specs.BulkEditing.{BulkEdit, Renaming, Deletion, AreFewFor, AsksBulkEdit, EditsAll, IsBulkEdit, MayEditAll, WantsBulkEdit, edited_all, pairs_brought}
 use Rattle.store_core.specs.BulkStores.{IsEditedAll, IsLeftByAll, IsRefusedForAll, hits_in}
 use Rattle.store_core.specs.Editing.{GivesNoName, IsDue, IsSettledWhereDue, one_more}
-use Rattle.store_core.specs.Errors.{IsNoQuery, refusal_of_all}
+use Rattle.store_core.specs.Errors.{IsNoPlainQuery, refusal_of_all}
 use Rattle.store_core.specs.Machine.{Begins, Refuses}
 use Rattle.store_core.specs.Refusals.{IsReady}
-use Rattle.store_core.specs.Selecting.{IsSelectorOf, Selects}
+use Rattle.store_core.specs.Selecting.{IsPlainSelectorOf, Selects, SpellsPlain}
 use Rattle.store_core.specs.StoreOf.{held_of, parts_of}
 use Rattle.store_core.specs.Texts.{answer_line}
 use Rattle.store_core.specs.Worlds.{World, told_files, world}
@@ -48,7 +49,9 @@ use Rattle.store_core.specs.declared.answer.Refusal.{Refusal}
 use Rattle.store_core.specs.declared.answer.Refusal.TheVariants as no
 use Rattle.store_core.specs.declared.loaded.Loaded.{Loaded}
 use Rattle.store_words.specs.declared.words.Settings.{Settings}
-use Rattle.store_core.proofs.Asked.{query_refused, same_world}
+use Rattle.selecting_automaton.proofs.Unmarked.{codes-unmarked, plain-literals}
+use Rattle.xpath_parser.specs.Meant.{meant_paths}
+use Rattle.store_core.proofs.Asked.{plain_refused, same_world}
 use Rattle.store_core.proofs.BulkCounts.{edited-few}
 use Rattle.store_core.proofs.Edited.{held-still}
 
@@ -116,15 +119,15 @@ module _ (edit : BulkEdit) (selector : Selection) (s : Store) (t : Tree) (i : Is
   left-as-it-was error new why same = subst (λ (x : Store). IsLeftByAll edit selector t error s x) (sym same) (record { cause = why; store = i; rules = refl; texts = refl })
 
 -- an edit of a store with other marks
-pub left-marked : (edit : BulkEdit) (selector : Selection) (s : Store) (t : Tree) (m : Marks) (error : BulkError) (new : Store) → IsLeftByAll edit selector t error (marked s m) new → IsLeftByAll edit selector t error s new
+pub left-marked : (edit : BulkEdit) (selector : Selection) (s : Store) (t : Tree) (m : List Mark) (error : BulkError) (new : Store) → IsLeftByAll edit selector t error (marked s m) new → IsLeftByAll edit selector t error s new
 left-marked edit selector s t m error new left = record { cause = left.cause; store = left.store; rules = left.rules; texts = left.texts }
 
-pub edited-marked : (edit : BulkEdit) (selector : Selection) (s : Store) (t : Tree) (m : Marks) (new : Store) → IsEditedAll edit selector t (marked s m) new → IsEditedAll edit selector t s new
+pub edited-marked : (edit : BulkEdit) (selector : Selection) (s : Store) (t : Tree) (m : List Mark) (new : Store) → IsEditedAll edit selector t (marked s m) new → IsEditedAll edit selector t s new
 edited-marked edit selector s t m new made = record { allowed = made.allowed; store = made.store; names = made.names; few = made.few }
 
 -- a store whose marks were taken away has marks
-pub cleared-marks : (s : Store) (m : Marks) → s.marks ≡ m → ((names : List Pair) (G : List KeyedRule) → AreMarks names G m) → HasMarks s
-cleared-marks s m e none = subst (λ (x : Marks). AreMarks s.names s.grammar.rules x) (sym e) (none s.names s.grammar.rules)
+pub cleared-marks : (s : Store) (m : List Mark) → s.marks ≡ m → ((names : List Pair) (G : List KeyedRule) → AreMarks names G m) → HasMarks s
+cleared-marks s m e none = subst (λ (x : List Mark). AreMarks s.names s.grammar.rules x) (sym e) (none s.names s.grammar.rules)
 
 module _ (s : Store) (t : Tree) (i : IsStoreFor s t) (selector : Selection) (H : List Rule) (swept : IsSwept H) (mid : Store) (rules : rules_of mid.grammar.rules ≡ H)
     (counts : AreCounts mid.names (rules_of mid.grammar.rules) mid.counts) (index : IsIndexOf mid.grammar mid.index) where
@@ -170,12 +173,17 @@ begins-none act refusal old is = refl
 reads-none : (act : Act) (name : List ℕ) → IsBulkEdit act → file_read act ≡ Some name → ⊥
 reads-none (Load name) n is reads = absurd is
 reads-none (LoadGrammar name) n is reads = absurd is
+reads-none (Check name) n is reads = absurd is
 reads-none act n is reads = absurd cc
 
-asks-query : (act : Act) (edit : BulkEdit) (query : List ℕ) → AsksBulkEdit act edit query → IsBulkEdit act × (query_asked act ≡ Some query)
-asks-query (RenameAll name text) edit query asked = (tt, ap (λ (q : List ℕ). Some q) (sym asked.2))
-asks-query (DeleteAll text) edit query asked = (tt, ap (λ (q : List ℕ). Some q) (sym asked.1))
-asks-query act edit query asked = absurd asked
+asks-bulk : (act : Act) (edit : BulkEdit) (query : List ℕ) → AsksBulkEdit act edit query → IsBulkEdit act
+asks-bulk (RenameAll name text) edit query asked = tt
+asks-bulk (DeleteAll text) edit query asked = tt
+asks-bulk act edit query asked = absurd asked
+
+-- a selector of a query that compares nothing is one of what it spells
+plain-spelled : (query : List ℕ) (names : List Pair) (selector : Selection) → IsPlainSelectorOf query names selector → SpellsPlain query
+plain-spelled query names selector p = (p.of.paths, p.of.spelled, p.of.within, p.plain)
 
 module _ (act : Act) (is : IsBulkEdit act) (l : Loaded) (told : Option Told) (count : ℕ) where
   abbrev before : World
@@ -184,24 +192,24 @@ module _ (act : Act) (is : IsBulkEdit act) (l : Loaded) (told : Option Told) (co
   ready-for-all : IsReady act before
   ready-for-all = record { document = λ needs. refl; file = λ name reads. absurd (reads-none act name is reads) }
 
-  module _ (query : List ℕ) (asked : query_asked act ≡ Some query) where
-    -- the text is no query
-    pub no-query : (refusal : Refusal) → IsNoQuery refusal query → Refuses act refusal before [] before
+  module _ (query : List ℕ) (edits : query_edited act ≡ Some query) where
+    -- the text is no query that compares nothing
+    pub no-query : (refusal : Refusal) → IsNoPlainQuery refusal query → Refuses act refusal before [] before
     no-query refusal why = record {
       begins = begins-none act refusal before is;
-      cause = query_refused refusal act query (parts_of l.store) before before why asked refl;
+      cause = plain_refused refusal act query (parts_of l.store) before before why edits refl;
       leaves = inl (same_world before);
     }
 
     -- it is one, but the name is no Name
-    pub no-name : (selector : Selection) → IsSelectorOf query l.store.names selector → GivesNoName act → Refuses act no.BadName before [] before
+    pub no-name : (selector : Selection) → IsPlainSelectorOf query l.store.names selector → GivesNoName act → Refuses act no.BadName before [] before
     no-name selector of none = record {
       begins = begins-none act no.BadName before is;
-      cause = (inr (query, asked, ready-for-all, (of.paths, of.spelled, of.within)), none);
+      cause = (inr (query, edits, ready-for-all, plain-spelled query l.store.names selector of), none);
       leaves = inl (same_world before);
     }
 
-module _ (settings : Settings) (act : Act) (edit : BulkEdit) (query : List ℕ) (asked : AsksBulkEdit act edit query) (l : Loaded) (told : Option Told) (count : ℕ) (t : Tree) (i : IsStoreFor l.store t) (selector : Selection) (of : IsSelectorOf query l.store.names selector) where
+module _ (settings : Settings) (act : Act) (edit : BulkEdit) (query : List ℕ) (asked : AsksBulkEdit act edit query) (l : Loaded) (told : Option Told) (count : ℕ) (t : Tree) (i : IsStoreFor l.store t) (selector : Selection) (p : IsPlainSelectorOf query l.store.names selector) where
   abbrev old : World
   old = world (Some (held_of l)) told count
 
@@ -213,14 +221,14 @@ module _ (settings : Settings) (act : Act) (edit : BulkEdit) (query : List ℕ) 
     parts = parts_of l.store;
     held = refl;
     stand = i.stand;
-    paths = of.paths;
-    spelled = of.spelled;
-    within = of.within;
-    answer = of.selects t (value (rules_of l.store.grammar.rules)) i.stand.code;
+    paths = p.of.paths;
+    spelled = p.of.spelled;
+    within = p.of.within;
+    answer = p.of.selects t (value (rules_of l.store.grammar.rules)) (codes-unmarked l.store.names (meant_paths query p.of.paths) (trees.more t trees.none) (value (rules_of l.store.grammar.rules)) (plain-literals (meant_paths query p.of.paths) p.plain) i.stand.code);
   }
 
   abbrev wants : WantsBulkEdit act old
-  wants = record { held = held_of l; tree = t; edit = edit; query = query; numbers = chosen; is = refl; asked = asked; selects = selects }
+  wants = record { held = held_of l; tree = t; edit = edit; query = query; numbers = chosen; is = refl; asked = asked; selects = selects; plain = plain-spelled query l.store.names selector p }
 
   -- the edit was made of all nodes that the query selects, and the grammar settled where that was due
   pub all-done : (mid : Store) (new : Loaded) (answer : Answer) → IsEditedAll edit selector t l.store mid → IsStoreFor new.store (edited_all edit chosen t) → new.store.names ≡ mid.names
@@ -234,7 +242,7 @@ module _ (settings : Settings) (act : Act) (edit : BulkEdit) (query : List ℕ) 
     stand = store.stand;
     names = subst (λ (ns : List Pair). Interns l.store.names (pairs_brought edit chosen t) ns) (sym same) made.names;
     made = rules_of mid.grammar.rules;
-    few = record { selector = selector; selects = of; few = made.few };
+    few = record { selector = selector; selects = p.of; few = made.few };
     size = small;
     kept = kept;
     answer = answer;
@@ -249,13 +257,13 @@ module _ (settings : Settings) (act : Act) (edit : BulkEdit) (query : List ℕ) 
   -- it was refused
   pub all-refused : (s : Store) (error : BulkError) → IsLeftByAll edit selector t error l.store s → Refuses act (refusal_of_all error) old [] (after s)
   all-refused s NotAllowed r = record {
-    begins = begins-none act no.NotAllowed old (asks-query act edit query asked).0;
+    begins = begins-none act no.NotAllowed old (asks-bulk act edit query asked);
     cause = inr (wants, r.cause.0);
     leaves = inl (record { state = held-still l s l.store.names r.cause.1 r.rules r.texts; files = Stays-refl (told_files told) });
   }
   all-refused s Memory r = record {
-    begins = begins-none act no.Memory old (asks-query act edit query asked).0;
-    cause = ready-for-all act (asks-query act edit query asked).0 l told count;
+    begins = begins-none act no.Memory old (asks-bulk act edit query asked);
+    cause = ready-for-all act (asks-bulk act edit query asked) l told count;
     leaves = elim r.cause [
       | inl same ↦ inl (record { state = held-still l s l.store.names same r.rules r.texts; files = Stays-refl (told_files told) })
       | inr grown ↦ inr (refl, inr (record { wants = wants; allowed = grown.0; names = s.names; grown = grown.1; state = held-still l s s.names refl r.rules r.texts; files = Stays-refl (told_files told) }))

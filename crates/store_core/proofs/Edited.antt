@@ -16,7 +16,7 @@ use Rattle.tree_updates.specs.declared.store.EditError.TheVariants as error
 use Rattle.tree_updates.specs.declared.store.Store.{Store}
 use Rattle.xml_nodes.proofs.Bytes.{spells-fragment}
 use Rattle.xml_profile.proofs.ValueChars.{value_chars}
-use Rattle.store_core.specs.Acts.{Act, Load, LoadGrammar, Query, Rename, Insert, Append, Delete, Value, Attr, Copy, file_read, fragment_given, name_given, node_asked, value_given}
+use Rattle.store_core.specs.Acts.{Act, Load, LoadGrammar, Check, Query, Rename, Insert, Append, Delete, Value, Attr, Copy, file_read, fragment_given, name_given, node_asked, value_given}
 use Rattle.store_core.specs.Editing.{AsksEdit, Edits, IsEdit, IsSettledWhereDue, WantsEdit, one_more}
 use Rattle.store_core.specs.Errors.{AsksBelow, GivesNoEdit, IsNoEdit, IsNoFragment, IsNoName, IsNoValue, refusal_of}
 use Rattle.store_core.specs.Machine.{Begins, Does, Refuses}
@@ -110,6 +110,7 @@ begins-nothing act refusal old is = refl
 reads-nothing : (act : Act) (name : List ℕ) → IsEdit act → file_read act ≡ Some name → ⊥
 reads-nothing (Load name) n is reads = absurd is
 reads-nothing (LoadGrammar name) n is reads = absurd is
+reads-nothing (Check name) n is reads = absurd is
 reads-nothing act n is reads = absurd cc
 
 ready-to-edit : (act : Act) (held : Held) (told : Option Told) (count : ℕ) → IsEdit act → IsReady act (world (Some held) told count)

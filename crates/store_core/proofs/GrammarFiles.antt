@@ -39,5 +39,5 @@ pub no_store :
     (refusal : Refusal) (name bytes : List ℕ) (old new : World) → HasFile old name bytes → length bytes < 2 ^ 30 → IsNoStore refusal bytes → Cause refusal (LoadGrammar name) old new
 no_store no.BadGrammar name bytes old new has short why = (bytes, record { input = record { name = name; reads = refl; file = has }; short = short }, why)
 no_store no.TooMany name bytes old new has short why = inl (bytes, record { input = record { name = name; reads = refl; file = has }; short = short }, why)
-no_store no.Memory name bytes old new has short why = ready_to_load (LoadGrammar name) old name bytes (load_grammar_reads name) has
+no_store no.Memory name bytes old new has short why = ready_to_load (LoadGrammar name) old name bytes (load_grammar_reads name old.state) has
 no_store refusal name bytes old new has short why = absurd why

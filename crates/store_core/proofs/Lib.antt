@@ -13,14 +13,14 @@ pub mod Encoded
 pub mod Generated
 pub mod Shown
 pub mod Printing
-pub mod Distinct
 pub mod Edited
 pub mod BulkCounts
 pub mod BulkEdits
-pub mod StatesWithin
 pub mod StateCounts
 pub mod Finding
 pub mod HitLines
+pub mod Comparisons
 pub mod Gathering
 pub mod Asked
+pub mod Checked
 pub mod RiseRooms

@@ -1,12 +1,12 @@
 -- How few reads the runs of a selector take, whose states are few.
-use Rattle.std.proofs.Common.{◌≡◌, ℕ, zero, suc, ◌+◌, ◌*◌, ◌^◌, ◌<◌, ◌≤◌, Bool, true, false, if◌then◌else◌, List, [], ◌∷◌, length, take, sum_by, All, refl, sym, ap, ◌∙◌, arith}
-use Rattle.std.proofs.lemmas.List.{take_all}
+use Rattle.std.proofs.Common.{◌≡◌, ℕ, zero, suc, ◌+◌, ◌*◌, ◌^◌, ◌<◌, ◌≤◌, Bool, true, false, ◌&&◌, nat_lt, if◌then◌else◌, List, [], ◌∷◌, length, All, refl, sym, ap, ◌∙◌, arith}
+use Rattle.std.proofs.lemmas.Bool.Decides.{nat_tests}
 use Rattle.std.proofs.lemmas.List.Elements.{All-head, All-tail, All-weaker}
 use Rattle.std.proofs.lemmas.Nat.{mul-pow, pow-add}
 use Rattle.std.proofs.Math.Nat.{mul_assoc, mul-le-mul, mul-le-mul_right, pow-le-pow_right, pow-zero, one-le-pow, pow-succ'}
 use Rattle.slt_grammar.specs.Algebras.{Algebra}
 use Rattle.slt_grammar.specs.Automata.{Downward}
-use Rattle.slt_grammar.specs.Grammars.{IsGrammar, rank_at, no_rule, whole}
+use Rattle.slt_grammar.specs.Grammars.{IsGrammar, body_at, rank_at, no_rule, whole}
 use Rattle.slt_grammar.specs.declared.rules.Rule.{Rule}
 use Rattle.rule_runs.specs.Reached.{RuleStates, Uses, Falls, ReadsOnce, FallsOnce}
 use Rattle.selecting_automaton.specs.Bounds.{IsUpOf, AreMarksBelow, HasFewStates}
@@ -14,13 +14,10 @@ use Rattle.selecting_automaton.specs.declared.states.Up.{Up}
 use Rattle.selecting_automaton.specs.declared.states.Down.{Down}
 use Rattle.slt_grammar.specs.Ranks.{greatest_rank}
 use Rattle.store_core.specs.Reads.{most_reads}
-use Rattle.store_core.proofs.Distinct.{digit-one, digit-lt, sum-apart}
-use Rattle.store_core.proofs.StatesWithin.{KeepsUp, KeepsDown, used-kept, used-there, fallen-used, fallen-kept}
-
-rank-greatest : (G : List Rule) (r : ℕ) → rank_at G r ≤ greatest_rank G
-rank-greatest [] r = omega arith
-rank-greatest (R ∷ G) zero = omega arith
-rank-greatest (R ∷ G) (suc r) = omega (arith, rank-greatest G r)
+use Rattle.value_runs.specs.States.{HasUpStates}
+use Rattle.value_runs.proofs.Distinct.{digit-one, digit-lt, sum-apart}
+use Rattle.value_runs.proofs.StatesWithin.{KeepsUp, KeepsDown, used-kept, used-there, fallen-used, fallen-kept}
+use Rattle.value_tests.proofs.Isolating.{rank-greatest}
 
 power-power : (n a b : ℕ) → (n ^ a) ^ b ≡ n ^ (b * a)
 power-power n a zero = pow-zero (n ^ a) ∙ (sym (pow-zero n) ∙ ap (λ i. n ^ i) (omega arith))
@@ -83,6 +80,10 @@ ups-one b (u ∷ us) (v ∷ vs) n h k e =
     let rest = ups-one b us vs (omega arith) (All-tail (IsUpBelow b) u us h) (All-tail (IsUpBelow b) v vs k) same.1 in
     ap (λ (x : Up). x ∷ us) first ∙ ap (λ (xs : List Up). v ∷ xs) rest
 
+and-true : (a b : Bool) → (a && b) ≡ true → (a ≡ true) × (b ≡ true)
+and-true true b e = (refl, e)
+and-true false b e = absurd (cc)
+
 bit : Bool → ℕ
 bit b = if b then 1 else 0
 
@@ -115,6 +116,50 @@ down-one b d e h k s =
     ∙ (ap (λ (x : ℕ). record { start = e.start; parent = x; above = d.above; before = d.before }) q.0
     ∙ (ap (λ (x : ℕ). record { start = e.start; parent = e.parent; above = x; before = d.before }) r.0
     ∙ ap (λ (x : ℕ). record { start = e.start; parent = e.parent; above = e.above; before = x }) r.1))
+
+-- ---- what a selector's states are upward, as a run over rules of marked instances counts them
+module _ (A : Algebra Up) (W : Downward Up Down) (f k : ℕ) (few : HasFewStates A W f k) where
+  is_up : Up → Bool
+  is_up u = nat_lt u.chain (2 ^ f) && nat_lt u.code (2 ^ f)
+
+  up-is : (u : Up) → IsUpOf f u → is_up u ≡ true
+  unfolding is_up
+  up-is u h =
+      let a : nat_lt u.chain (2 ^ f) ≡ true = let b = h.chain in grind (arith, nat_tests) in
+      let c : nat_lt u.code (2 ^ f) ≡ true = let b = h.code in grind (arith, nat_tests) in
+      rw (a, c) refl
+
+  is-up : (u : Up) → is_up u ≡ true → IsUpBelow (2 ^ f) u
+  unfolding is_up
+  is-up u h =
+      let parts = and-true (nat_lt u.chain (2 ^ f)) (nat_lt u.code (2 ^ f)) h in
+      let a = parts.0 in
+      let b = parts.1 in
+      (grind (arith, nat_tests), grind (arith, nat_tests))
+
+  -- two truths for each of so many parts
+  pub up-states : HasUpStates A (4 ^ f)
+  up-states = record {
+    is_state = is_up;
+    number = up_code (2 ^ f);
+    bottom = up-is A.bottom few.bottom;
+    node = λ symbol x y p q. up-is (A.node symbol x y) (few.node symbol x y);
+    below = λ u h. (let l = up-lt (2 ^ f) u (is-up u h) in let m = mul-pow 2 2 f in omega (arith, l, m));
+    apart = λ u v h i e. up-one (2 ^ f) u v (is-up u h) (is-up v i) e;
+  }
+
+-- so few nodes such a run reads, beside those of the marked instances
+pub made-most : (G : List Rule) (f k nodes : ℕ) → 2 * whole G + 4 * ((4 ^ f) ^ greatest_rank G * whole G + nodes) ≤ most_reads G f k + 4 * nodes
+made-most G f k nodes =
+    let n : ℕ = 4 ^ (greatest_rank G * f) in
+    let w : ℕ = 8 ^ (k + 1) in
+    let power : (4 ^ f) ^ greatest_rank G * whole G ≡ n * whole G = ap (λ m. m * whole G) (power-power 4 f (greatest_rank G)) in
+    let one : 1 ≤ n = one-le-pow (greatest_rank G * f) 4 (omega arith) in
+    let some : 1 * whole G ≤ n * whole G = mul-le-mul_right (whole G) one in
+    let more : 1 ≤ 8 ^ k = one-le-pow k 8 (omega arith) in
+    let eight : 8 ^ (k + 1) ≡ 8 ^ k * 8 = pow-add 8 k 1 in
+    let many : 8 * (n * whole G) ≤ w * (n * whole G) = mul-le-mul_right (n * whole G) (omega (arith, more, eight)) in
+    omega (arith, power, some, many, spread (whole G) n w)
 
 -- ---- the bodies that runs read
 module _ (A : Algebra Up) (W : Downward Up Down) (G : List Rule) (g : IsGrammar G) (f k : ℕ) (few : HasFewStates A W f k) where
@@ -153,18 +198,15 @@ module _ (A : Algebra Up) (W : Downward Up Down) (G : List Rule) (g : IsGrammar 
       let more : (base * base) ^ length p.1 ≤ lists = pow-le-pow_right {n = base * base} (omega arith) {i = length p.1} {j = greatest_rank G} (omega (arith, a.many, rank-greatest G p.0)) in
       omega arith
 
-  whole-taken : sum_by (λ R. length R.body) (take (length G) G) ≡ whole G
-  whole-taken = ap (sum_by (λ (R : Rule). length R.body)) (take_all (length G) G (omega arith))
-
   lists-power : lists ≡ 4 ^ (greatest_rank G * f)
   lists-power = ap (λ m. m ^ greatest_rank G) (sym (mul-pow 2 2 f)) ∙ power-power 4 f (greatest_rank G)
 
   rise-few : (pairs : List (RuleStates Up)) (steps : ℕ) → ReadsOnce A G pairs steps → steps ≤ 2 * (lists * whole G)
   rise-few pairs steps reads =
       let read : All IsRead pairs = All-weaker (λ (p : RuleStates Up). Uses Up A G p.0 p.1) IsRead (λ p u. used-read p.0 p.1 u) pairs reads.met in
-      let sum = sum-apart (λ (p : RuleStates Up). ups_code base p.1) (λ (R : Rule). length R.body) G no_rule (λ p. p.0) IsRead lists read-told read-few (length G) pairs (omega arith) reads.distinct read (All-weaker IsRead (λ p. p.0 < length G) (λ p a. a.there) pairs read) in
+      let sum = sum-apart (λ (p : RuleStates Up). ups_code base p.1) (λ q. length (body_at G q)) (λ p. p.0) IsRead (λ q. lists) read-told read-few (λ (R : Rule). length R.body) G no_rule lists (λ p. refl) (λ p. refl) pairs reads.distinct read (All-weaker IsRead (λ p. p.0 < length G) (λ p a. a.there) pairs read) in
       let bound = reads.bound in
-      omega (arith, sum, bound, ap (λ n. lists * n) whole-taken)
+      omega (arith, sum, bound)
 
   -- so many down states
   abbrev ways : ℕ
@@ -197,9 +239,9 @@ module _ (A : Algebra Up) (W : Downward Up Down) (G : List Rule) (g : IsGrammar 
   fall-few : (triples : List (RuleStates Up × Down)) (steps : ℕ) → FallsOnce A W G triples steps → steps ≤ 2 * (ways * lists * whole G)
   fall-few triples steps falls =
       let fallen : All IsFallen triples = All-weaker (λ (t : RuleStates Up × Down). Falls Up Down A W G t.0.0 t.0.1 t.1) IsFallen (λ t u. fallen-read t.0.0 t.0.1 t.1 u) triples falls.met in
-      let sum = sum-apart triple_code (λ (R : Rule). length R.body) G no_rule (λ t. t.0.0) IsFallen (ways * lists) fallen-told fallen-few (length G) triples (omega arith) falls.distinct fallen (All-weaker IsFallen (λ t. t.0.0 < length G) (λ t a. a.read.there) triples fallen) in
+      let sum = sum-apart triple_code (λ q. length (body_at G q)) (λ t. t.0.0) IsFallen (λ q. ways * lists) fallen-told fallen-few (λ (R : Rule). length R.body) G no_rule (ways * lists) (λ p. refl) (λ p. refl) triples falls.distinct fallen (All-weaker IsFallen (λ t. t.0.0 < length G) (λ t a. a.read.there) triples fallen) in
       let bound = falls.bound in
-      omega (arith, sum, bound, ap (λ n. ways * lists * n) whole-taken)
+      omega (arith, sum, bound)
 
   ways-power : ways ≤ 8 ^ (k + 1)
   ways-power =

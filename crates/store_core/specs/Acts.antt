@@ -34,6 +34,8 @@ pub data Act : Type 0 where
   RenameAll : (name query : List ℕ) → Act
   -- they are deleted, with all below them
   DeleteAll : (query : List ℕ) → Act
+  -- the elements that the schema in the file with this name does not allow are counted
+  Check : (name : List ℕ) → Act
   -- the grammar is settled
   Repair : Act
   -- the document becomes the one that is made with so many records
@@ -56,10 +58,16 @@ abbrev pub grammar_read : Act → Option (List ℕ)
 grammar_read (LoadGrammar name) = Some name
 grammar_read act = None
 
+-- the name of the file in which the command reads a schema
+abbrev pub schema_read : Act → Option (List ℕ)
+schema_read (Check name) = Some name
+schema_read act = None
+
 -- the name of the file that the command reads, whatever it reads there
 abbrev pub file_read : Act → Option (List ℕ)
 file_read (Load name) = Some name
 file_read (LoadGrammar name) = Some name
+file_read (Check name) = Some name
 file_read act = None
 
 -- whether the command writes a file
@@ -93,6 +101,12 @@ abbrev pub query_answered : Act → Option (List ℕ)
 query_answered (Query query) = Some query
 query_answered (Count query) = Some query
 query_answered act = None
+
+-- the query all of whose nodes it edits
+abbrev pub query_edited : Act → Option (List ℕ)
+query_edited (RenameAll name query) = Some query
+query_edited (DeleteAll query) = Some query
+query_edited act = None
 
 -- the name that the command gives a node, the attribute of one, or all nodes of a query
 abbrev pub name_given : Act → Option (List ℕ)

@@ -16,7 +16,7 @@ use Rattle.bulk_rewrite.specs.RenamedAll.{MayRename, renamed_pairs}
 use Rattle.bulk_rewrite.specs.Renaming.{renamed}
 use Rattle.store_core.specs.Acts.{Act, RenameAll, DeleteAll}
 use Rattle.store_core.specs.Editing.{IsDue, IsSettledWhereDue, one_more}
-use Rattle.store_core.specs.Selecting.{IsSelectorOf, Selects}
+use Rattle.store_core.specs.Selecting.{IsSelectorOf, Selects, SpellsPlain}
 use Rattle.store_core.specs.Texts.{answer_line}
 use Rattle.store_core.specs.Worlds.{Held, with_names, PartsStandFor, World}
 use Rattle.store_core.specs.declared.answer.Answer.{Answer}
@@ -67,7 +67,7 @@ pub record AreMadeFor (edit : BulkEdit) (query : List ℕ) (names : List Pair) (
   pub selects : IsSelectorOf query names selector
   pub few : AreFewFor edit selector names G made
 
--- the command asks for one of the document that is held, of the nodes that its query selects
+-- the command asks for one of the document that is held, of the nodes that its query selects, which compares nothing
 pub record WantsBulkEdit (act : Act) (w : World) : Type 0 where
   pub held : Held
   pub tree : Tree
@@ -77,6 +77,7 @@ pub record WantsBulkEdit (act : Act) (w : World) : Type 0 where
   pub is : w.state ≡ Some held
   pub asked : AsksBulkEdit act edit query
   pub selects : Selects query w tree numbers
+  pub plain : SpellsPlain query
 
 -- The document that is held becomes the one with the edit of all these nodes. The names grow by those that the edit brings. The rules are no
 -- larger than those that the edit makes, and are these where settling isn't due.

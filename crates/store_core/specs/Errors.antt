@@ -14,11 +14,14 @@ use Rattle.grammar_file.specs.declared.error.FileError.{FileError}
 use Rattle.grammar_file.specs.declared.error.FileError.TheVariants as file
 use Rattle.xpath_parser.specs.declared.error.QueryError.{QueryError}
 use Rattle.xpath_parser.specs.declared.error.QueryError.TheVariants as query
+use Rattle.content_models.specs.declared.error.SchemaError.{SchemaError}
+use Rattle.content_models.specs.declared.error.SchemaError.TheVariants as schema
 use Rattle.store_core.specs.Acts.{Act, node_asked}
 use Rattle.store_core.specs.Editing.{GivesNoFragment, GivesNoName, GivesNoValue}
 use Rattle.store_core.specs.GrammarFiles.{IsNoFile, IsFileOfMany}
 use Rattle.store_core.specs.GrammarStores.{IsNoStore}
-use Rattle.store_core.specs.Selecting.{SpellsNoQuery, SpellsLarge}
+use Rattle.store_core.specs.Schemas.{SpellsNoSchema, SpellsLargeSchema}
+use Rattle.store_core.specs.Selecting.{SpellsNoQuery, SpellsLarge, SpellsComparison}
 use Rattle.store_core.specs.declared.answer.Refusal.{Refusal}
 use Rattle.store_core.specs.declared.answer.Refusal.TheVariants as no
 
@@ -38,6 +41,18 @@ SaysOfFile file.Bad bytes = IsNoFile bytes
 SaysOfFile file.TooMany bytes = IsFileOfMany bytes
 SaysOfFile file.Memory bytes = Unit {0}
 
+-- what is wrong with those of a schema
+abbrev pub SaysOfSchema : SchemaError → List ℕ → Type 0
+SaysOfSchema schema.Bad bytes = SpellsNoSchema bytes
+SaysOfSchema schema.Large bytes = SpellsLargeSchema bytes
+SaysOfSchema schema.Memory bytes = Unit {0}
+
+abbrev pub IsNoSchema : Refusal → List ℕ → Type 0
+IsNoSchema no.BadSchema bytes = SpellsNoSchema bytes
+IsNoSchema no.LargeSchema bytes = SpellsLargeSchema bytes
+IsNoSchema no.Memory bytes = Unit {0}
+IsNoSchema _ bytes = ⊥
+
 -- what is wrong with those of a query
 abbrev pub SaysOfQuery : QueryError → List ℕ → Type 0
 SaysOfQuery query.Bad bytes = SpellsNoQuery bytes
@@ -50,12 +65,20 @@ IsNoQuery no.LargeQuery bytes = SpellsLarge bytes
 IsNoQuery no.Memory bytes = Unit {0}
 IsNoQuery _ bytes = ⊥
 
+-- or why they are no query that compares nothing
+abbrev pub IsNoPlainQuery : Refusal → List ℕ → Type 0
+IsNoPlainQuery no.ValueQuery bytes = SpellsComparison bytes
+IsNoPlainQuery refusal bytes = IsNoQuery refusal bytes
+
 -- of all bytes of which the error is true the refusal is
 abbrev pub RefusesDocument : XmlError → Refusal → Type 0
 RefusesDocument error refusal = (bytes : List ℕ) → SaysOfDocument error bytes → IsNoDocument refusal bytes
 
 abbrev pub RefusesFile : FileError → Refusal → Type 0
 RefusesFile error refusal = (bytes : List ℕ) → SaysOfFile error bytes → IsNoStore refusal bytes
+
+abbrev pub RefusesSchema : SchemaError → Refusal → Type 0
+RefusesSchema error refusal = (bytes : List ℕ) → SaysOfSchema error bytes → IsNoSchema refusal bytes
 
 abbrev pub RefusesQuery : QueryError → Refusal → Type 0
 RefusesQuery error refusal = (bytes : List ℕ) → SaysOfQuery error bytes → IsNoQuery refusal bytes

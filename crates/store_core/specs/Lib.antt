@@ -15,6 +15,7 @@ pub mod Printed
 pub mod Reads
 pub mod Refusals
 pub mod Saving
+pub mod Schemas
 pub mod Selecting
 pub mod Stopping
 pub mod StoreOf

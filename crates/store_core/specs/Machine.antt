@@ -14,10 +14,13 @@ use Rattle.slt_grammar.specs.Ranks.{greatest_rank}
 use Rattle.fcns_encoding.specs.Interning.{Interns, pairs_of_tree}
 use Rattle.record_generator.specs.Records.{generated}
 use Rattle.grammar_file.specs.FileBytes.{file_bytes}
-use Rattle.store_core.specs.Acts.{Act, Load, LoadGrammar, Save, SaveGrammar, Show, Query, Count, Rename, Insert, Append, Delete, Value, Attr, Copy, RenameAll, DeleteAll, Repair, Generate}
+use Rattle.content_models.specs.Models.{Model}
+use Rattle.content_models.specs.Wrong.{AreWrong}
+use Rattle.store_core.specs.Acts.{Act, Load, LoadGrammar, Save, SaveGrammar, Show, Query, Count, Rename, Insert, Append, Delete, Value, Attr, Copy, RenameAll, DeleteAll, Check, Repair, Generate}
 use Rattle.store_core.specs.BulkEditing.{EditsAll, KeepsNamesOfAll}
 use Rattle.store_core.specs.Editing.{Edits, KeepsNames}
 use Rattle.store_core.specs.GrammarFiles.{IsFileOfDocument}
+use Rattle.store_core.specs.Schemas.{HoldsSchema, verdict}
 use Rattle.store_core.specs.Selecting.{Selects}
 use Rattle.store_core.specs.Worlds.{Parts, parts_in, unedited, with_rules, PartsStandFor, IsLawfulState, World, Same, HasFile}
 use Rattle.store_core.specs.Texts.{answer_line, line_of, selected_line}
@@ -126,6 +129,20 @@ pub record Counts (query : List ℕ) (old : World) (out : List ℕ) (new : World
   pub same : Same old new
   pub printed : out ≡ answer_line (ok.Selected (length answer))
 
+-- the elements of the document that is held which are wrong under the schema in the file are counted, and the number of the first of them
+-- is told; nothing changes
+pub record Checks (name : List ℕ) (old : World) (out : List ℕ) (new : World) : Type 0 where
+  pub parts : Parts
+  pub tree : Tree
+  pub schema : List (List ℕ × Model)
+  pub wrong : List ℕ
+  pub held : parts_in old.state ≡ Some parts
+  pub stand : PartsStandFor parts tree
+  pub file : HoldsSchema name old schema
+  pub are : AreWrong schema 0 (nodes tree) wrong
+  pub same : Same old new
+  pub printed : out ≡ answer_line (verdict wrong)
+
 -- The rules become ones that are settled for a rank, stand for the same document and have no more nodes; none has a rank that is greater
 -- than that one and than all there were. No edit was made since then. Nothing else changes.
 pub record Repairs (rank : ℕ) (old : World) (out : List ℕ) (new : World) : Type 0 where
@@ -160,6 +177,7 @@ Does settings (Attr number name bytes) old out new = Edits settings (Attr number
 Does settings (Copy number) old out new = Edits settings (Copy number) old out new
 Does settings (RenameAll name query) old out new = EditsAll settings (RenameAll name query) old out new
 Does settings (DeleteAll query) old out new = EditsAll settings (DeleteAll query) old out new
+Does settings (Check name) old out new = Checks name old out new
 Does settings Repair old out new = Repairs settings.rank old out new
 Does settings (Generate records) old out new = Generates settings.rank records old out new
 

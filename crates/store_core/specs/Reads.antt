@@ -1,9 +1,13 @@
 -- How many reads of grammar nodes queries take.
-use Rattle.std.specs.Prelude.{◌≡◌, ◌≤◌, ℕ, ◌+◌, ◌*◌, ◌^◌, List, Some}
+use Rattle.std.specs.Prelude.{◌≡◌, ◌≤◌, ℕ, ◌+◌, ◌*◌, ◌^◌, List, [], ◌∷◌, map, Some}
 use Rattle.slt_grammar.specs.Grammars.{whole}
 use Rattle.slt_grammar.specs.Ranks.{greatest_rank}
 use Rattle.slt_grammar.specs.declared.rules.Rule.{Rule}
+use Rattle.text_list.specs.Marking.{mark_of}
+use Rattle.value_tests.specs.MarkedInstances.{marked_nodes}
+use Rattle.xpath_parser.specs.Comparing.{literals_of}
 use Rattle.xpath_parser.specs.Limits.{inside, outside}
+use Rattle.xpath_parser.specs.Meant.{meant_paths}
 use Rattle.xpath_parser.specs.Spelled.{Spells}
 use Rattle.xpath_parser.specs.Trees.{Paths}
 use Rattle.store_core.specs.Acts.{Act, query_answered}
@@ -15,11 +19,17 @@ use Rattle.store_core.specs.Worlds.{Parts, State, parts_in}
 abbrev pub most_reads : List Rule → ℕ → ℕ → ℕ
 most_reads G parts steps = 2 * whole G * 4 ^ (greatest_rank G * parts) * (1 + 8 ^ (steps + 1))
 
--- the query was answered over the rules with so few reads, and bytes that are no query were refused without any
-pub record ReadsFew (query : List ℕ) (G : List Rule) (before now : ℕ) : Type 0 where
-  pub few : (paths : Paths) → Spells query paths → now ≤ before + most_reads G (inside paths) (outside paths)
+-- Four for each node of the body of each instance of a rule to which a text comes that equals one of these literals, and none without
+-- literals.
+abbrev pub marked_reads : Parts → List (List ℕ) → ℕ
+marked_reads parts [] = 0
+marked_reads parts (v ∷ vs) = 4 * marked_nodes parts.names (map (mark_of (v ∷ vs)) parts.texts) parts.rules
+
+-- the query was answered of what is held with so few reads, and bytes that are no query were refused without any
+pub record ReadsFew (query : List ℕ) (parts : Parts) (before now : ℕ) : Type 0 where
+  pub few : (paths : Paths) → Spells query paths → now ≤ before + (most_reads parts.rules (inside paths) (outside paths) + marked_reads parts (literals_of (meant_paths query paths)))
   pub none : SpellsNoQuery query → now ≡ before
 
 -- a command that lists or counts the nodes of a query takes so few reads
 abbrev pub AsksFew : Act → State → ℕ → ℕ → Type 0
-AsksFew act state before now = (query : List ℕ) (parts : Parts) → query_answered act ≡ Some query → parts_in state ≡ Some parts → ReadsFew query parts.rules before now
+AsksFew act state before now = (query : List ℕ) (parts : Parts) → query_answered act ≡ Some query → parts_in state ≡ Some parts → ReadsFew query parts before now

@@ -7,17 +7,22 @@ use Rattle.plain_tree.specs.Edits.{edited}
 use Rattle.plain_tree.specs.Tree.{node_count}
 use Rattle.xml_profile.specs.Reading.{IsBad}
 use Rattle.store_core.specs.GrammarFiles.{IsNoFile, IsFileOfMany}
-use Rattle.store_core.specs.Acts.{Act, needs_document, document_read, grammar_read, file_read, node_asked, query_asked, writes_file}
+use Rattle.store_core.specs.Acts.{Act, needs_document, document_read, grammar_read, schema_read, file_read, node_asked, query_asked, query_edited, writes_file}
 use Rattle.store_core.specs.BulkEditing.{MayEditAll, WantsBulkEdit}
 use Rattle.store_core.specs.Editing.{GivesNoFragment, GivesNoName, GivesNoValue, WantsEdit}
-use Rattle.store_core.specs.Selecting.{SpellsNoQuery, SpellsLarge, SpellsWithin}
+use Rattle.store_core.specs.Schemas.{SpellsNoSchema, SpellsLargeSchema}
+use Rattle.store_core.specs.Selecting.{SpellsNoQuery, SpellsLarge, SpellsComparison, SpellsPlain}
 use Rattle.store_core.specs.Worlds.{World, HasFile, HasNoFile, HasNode, LacksNode}
 use Rattle.store_core.specs.declared.answer.Refusal.{Refusal}
 use Rattle.store_core.specs.declared.answer.Refusal.TheVariants as no
 
--- where the command needs a document there is one, and where it reads a file there is one of this name
+-- where the command needs a document there is one
+abbrev pub HasDocument : Act → World → Type 0
+HasDocument act old = IsTrue (needs_document act) → IsSome old.state
+
+-- there is, and where it reads a file there is one of this name
 pub record IsReady (act : Act) (old : World) : Type 0 where
-  pub document : IsTrue (needs_document act) → IsSome old.state
+  pub document : HasDocument act old
   pub file : (name : List ℕ) → file_read act ≡ Some name → (bytes : List ℕ) × HasFile old name bytes
 
 -- these are the bytes of the file that is read, which has this name
@@ -35,9 +40,9 @@ pub record IsShortInput (read : Option (List ℕ)) (old : World) (bytes : List �
 abbrev pub FindsNode : Act → World → Type 0
 FindsNode act old = (number : ℕ) × (node_asked act ≡ Some number) × HasNode old number
 
--- there is one, and the query whose nodes the command asks for is one within the limits
+-- there is one, and the query all of whose nodes the command edits is one within the limits that compares nothing
 abbrev pub FindsQuery : Act → World → Type 0
-FindsQuery act old = (query : List ℕ) × (query_asked act ≡ Some query) × IsReady act old × SpellsWithin query
+FindsQuery act old = (query : List ℕ) × (query_edited act ≡ Some query) × IsReady act old × SpellsPlain query
 
 -- the command asks for an edit of all nodes of a query that may not be made
 abbrev pub AsksForbidden : Act → World → Type 0
@@ -46,14 +51,17 @@ AsksForbidden act old = (wants : WantsBulkEdit act old) × (MayEditAll wants.edi
 -- the command is refused so only where this holds
 abbrev pub Cause : Refusal → Act → World → World → Type 0
 Cause no.NoDocument act old new = IsTrue (needs_document act) × IsNone old.state
-Cause no.ReadFault act old new = IsSome (file_read act) × Rose old.count new.count
-Cause no.NoFile act old new = (name : List ℕ) × (file_read act ≡ Some name) × HasNoFile old name
+Cause no.ReadFault act old new = IsSome (file_read act) × HasDocument act old × Rose old.count new.count
+Cause no.NoFile act old new = (name : List ℕ) × (file_read act ≡ Some name) × HasDocument act old × HasNoFile old name
 Cause no.WriteFault act old new = IsTrue (writes_file act) × IsReady act old × Rose old.count new.count
-Cause no.LongFile act old new = (bytes : List ℕ) × IsInput (file_read act) old bytes × (2 ^ 30 ≤ length bytes)
+Cause no.LongFile act old new = (bytes : List ℕ) × IsInput (file_read act) old bytes × HasDocument act old × (2 ^ 30 ≤ length bytes)
 Cause (no.BadXml at) act old new = (bytes : List ℕ) × IsShortInput (document_read act) old bytes × IsBad bytes at
 Cause no.BadGrammar act old new = (bytes : List ℕ) × IsShortInput (grammar_read act) old bytes × IsNoFile bytes
+Cause no.BadSchema act old new = (bytes : List ℕ) × IsShortInput (schema_read act) old bytes × HasDocument act old × SpellsNoSchema bytes
+Cause no.LargeSchema act old new = (bytes : List ℕ) × IsShortInput (schema_read act) old bytes × HasDocument act old × SpellsLargeSchema bytes
 Cause no.BadQuery act old new = (query : List ℕ) × (query_asked act ≡ Some query) × IsReady act old × SpellsNoQuery query
 Cause no.LargeQuery act old new = (query : List ℕ) × (query_asked act ≡ Some query) × IsReady act old × SpellsLarge query
+Cause no.ValueQuery act old new = (query : List ℕ) × (query_edited act ≡ Some query) × IsReady act old × SpellsComparison query
 Cause no.NoNode act old new = (number : ℕ) × (node_asked act ≡ Some number) × LacksNode old number
 Cause no.BadName act old new = (FindsNode act old ⊎ FindsQuery act old) × GivesNoName act
 Cause no.BadFragment act old new = FindsNode act old × GivesNoFragment act

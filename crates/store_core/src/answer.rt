@@ -7,6 +7,7 @@ ghost use Rattle.store_core.specs.Texts.{line_of, answer_line, refusal_line};
 
 use arrayvec::ArrayVec;
 use bulk_rewrite::BulkError;
+use content_models::SchemaError;
 use grammar_file::FileError;
 use itoa::{Buffer, Integer};
 use std::alloc::AllocError;
@@ -39,6 +40,13 @@ pub enum Answer {
     Selected(u64),
     /// The node was printed before the line.
     Shown,
+    /// The schema allows all elements.
+    Valid,
+    /// It does not allow so many, of which the first has this number.
+    Invalid {
+        count: u64,
+        first: u64,
+    },
 }
 
 /// Why a command was not done.
@@ -52,8 +60,14 @@ pub enum Refusal {
     /// The place, from 0 on, where the file's bytes go wrong.
     BadXml { at: u64 },
     BadGrammar,
+    /// The file's bytes spell no schema.
+    BadSchema,
+    /// They spell one that passes the limits.
+    LargeSchema,
     BadQuery,
     LargeQuery,
+    /// The query compares texts or attribute values, and the command takes no such query.
+    ValueQuery,
     NoNode,
     /// The name is no Name of XML.
     BadName,
@@ -101,6 +115,20 @@ impl From<FileError> for Refusal {
             FileError::Bad => Refusal::BadGrammar,
             FileError::TooMany => Refusal::TooMany,
             FileError::Memory => Refusal::Memory,
+        }
+    }
+}
+
+impl From<SchemaError> for Refusal {
+    ghost use Rattle.store_core.specs.Errors.{RefusesSchema};
+
+    ghost from_gives = { RefusesSchema };
+
+    fn from(error: SchemaError) -> Refusal {
+        match error {
+            SchemaError::Bad => Refusal::BadSchema,
+            SchemaError::Large => Refusal::LargeSchema,
+            SchemaError::Memory => Refusal::Memory,
         }
     }
 }
@@ -166,6 +194,8 @@ pub(crate) fn write_line<K: Sink>(
         Ok(Answer::Repaired { rules, size }) => write_repaired(rules, size, sink),
         Ok(Answer::Selected(count)) => write_count(b"ok selected ", count, sink),
         Ok(Answer::Shown) => sink.write(b"ok shown\n"),
+        Ok(Answer::Valid) => sink.write(b"ok valid\n"),
+        Ok(Answer::Invalid { count, first }) => write_invalid(count, first, sink),
         Err(refusal) => write_refusal(refusal, sink),
     }
 }
@@ -183,8 +213,11 @@ fn write_refusal<K: Sink>(refusal: Refusal, sink: &mut K) -> Result<(), Failed>
         Refusal::LongFile => sink.write(b"! long-file\n"),
         Refusal::BadXml { at } => write_count(b"! bad-xml ", at, sink),
         Refusal::BadGrammar => sink.write(b"! bad-grammar\n"),
+        Refusal::BadSchema => sink.write(b"! bad-schema\n"),
+        Refusal::LargeSchema => sink.write(b"! large-schema\n"),
         Refusal::BadQuery => sink.write(b"! bad-query\n"),
         Refusal::LargeQuery => sink.write(b"! large-query\n"),
+        Refusal::ValueQuery => sink.write(b"! value-query\n"),
         Refusal::NoNode => sink.write(b"! no-node\n"),
         Refusal::BadName => sink.write(b"! bad-name\n"),
         Refusal::BadFragment => sink.write(b"! bad-fragment\n"),
@@ -246,6 +279,20 @@ fn write_repaired<K: Sink>(rules: usize, size: u64, sink: &mut K) -> Result<(), 
     add_number(&mut line, rules);
     add(&mut line, b" size ");
     add_number(&mut line, size);
+    add(&mut line, b"\n");
+    sink.write(line.as_slice())
+}
+
+fn write_invalid<K: Sink>(count: u64, first: u64, sink: &mut K) -> Result<(), Failed>
+    ensures content { Writes (K.got sink.old) (K.got sink.new) result (answer_line (Answer.Invalid count first)) }
+    ensures kept { Keeps (K.kept sink.old) (K.kept sink.new) }
+    ensures cause { HasCause (K.faults sink.old) (K.faults sink.new) result }
+{
+    let mut line: AnswerLine = ArrayVec::new();
+    add(&mut line, b"ok invalid ");
+    add_number(&mut line, count);
+    add(&mut line, b" first ");
+    add_number(&mut line, first);
     add(&mut line, b"\n");
     sink.write(line.as_slice())
 }

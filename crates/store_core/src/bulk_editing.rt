@@ -23,7 +23,7 @@ use crate::command::Command;
 use crate::editing::settle_where_due;
 use crate::loaded::{Loaded, Tables};
 use crate::loading::tables_of;
-use crate::selecting::selector_of;
+use crate::selecting::plain_selector_of;
 use bulk_rewrite::{BulkError, Rewritten, delete_all, rename_all};
 use read_steps::Steps;
 use selecting_automaton::Selector;
@@ -81,7 +81,7 @@ fn rename_selected<L: Ledger>(
     ensures comes { (told : Option Told) (count : ℕ)
         → Comes settings (RenameAll name.now query.now) (world (Some (held_of loaded.old)) told count) [] result (world (Some (held_of loaded.new)) told count) }
 {
-    let selector = selector_of(alloc, query, &loaded.store.names)?;
+    let selector = plain_selector_of(alloc, query, &loaded.store.names)?;
     check_name(name)?;
     rename_hits(alloc, &mut loaded.store, &selector, name, steps)?;
     Ok(settle_where_due(alloc, loaded, settings))
@@ -104,7 +104,7 @@ fn delete_selected<L: Ledger>(
     ensures comes { (told : Option Told) (count : ℕ)
         → Comes settings (DeleteAll query.now) (world (Some (held_of loaded.old)) told count) [] result (world (Some (held_of loaded.new)) told count) }
 {
-    let selector = selector_of(alloc, query, &loaded.store.names)?;
+    let selector = plain_selector_of(alloc, query, &loaded.store.names)?;
     delete_hits(alloc, &mut loaded.store, &selector, steps)?;
     Ok(settle_where_due(alloc, loaded, settings))
 }

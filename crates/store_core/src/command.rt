@@ -75,6 +75,10 @@ pub enum Command<'a> {
     DeleteAll {
         query: &'a [u8],
     },
+    /// The elements that the schema in the file with this name does not allow are counted.
+    Check {
+        name: &'a str,
+    },
     /// The grammar is settled.
     Repair,
     /// The document becomes the one that `record_generator` makes with so many records, 1 to 200,000.

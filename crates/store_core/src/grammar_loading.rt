@@ -1,24 +1,22 @@
 // Reading a grammar file from the shelf.
-ghost use Rattle.std.specs.Prelude.{◌≡◌, ◌≤◌, ◌<◌, ◌^◌, ℕ, List, length, sum_by, IfOk, IfErr, Some};
+ghost use Rattle.std.specs.Prelude.{◌≤◌, IfOk, IfErr, Some};
 ghost use Rattle.tree_outside.specs.Outside.{Stays};
 ghost use Rattle.store_core.specs.Acts as act;
-ghost use Rattle.store_core.specs.Feeding.{HasLeft, OnlyReads};
 ghost use Rattle.store_core.specs.GrammarStores.{IsStoreOf, IsNoStore};
 ghost use Rattle.store_core.specs.Machine.{LoadsGrammar};
 ghost use Rattle.store_core.specs.Refusals.{Cause};
-ghost use Rattle.store_core.specs.Stopping.{StopsReading};
 ghost use Rattle.store_core.specs.StoreOf.{IsCounted, parts_of};
 ghost use Rattle.store_core.specs.Texts.{answer_line};
-ghost use Rattle.store_core.specs.Worlds.{State, AreLawfulParts, HasFile, IsIdle, told_files, unedited, world};
+ghost use Rattle.store_core.specs.Worlds.{State, AreLawfulParts, IsIdle, told_files, unedited, world};
 
 use crate::answer::{Answer, Refusal};
+use crate::file_reading::read_file;
 use crate::loaded::Tables;
-use crate::loading::{ReadDocument, open_file, tables_of};
-use crate::reading::{FILE_LIMIT, PIECE};
+use crate::loading::{ReadDocument, tables_of};
 use grammar_file::{Parts, read};
 use preorder_address::Marks;
 use std::alloc::Global;
-use tree_outside::{Failed, Shelf};
+use tree_outside::Shelf;
 use tree_updates::Store;
 
 /// Reads the document in the grammar file with this name, under the file's own grammar.
@@ -41,44 +39,6 @@ pub(crate) fn load_grammar<F: Shelf>(
     let store = store_of_file(alloc, &bytes)?;
     let count = store.counts.total();
     Ok(ReadDocument { store, count })
-}
-
-// The bytes of the file with this name.
-fn read_file<F: Shelf>(alloc: Global, name: &str, shelf: &mut F) -> Result<Vec<u8>, Refusal>
-    ensures later { F.faults shelf.old ≤ F.faults shelf.new }
-    ensures files { Stays (told_files (F.told shelf.old)) (told_files (F.told shelf.new)) }
-    ensures idle { IsIdle (F.told shelf.old) → IsIdle (F.told shelf.new) }
-    ensures short { IfOk result (λ bytes. length bytes.items < 2 ^ 30) }
-    ensures held { IfOk result (λ bytes. (state : State) → HasFile (world state (F.told shelf.old) (F.faults shelf.old)) name.now bytes.items) }
-    ensures refused { IfErr result (λ refusal. (state : State)
-        → Cause refusal (act.LoadGrammar name.now) (world state (F.told shelf.old) (F.faults shelf.old)) (world state (F.told shelf.new) (F.faults shelf.new))) }
-{
-    open_file(name, shelf)?;
-    let bytes = read_bytes(alloc, shelf);
-    shelf.close();
-    bytes
-}
-
-// All bytes of the open file.
-fn read_bytes<F: Shelf>(alloc: Global, shelf: &mut F) -> Result<Vec<u8>, Refusal>
-    ensures later { F.faults shelf.old ≤ F.faults shelf.new }
-    ensures files { Stays (told_files (F.told shelf.old)) (told_files (F.told shelf.new)) }
-    ensures only { OnlyReads (F.told shelf.old) (F.told shelf.new) }
-    ensures left { IfOk result (λ bytes. HasLeft (F.told shelf.old) bytes.items) }
-    ensures refused { IfErr result (λ refusal. StopsReading refusal (F.told shelf.old) (F.faults shelf.old) (F.faults shelf.new)) }
-{
-    let mut piece = Vec::new(alloc);
-    piece.resize(PIECE, 0)?;
-    let mut bytes = Vec::new(alloc);
-    while bytes.len() < FILE_LIMIT {
-        let count = match shelf.read(&mut piece) {
-            Err(Failed) => return Err(Refusal::ReadFault),
-            Ok(0) => return Ok(bytes),
-            Ok(count) => count,
-        };
-        bytes.extend_from_slice(&piece[..count])?;
-    }
-    Err(Refusal::LongFile)
 }
 
 // The store of which the bytes are the file.

@@ -2,14 +2,17 @@
 //!
 //! `Session::command` is one step of the plain tree machine (specs/Machine): what the command prints, what it leaves of the
 //! session and of the shelf's files. The document is held as a `Store`. Commands are in `loading`, `generating`, `saving`,
-//! `showing`, `repairing`, `selecting`, `editing` and `bulk_editing`, the walk over a node is in `walking`, and what it writes in `writing`;
+//! `showing`, `repairing`, `selecting`, `checking`, `editing` and `bulk_editing`; files are read whole in `file_reading`, the walk over a
+//! node is in `walking`, and what it writes in `writing`;
 //! `answer` has the lines that commands print.
 #![tactic(auto)]
 
 mod answer;
 mod bulk_editing;
+mod checking;
 mod command;
 mod editing;
+mod file_reading;
 mod generating;
 mod grammar_loading;
 mod listing;

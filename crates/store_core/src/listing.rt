@@ -9,9 +9,10 @@ ghost use Rattle.store_core.specs.Texts.{kind_word as word_of_kind, node_line};
 use crate::answer::{AnswerLine, add, add_number};
 use arrayvec::ArrayVec;
 use plain_tree::{Kind, Names};
-use rule_runs::{Answers, FallTable, Hit};
+use rule_runs::Hit;
 use std::alloc::{AllocError, Global};
 use tree_outside::{Failed, Sink};
+use value_runs::ValueRun;
 
 /// How many bytes are gathered before they are written.
 const ROOM: usize = 4096;
@@ -23,7 +24,7 @@ type Held = ArrayVec<u8, 4096>;
 /// some first ones.
 pub(crate) fn print_hits<K: Sink>(
     alloc: Global,
-    found: &FallTable,
+    found: &ValueRun,
     names: &Names,
     sink: &mut K,
 ) -> Result<Result<(), AllocError>, Failed>
@@ -41,7 +42,7 @@ pub(crate) fn print_hits<K: Sink>(
 // Gathers the lines of the nodes that are hit.
 fn gather_hits<K: Sink>(
     alloc: Global,
-    found: &FallTable,
+    found: &ValueRun,
     names: &Names,
     held: &mut Held,
     sink: &mut K,
@@ -52,7 +53,7 @@ fn gather_hits<K: Sink>(
     ensures kept { Keeps (K.kept sink.old) (K.kept sink.new) }
     ensures cause { HasCause (K.faults sink.old) (K.faults sink.new) result }
 {
-    let mut answers = match Answers::new(alloc, found) {
+    let mut answers = match found.answers(alloc) {
         Ok(answers) => answers,
         Err(error) => return Ok(Err(error)),
     };

@@ -1,5 +1,5 @@
 // Reading a document from the shelf.
-ghost use Rattle.std.specs.Prelude.{◌≡◌, ◌≤◌, ◌<◌, ◌^◌, [], max, sum_by, true, IfOk, IfErr, OnOk, OnErr, Some};
+ghost use Rattle.std.specs.Prelude.{◌≡◌, ◌≤◌, ◌<◌, ◌^◌, [], max, sum_by, IfOk, IfErr, Some};
 ghost use Rattle.tree_outside.specs.Outside.{Stays};
 ghost use Rattle.plain_tree.specs.Tree.{Tree, node_count};
 ghost use Rattle.slt_grammar.specs.Grammars.{IsGrammar, IsSwept, value};
@@ -10,10 +10,7 @@ ghost use Rattle.slt_grammar.specs.Segments.{listed};
 ghost use Rattle.digram_index.specs.Linked.{IsIndexOf};
 ghost use Rattle.segment_counts.specs.Counting.{AreCounts};
 ghost use Rattle.segment_counts.specs.Weights.{node_weight};
-ghost use Rattle.tree_outside.specs.Shelf.{Becomes, file_opened};
 ghost use Rattle.store_core.specs.Acts as act;
-ghost use Rattle.store_core.specs.Acts.{Act};
-ghost use Rattle.store_core.specs.Opening.{Finds, LoadsFile};
 ghost use Rattle.store_core.specs.Worlds.{State, AreLawfulParts, IsIdle, told_files, unedited, world};
 ghost use Rattle.store_core.specs.Folding.{IsFoldOf, FoldsFile};
 ghost use Rattle.store_core.specs.StoreOf.{IsCounted, parts_of};
@@ -22,6 +19,7 @@ ghost use Rattle.store_core.specs.Machine.{Encodes, Loads};
 ghost use Rattle.store_core.specs.Texts.{answer_line};
 
 use crate::answer::{Answer, Refusal};
+use crate::file_reading::open_file;
 use crate::loaded::Tables;
 use crate::reading::read_document;
 use digram_index::build;
@@ -32,7 +30,7 @@ use preorder_address::Marks;
 use segment_counts::{CountError, Counts};
 use slt_grammar::Grammar;
 use std::alloc::{AllocError, Global};
-use tree_outside::{Failed, Shelf};
+use tree_outside::Shelf;
 use tree_updates::Store;
 
 /// A document that was read, and the count of its nodes.
@@ -64,22 +62,6 @@ pub(crate) fn load_document<F: Shelf>(
     let store = store_of(alloc, folded, rank)?;
     let count = store.counts.total();
     Ok(ReadDocument { store, count })
-}
-
-/// Opens the file with this name, for a command that reads it.
-pub(crate) fn open_file<F: Shelf>(name: &str, shelf: &mut F) -> Result<(), Refusal>
-    ensures later { F.faults shelf.old ≤ F.faults shelf.new }
-    ensures files { Stays (told_files (F.told shelf.old)) (told_files (F.told shelf.new)) }
-    ensures idle { OnErr result (IsIdle (F.told shelf.old) → IsIdle (F.told shelf.new)) }
-    ensures opened { OnOk result (Finds (F.told shelf.old) name.now true × Becomes (F.told shelf.old) (F.told shelf.new) (file_opened name.now)) }
-    ensures refused { IfErr result (λ refusal. (a : Act) (state : State) → LoadsFile a name.now
-        → Cause refusal a (world state (F.told shelf.old) (F.faults shelf.old)) (world state (F.told shelf.new) (F.faults shelf.new))) }
-{
-    match shelf.open(name) {
-        Err(Failed) => Err(Refusal::ReadFault),
-        Ok(false) => Err(Refusal::NoFile),
-        Ok(true) => Ok(()),
-    }
 }
 
 // The document in the file with this name, folded.

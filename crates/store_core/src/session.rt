@@ -7,6 +7,7 @@ ghost use Rattle.store_words.specs.declared.words.Settings.{Settings};
 
 use crate::answer::{Answer, Refusal, write_line};
 use crate::bulk_editing::edit_selected;
+use crate::checking::check_document;
 use crate::command::Command;
 use crate::editing::edit_document;
 use crate::generating::generate_document;
@@ -160,6 +161,7 @@ impl Session {
             Command::RenameAll { .. } | Command::DeleteAll { .. } => {
                 Ok(self.edit_all(alloc, command, settings, steps))
             }
+            Command::Check { name } => Ok(self.check(alloc, name, shelf, steps)),
             Command::Repair => Ok(self.repair(alloc, settings)),
             Command::Generate { records } => Ok(self.generate(alloc, records, settings)),
         }
@@ -258,6 +260,25 @@ impl Session {
         match &self.loaded {
             None => Err(Refusal::NoDocument),
             Some(loaded) => save_grammar(name, &loaded.store, shelf),
+        }
+    }
+
+    // Checks the document against the schema in the file with this name.
+    fn check<F: Shelf, L: Ledger>(
+        &self,
+        alloc: Global,
+        name: &str,
+        shelf: &mut F,
+        steps: &mut Steps<L>,
+    ) -> Result<Answer, Refusal>
+        ensures lawful { IsLawfulState self.now }
+        ensures later { F.faults shelf.old ≤ F.faults shelf.new }
+        ensures idle { IsIdle (F.told shelf.old) → IsIdle (F.told shelf.new) }
+        ensures comes { (settings : Settings) → Comes settings (act.Check name.now) (world self.now (F.told shelf.old) (F.faults shelf.old)) [] result (world self.now (F.told shelf.new) (F.faults shelf.new)) }
+    {
+        match &self.loaded {
+            None => Err(Refusal::NoDocument),
+            Some(loaded) => check_document(alloc, name, &loaded.store, shelf, steps),
         }
     }
 

@@ -4,7 +4,7 @@ use Rattle.std.proofs.Common.{sym, ap, ◌∙◌, subst, arith}
 use Rattle.std.specs.List.{ends_with}
 use Rattle.std.proofs.lemmas.Fmt.{decimal_injective}
 use Rattle.std.proofs.lemmas.List.{length-take}
-use Rattle.store_core.specs.Acts.{Act, Load, LoadGrammar, Save, SaveGrammar, Show, Query, Count, Rename, Insert, Append, Delete, Value, Attr, Copy, RenameAll, DeleteAll, Repair, Generate}
+use Rattle.store_core.specs.Acts.{Act, Load, LoadGrammar, Save, SaveGrammar, Show, Query, Count, Rename, Insert, Append, Delete, Value, Attr, Copy, RenameAll, DeleteAll, Check, Repair, Generate}
 use Rattle.store_shell.specs.Forms.{Form, Empty, Long, Bad, Quit, Command, IsForm, Asks, Gives, without_return}
 use Rattle.store_shell.specs.Lines.{longest}
 use Rattle.store_shell.specs.Arguments.{IsNamed}
@@ -69,6 +69,8 @@ gives-one given (RenameAll v x) (RenameAll w y) e h k = let s = named-one given 
 gives-one given (RenameAll v x) b e h k = absurd cc
 gives-one given (DeleteAll x) (DeleteAll y) e h k = ap DeleteAll (sym h.1 ∙ k.1)
 gives-one given (DeleteAll x) b e h k = absurd cc
+gives-one given (Check x) (Check y) e h k = ap Check (sym h.1 ∙ k.1)
+gives-one given (Check x) b e h k = absurd cc
 gives-one given (Generate m) (Generate n) e h k = ap Generate (decimal_injective m n (omega (arith, h.1)) (omega (arith, k.1)) (sym h.2 ∙ k.2))
 gives-one given (Generate m) b e h k = absurd cc
 gives-one given Repair b e h k = absurd h
@@ -91,14 +93,14 @@ asks-one words a b h k = by (verb_of a) (verb_of b) refl refl h k
         gives-one xs a b (e ∙ (ap (λ z. Some z) same.0 ∙ sym d)) gives (subst (λ z. Gives z b) (sym same.1) gives2)
 
 -- words whose first is no verb and not `repair` ask for nothing
-asks_none : (words : List ℕ) (a : Act) → Asks words a → (words ≡ codes "repair" → ⊥) → place_of words ≡ 17 → ⊥
+asks_none : (words : List ℕ) (a : Act) → Asks words a → (words ≡ codes "repair" → ⊥) → place_of words ≡ 18 → ⊥
 asks_none words a h other e = by (verb_of a) h
   where
     by : (v : Option Verb) → AsksBy words (λ given. Gives given a) v → ⊥
     by None h = other h
     by (Some v) (rest, is, gives) =
-        let at : place v ≡ 17 = sym (place-told v words rest is) ∙ e in
-        let wrong : false ≡ true = ap (λ p. nat_lt p 17) (sym at) ∙ place-low v in
+        let at : place v ≡ 18 = sym (place-told v words rest is) ∙ e in
+        let wrong : false ≡ true = ap (λ p. nat_lt p 18) (sym at) ∙ place-low v in
         absurd (cc)
 
 asks_some : (words : List ℕ) (a : Act) → Asks words a → words ≡ [] → ⊥

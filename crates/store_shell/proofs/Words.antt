@@ -38,6 +38,7 @@ verb_at verb.Attr rest = position_at 4 (codes "attr " ++ rest) (omega arith)
 verb_at verb.Copy rest = position_at 4 (codes "copy " ++ rest) (omega arith)
 verb_at verb.RenameAll rest = position_at 10 (codes "rename-all " ++ rest) (omega arith)
 verb_at verb.DeleteAll rest = position_at 10 (codes "delete-all " ++ rest) (omega arith)
+verb_at verb.Check rest = position_at 5 (codes "check " ++ rest) (omega arith)
 verb_at verb.Generate rest = position_at 8 (codes "generate " ++ rest) (omega arith)
 
 -- a word and a space are cut there

@@ -2,7 +2,7 @@
 use Rattle.std.specs.Prelude.{◌≡◌, ◌≢◌, ◌<◌, ◌≤◌, ◌-◌, ◌^◌, ℕ, List, [], ◌∷◌, ◌++◌, All, length, take, if◌then◌else◌, codes, decimal, nat_eq, MatchOption}
 use Rattle.std.specs.List.{ends_with}
 use Rattle.std.specs.Str.{IsUtf8}
-use Rattle.store_core.specs.Acts.{Act, Load, LoadGrammar, Save, SaveGrammar, Show, Query, Count, Rename, Insert, Append, Delete, Value, Attr, Copy, RenameAll, DeleteAll, Repair, Generate}
+use Rattle.store_core.specs.Acts.{Act, Load, LoadGrammar, Save, SaveGrammar, Show, Query, Count, Rename, Insert, Append, Delete, Value, Attr, Copy, RenameAll, DeleteAll, Check, Repair, Generate}
 use Rattle.store_shell.specs.Arguments.{IsNamed, IsNumbered}
 use Rattle.store_shell.specs.Lines.{longest}
 use Rattle.store_shell.specs.Verbs.{verb_of, verb_word}
@@ -43,6 +43,7 @@ Gives arguments (Attr number name bytes) = (rest : List ℕ) × IsNumbered argum
 Gives arguments (Copy number) = (number < 2 ^ 64) × (arguments ≡ decimal number)
 Gives arguments (RenameAll name query) = (query ≢ []) × IsNamed arguments name query
 Gives arguments (DeleteAll query) = (query ≢ []) × (arguments ≡ query)
+Gives arguments (Check name) = IsFileName name × (arguments ≡ name)
 Gives arguments Repair = ⊥
 Gives arguments (Generate records) = (1 ≤ records) × (records ≤ 200000) × (arguments ≡ decimal records)
 

@@ -1,6 +1,6 @@
 -- The words that begin commands with arguments, and what ends them.
 use Rattle.std.specs.Prelude.{◌==◌, ℕ, Bool, List, Option, Some, None, codes}
-use Rattle.store_core.specs.Acts.{Act, Load, LoadGrammar, Save, SaveGrammar, Show, Query, Count, Rename, Insert, Append, Delete, Value, Attr, Copy, RenameAll, DeleteAll, Repair, Generate}
+use Rattle.store_core.specs.Acts.{Act, Load, LoadGrammar, Save, SaveGrammar, Show, Query, Count, Rename, Insert, Append, Delete, Value, Attr, Copy, RenameAll, DeleteAll, Check, Repair, Generate}
 use Rattle.store_shell.specs.declared.verb.Verb.{Verb}
 use Rattle.store_shell.specs.declared.verb.Verb.TheVariants as verb
 
@@ -21,6 +21,7 @@ verb_word verb.Attr = codes "attr"
 verb_word verb.Copy = codes "copy"
 verb_word verb.RenameAll = codes "rename-all"
 verb_word verb.DeleteAll = codes "delete-all"
+verb_word verb.Check = codes "check"
 verb_word verb.Generate = codes "generate"
 
 -- the verb of a command, if it has arguments
@@ -41,6 +42,7 @@ verb_of (Attr number name bytes) = Some verb.Attr
 verb_of (Copy number) = Some verb.Copy
 verb_of (RenameAll name query) = Some verb.RenameAll
 verb_of (DeleteAll query) = Some verb.DeleteAll
+verb_of (Check name) = Some verb.Check
 verb_of Repair = None
 verb_of (Generate records) = Some verb.Generate
 

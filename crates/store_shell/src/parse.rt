@@ -114,6 +114,7 @@ fn command_of(verb: Verb, arguments: &[u8]) -> Option<Command<'_>>
             query,
         }),
         Verb::DeleteAll => query(arguments).map(|text| Command::DeleteAll { query: text }),
+        Verb::Check => file_name(arguments).map(|name| Command::Check { name }),
         Verb::Generate => records(arguments).map(|records| Command::Generate { records }),
     }
 }

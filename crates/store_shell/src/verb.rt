@@ -18,6 +18,7 @@ pub enum Verb {
     Copy,
     RenameAll,
     DeleteAll,
+    Check,
     Generate,
 }
 
@@ -47,6 +48,7 @@ impl Verb {
             b"copy" => Some(Verb::Copy),
             b"rename-all" => Some(Verb::RenameAll),
             b"delete-all" => Some(Verb::DeleteAll),
+            b"check" => Some(Verb::Check),
             b"generate" => Some(Verb::Generate),
             _ => None,
         }

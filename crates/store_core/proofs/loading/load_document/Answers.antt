@@ -26,4 +26,4 @@ returns-clause-loads g c = λ state. record {
 pub returns-in_err-store-clause-refused : goal.returns-in_err-store-clause-refused
 returns-in_err-store-clause-refused g c =
     let p = err_from_is_err_and c.from_residual-in_err-store.result c.from_residual-in_err-store.ensures.1 in
-    rw (p.1, p.2) (λ state. let held = c.in_ok-folded.ensures.document.held state in ready_to_load (Load c.args.name.now) _ c.args.name.now held.bytes (load_reads c.args.name.now) held.file)
+    rw (p.1, p.2) (λ state. let held = c.in_ok-folded.ensures.document.held state in ready_to_load (Load c.args.name.now) _ c.args.name.now held.bytes (load_reads c.args.name.now state) held.file)

@@ -9,7 +9,7 @@ use Rattle.store_core.proofs.selecting.run_both_ways.Goals as goal
 pub returns-clause-finds : goal.returns-clause-finds
 returns-clause-finds g c =
     let e = c.fall.ensures in
-    finds-all _ _ (value (rules_of c.args.grammar.now.rules)) c.args.listed c.fall.result e.count e.listed e.hits e.symbols
+    finds-all _ (value (rules_of c.args.grammar.now.rules)) c.args.listed c.fall.result e.count e.listed e.hits e.symbols
 
 pub returns-clause-reads : goal.returns-clause-reads
 returns-clause-reads g c = λ parts outer few.

@@ -1,28 +1,28 @@
-use Rattle.std.proofs.Common.{Err, ap, ◌∙◌}
-use Rattle.std.proofs.lemmas.Result.{err_from_is_err_and}
+use Rattle.std.proofs.Common.{ap, subst, sym, ◌∙◌}
+use Rattle.plain_tree.specs.Tree.{none, more}
+use Rattle.text_list.specs.Marking.{mark_of}
+use Rattle.value_tests.specs.MarkedCodes.{CodesMarked}
+use Rattle.xpath_parser.specs.Comparing.{literals_of}
 use Rattle.xpath_parser.specs.Meaning.{selected}
-use Rattle.store_core.proofs.Asked.{query_says, states-spelled, within-inside, within-outside}
+use Rattle.xpath_parser.specs.Queries as queries
+use Rattle.store_core.proofs.Asked.{states-spelled, within-inside, within-outside}
 use Rattle.store_core.proofs.selecting.selector_of.Goals as goal
 
-pub returns-in_err-query-clause-refused : goal.returns-in_err-query-clause-refused
-returns-in_err-query-clause-refused c =
-    let p = err_from_is_err_and c.from_residual.result c.from_residual.ensures.1 in
-    let says = query_says c.in_err-query.field-0.0 c.args.text.now (λ same. c.in_err-query.ensures.bad (ap Err same)) (λ same. let l = c.in_err-query.ensures.large (ap Err same) in (l.0.0, l.0.1, l.1 l.0.0 l.0.1)) in
-    rw p.1 (p.2 c.args.text.now says)
-
 pub compile-requires-clause-few : goal.compile-requires-clause-few
-compile-requires-clause-few c = let s = c.in_ok-query.ensures.spelled in within-inside c.args.text.now s.0 _ s.1 (c.in_ok-query.ensures.small s.0 s.1) s.2
+compile-requires-clause-few c = let r = c.requires in within-inside c.args.text.now r.paths _ r.spelled r.within r.means
 
 pub compile-requires-clause-short : goal.compile-requires-clause-short
-compile-requires-clause-short c = let s = c.in_ok-query.ensures.spelled in within-outside c.args.text.now s.0 _ s.1 (c.in_ok-query.ensures.small s.0 s.1) s.2
+compile-requires-clause-short c = let r = c.requires in within-outside c.args.text.now r.paths _ r.spelled r.within r.means
 
-pub returns-clause-selector : goal.returns-clause-selector
-returns-clause-selector c =
-    let s = c.in_ok-query.ensures.spelled in
+pub returns : goal.returns
+returns c =
+    let r = c.requires in
     record {
-      paths = s.0;
-      spelled = s.1;
-      within = c.in_ok-query.ensures.small s.0 s.1;
-      selects = λ tree term code. c.in_ok-selector.ensures.selects tree term code ∙ ap (selected tree) s.2;
-      states = states-spelled c.args.text.now s.0 _ _ _ s.1 s.2 c.in_ok-selector.ensures.states;
+      paths = r.paths;
+      spelled = r.spelled;
+      within = r.within;
+      selects = λ tree term code.
+          let marked : queries.Paths → Type 0 = λ ps. CodesMarked c.args.names.now (mark_of (literals_of ps)) (more tree none) term in
+          c.in_ok-selector.ensures.selects tree term (subst marked (sym r.means) code) ∙ ap (selected tree) r.means;
+      states = states-spelled c.args.text.now r.paths _ _ _ r.spelled r.means c.in_ok-selector.ensures.states;
     }

@@ -12,4 +12,4 @@ returns-clause-comes g c = λ settings told count.
     let lawful : AreLawfulParts parts = (rw c.in-Some.is at c.self.invariant.0).parts in
     let w = world c.args.self.now told count in
     let h = c.in_ok-counted.ensures.selects lawful.tree w held lawful.stand in
-    counts_told c.args.text.now lawful.tree c.count.result w (h.answer, h.selects, c.count.ensures.count ∙ h.count)
+    counts_told c.args.text.now lawful.tree c.count.result w (h.answer, h.selects, c.count.ensures ∙ h.count)

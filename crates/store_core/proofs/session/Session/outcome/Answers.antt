@@ -14,6 +14,9 @@ returns-in-Save-clause-prints g c = rw c.in-Save.is ([], Gets-nil (g.K.Sink.got 
 pub returns-in-SaveGrammar-clause-prints : goal.returns-in-SaveGrammar-clause-prints
 returns-in-SaveGrammar-clause-prints g c = rw c.in-SaveGrammar.is ([], Gets-nil (g.K.Sink.got c.args.sink.now), c.save_grammar.ensures.comes c.args.settings)
 
+pub returns-in-Check-clause-prints : goal.returns-in-Check-clause-prints
+returns-in-Check-clause-prints g c = rw c.in-Check.is ([], Gets-nil (g.K.Sink.got c.args.sink.now), c.check.ensures.comes c.args.settings)
+
 pub returns-in-Repair-clause-prints : goal.returns-in-Repair-clause-prints
 returns-in-Repair-clause-prints g c =
     rw c.in-Repair.is ([], Gets-nil (g.K.Sink.got c.args.sink.now), c.repair.ensures.comes (g.F.Shelf.told c.args.shelf.now) (g.F.Shelf.faults c.args.shelf.now))

@@ -1,6 +1,6 @@
 use Rattle.std.proofs.Common.{◌≡◌, ◌-◌, ◌≤◌, ◌^◌, length, vec_len}
 use Rattle.tree_outside.specs.Shelf.{TakesFile}
-use Rattle.store_core.proofs.grammar_loading.read_bytes.Given as goal
+use Rattle.store_core.proofs.file_reading.read_bytes.Given as goal
 
 abbrev pub invariant-loop-shelf : goal.invariant-loop-shelf
 invariant-loop-shelf g l = record {

@@ -2,7 +2,7 @@ use Rattle.std.proofs.Common.{◌≡◌, ◌≤◌, ◌++◌, ℕ, List, length,
 use Rattle.tree_outside.specs.Shelf.{TakesFile}
 use Rattle.store_core.proofs.Feeds.{read_front}
 use Rattle.store_core.proofs.ReadSteps.{OnlyReads-refl, TakesFile-none, TakesFile-append}
-use Rattle.store_core.proofs.grammar_loading.read_bytes.Goals as goal
+use Rattle.store_core.proofs.file_reading.read_bytes.Goals as goal
 
 pub returns-in_err-resize-clause-only : goal.returns-in_err-resize-clause-only
 returns-in_err-resize-clause-only g c = OnlyReads-refl (g.F.Shelf.told c.args.shelf.now)

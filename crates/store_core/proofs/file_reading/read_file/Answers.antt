@@ -1,8 +1,7 @@
 use Rattle.std.proofs.Common.{arith}
 use Rattle.std.proofs.lemmas.Result.{IfOk-weaker, IfErr-weaker}
-use Rattle.store_core.specs.Acts.{LoadGrammar}
-use Rattle.store_core.proofs.FoundFiles.{found_file, stops_loading, load_grammar_reads}
-use Rattle.store_core.proofs.grammar_loading.read_file.Goals as goal
+use Rattle.store_core.proofs.FoundFiles.{found_file, stops_loading}
+use Rattle.store_core.proofs.file_reading.read_file.Goals as goal
 
 pub returns-clause-short : goal.returns-clause-short
 returns-clause-short g c = IfOk-weaker c.read_bytes-bytes.result _ _ (λ bytes left. left.short) c.read_bytes-bytes.ensures.left
@@ -18,5 +17,5 @@ pub returns-clause-refused : goal.returns-clause-refused
 returns-clause-refused g c =
     let opened = c.in_ok-open_file.ensures.opened in
     IfErr-weaker c.read_bytes-bytes.result _ _
-    (λ refusal stops state. stops_loading refusal (LoadGrammar c.args.name.now) _ _ c.args.name.now state _ _ _ _ (load_grammar_reads c.args.name.now) opened.0 opened.1 (omega (arith, c.in_ok-open_file.ensures.later)) (omega (arith, c.close.ensures.cause)) stops)
+    (λ refusal stops a state reads. stops_loading refusal a _ _ c.args.name.now state _ _ _ _ reads opened.0 opened.1 (omega (arith, c.in_ok-open_file.ensures.later)) (omega (arith, c.close.ensures.cause)) stops)
     c.read_bytes-bytes.ensures.refused

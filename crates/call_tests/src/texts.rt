@@ -152,3 +152,23 @@ fn a_text_that_is_copied_again_is_kept_once(rt: HostRuntime) -> Result<(), Fail>
     assert!(rt; copied.get(8_191) == Some(text.as_slice()));
     Ok(())
 }
+
+// All texts of a list but the first and the last.
+fn inner_copied(alloc: Global, list: &TextList) -> Result<TextList, AllocError> {
+    let mut copy = TextCopy::new(alloc, list)?;
+    let count = copy.originals();
+    if count > 2 {
+        copy.copy_many(1, count - 2)?;
+    }
+    Ok(copy.finish())
+}
+
+#[test]
+fn a_range_of_texts_is_copied(rt: HostRuntime) -> Result<(), Fail> {
+    let few = inner_copied(rt.alloc(), &list_of(rt.alloc(), b"wxyz")?)?;
+    assert!(rt; spells(&few, b"xy"));
+    let many = inner_copied(rt.alloc(), &doubled(rt.alloc(), b"x")?)?;
+    assert!(rt; many.len() == 8_190);
+    assert!(rt; many.get(8_189) == Some(b"x".as_slice()));
+    Ok(())
+}

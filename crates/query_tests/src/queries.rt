@@ -4,7 +4,7 @@ use xpath_parser::{QueryError, parse};
 
 mod limits;
 
-static GOOD: [(&[u8], &str); 75] = [
+static GOOD: [(&[u8], &str); 82] = [
     // path
     (b"/", "/"),
     (b"/a", "/child::a"),
@@ -137,9 +137,29 @@ static GOOD: [(&[u8], &str); 75] = [
         b"a[\xE3\x80\x81 or b]",
         "/child::a[(child::\u{3001} or child::b)]",
     ),
+    // comparison
+    (b"a[text()='x']", "/child::a[child::text()=\"x\"]"),
+    (b"a[ @ id = '\"' ]", "/child::a[attribute::id='\"']"),
+    (
+        b"a[child :: text ( ) = \"it's\"]",
+        "/child::a[child::text()=\"it's\"]",
+    ),
+    (
+        b"a[attribute::b:c=''and b]",
+        "/child::a[(attribute::b:c=\"\" and child::b)]",
+    ),
+    (
+        b"a[not(@or='&amp;]')]",
+        "/child::a[not(attribute::or=\"&amp;]\")]",
+    ),
+    (
+        b"a[@text='\xC3\xA4' or @b]",
+        "/child::a[(attribute::text=\"\u{e4}\" or attribute::b)]",
+    ),
+    (b"a[(text()='1')]", "/child::a[child::text()=\"1\"]"),
 ];
 
-static BAD: [&[u8]; 89] = [
+static BAD: [&[u8]; 113] = [
     // path
     b"",
     b" ",
@@ -235,7 +255,61 @@ static BAD: [&[u8]; 89] = [
     b"a[not()]",
     b"a[(b]",
     b"a[b)]",
+    // comparison
+    b"a[@id=7]",
+    b"a[@id='7]",
+    b"a[@id=\"7']",
+    b"a/@id='x'",
+    b"a[b/@id='x']",
+    b"a[./text()='x']",
+    b"a[@*='x']",
+    b"a[text()='x'/b]",
+    b"a[text()='x'|b]",
+    b"a[b|text()='x']",
+    b"a[text()='\x01']",
+    b"a[text()='\xC3']",
+    b"a[text()=]",
+    b"a[text()='x'[b]]",
+    b"a[node()='x']",
+    b"a[@text()='x']",
+    b"text()='x'",
+    b"a[.='x']",
+    b"a[self::text()='x']",
+    b"a[child::b='x']",
+    b"a[text()='x'='y']",
+    b"a['x'=text()]",
+    b"a[text()!='x']",
+    b"a['x']",
 ];
+
+// Queries, each with the values that it compares with.
+static LITERALS: [(&[u8], &[&[u8]]); 5] = [
+    (b"a[b]", &[]),
+    (b"a[text()='x']", &[b"x"]),
+    (
+        b"a[@id='y' or not(text()=\"x\")][@id='']",
+        &[b"y", b"x", b""],
+    ),
+    (b"a[@b='x' and c[@d='y']]/e[@f='x']", &[b"x", b"y", b"x"]),
+    (b"a[b | c[text()='&amp;']] | d[@e='\"']", &[b"&amp;", b"\""]),
+];
+
+// Whether a query compares with these values, in this order.
+fn compares_with(alloc: Global, query: &[u8], values: &[&[u8]]) -> bool {
+    let Ok(query) = parse(alloc, query) else {
+        return false;
+    };
+    let literals = query.literals();
+    if literals.len() != values.len() || query.compares() == values.is_empty() {
+        return false;
+    }
+    for (at, value) in values.iter().enumerate() {
+        if literals[at].as_slice() != *value {
+            return false;
+        }
+    }
+    true
+}
 
 // Whether a query is written out so.
 fn is_written_as(alloc: Global, query: &[u8], text: &str) -> bool {
@@ -262,5 +336,12 @@ fn others_are_bad(rt: HostRuntime) {
     for &query in &BAD {
         let is_bad = parse(rt.alloc(), query).err() == Some(QueryError::Bad);
         assert!(rt; is_bad, "{query:?}");
+    }
+}
+
+#[test]
+fn queries_tell_what_they_compare_with(rt: HostRuntime) {
+    for &(query, values) in &LITERALS {
+        assert!(rt; compares_with(rt.alloc(), query, values), "{query:?}");
     }
 }

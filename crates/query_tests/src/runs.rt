@@ -19,11 +19,12 @@ use std::test::Fail;
 // A rank and the labels of a body.
 type Rule = (usize, &'static [Label]);
 
-// Rules, whether some node is `b`, and the numbers of the nodes that are hit.
+// Rules, whether some node is `b`, and the numbers and symbols of the nodes that are hit.
 struct Row {
     rules: &'static [Rule],
     has_b: bool,
     hits: &'static [u64],
+    symbols: &'static [usize],
 }
 
 static ROWS: [Row; 3] = [
@@ -47,6 +48,7 @@ static ROWS: [Row; 3] = [
         ],
         has_b: true,
         hits: &[1],
+        symbols: &[A],
     },
     // document(a(b, a(b, a(c, bottom))), bottom), where rule 0 is a(b, y1), and of which the third a holds no b
     Row {
@@ -69,12 +71,14 @@ static ROWS: [Row; 3] = [
         ],
         has_b: true,
         hits: &[1, 3, 6],
+        symbols: &[A, A, C],
     },
     // document(a, bottom)
     Row {
         rules: &[(0, &[Symbol(0), Symbol(A), Bottom, Bottom, Bottom])],
         has_b: false,
         hits: &[],
+        symbols: &[],
     },
 ];
 
@@ -90,12 +94,13 @@ fn rules_of(alloc: Global, rules: &[Rule]) -> Result<RuleList, AllocError> {
     Ok(list)
 }
 
-// What runs find: whether some node is `b`, how many nodes are hit, and their numbers.
+// What runs find: whether some node is `b`, how many nodes are hit, and their numbers and symbols.
 #[derive(Drop)]
 struct Found {
     has_b: bool,
     count: u64,
     numbers: Vec<u64>,
+    symbols: Vec<usize>,
 }
 
 fn find<L: Ledger>(alloc: Global, grammar: &Grammar, blank: Blank) -> Result<Found, Fail>
@@ -113,6 +118,7 @@ fn find<L: Ledger>(alloc: Global, grammar: &Grammar, blank: Blank) -> Result<Fou
         has_b: risen.top().has_b,
         count: fallen.count(),
         numbers: list_numbers(alloc, &fallen)?,
+        symbols: list_symbols(alloc, &fallen)?,
     })
 }
 
@@ -133,6 +139,22 @@ fn list_numbers(alloc: Global, fallen: &FallTable) -> Result<Vec<u64>, AllocErro
     Ok(numbers)
 }
 
+// The symbols of all answers, where those that are alike are told at once.
+fn list_symbols(alloc: Global, fallen: &FallTable) -> Result<Vec<usize>, AllocError>
+    requires { IsSome fallen.now.hits }
+{
+    let mut symbols = Vec::new(alloc);
+    let mut answers = Answers::new(alloc, fallen)?;
+    for _one in 0..fallen.count().saturating_add(1) {
+        if let Some(hits) = answers.next_alike()? {
+            for _hit in 0..hits.count {
+                symbols.push(hits.symbol)?;
+            }
+        }
+    }
+    Ok(symbols)
+}
+
 #[test]
 fn runs_find_what_their_rows_say(rt: HostRuntime) -> Result<(), Fail> {
     for (at, row) in ROWS.iter().enumerate() {
@@ -140,7 +162,8 @@ fn runs_find_what_their_rows_say(rt: HostRuntime) -> Result<(), Fail> {
         let found = find::<Brand>(rt.alloc(), &grammar, Blank::new(1))?;
         let is_right = found.has_b == row.has_b
             && found.count == row.hits.len() as u64
-            && found.numbers.as_slice() == row.hits;
+            && found.numbers.as_slice() == row.hits
+            && found.symbols.as_slice() == row.symbols;
         assert!(rt; is_right, "row {at}");
     }
     Ok(())

@@ -10,3 +10,6 @@ fall-requires-clause-small g c = rw (nodes-weigh node_weight (λ f. refl) refl r
 
 pub list_numbers-requires : goal.list_numbers-requires
 list_numbers-requires g c = c.in_ok-fallen.ensures.listed.1 refl
+
+pub list_symbols-requires : goal.list_symbols-requires
+list_symbols-requires g c = c.in_ok-fallen.ensures.listed.1 refl

@@ -79,5 +79,10 @@ class Session:
         with open(f"/proc/{self.child.pid}/status") as status:
             return int(re.search(r"RssAnon:\s+(\d+)", status.read())[1]) * 1024
 
+    def peak(self):
+        """The most MiB that it held so far."""
+        with open(f"/proc/{self.child.pid}/status") as status:
+            return int(re.search(r"VmHWM:\s+(\d+)", status.read())[1]) / 1024
+
     def close(self):
         self.child.communicate()

@@ -5,6 +5,8 @@ TARGETS = ["go", "a", "or"]
 TEXTS = ["t", " ", "\n  ", "x &amp; y", "&#65;", "<![CDATA[<b/>]]>", "\u00e9", "]]", "a"]
 AXES = ["child", "descendant", "descendant-or-self", "self", "following-sibling", "attribute"]
 KIND_TESTS = ["node", "text", "comment", "processing-instruction"]
+# What texts and values of attributes may be compared with, some of them of none.
+LITERALS = ["", "1", "v", "t", " ", "x & y", "x &amp; y", "A", "&#65;", "<b/>", "\u00e9", "]]", "a", "ta", "it's", 'so "it" is', "[b", "or"]
 LIMIT = 64  # parts of a query outside its filters, and in them
 
 
@@ -44,10 +46,11 @@ class RandomDocument:
 
 
 class RandomQuery:
-    """A query's text, and how many parts it has outside its filters and in them."""
+    """A query's text, and how many parts it has outside its filters and in them. So often a part of a filter is a comparison."""
 
-    def __init__(self, chance):
+    def __init__(self, chance, comparisons=0.0):
         self.chance = chance
+        self.comparisons = comparisons
         self.counts = [0, 0]
         large = chance.random() < 0.02
         self.most = 30 if large else chance.choice([1, 2, 3, 4, 5])  # steps of a path
@@ -140,4 +143,17 @@ class RandomQuery:
             return f"{self.chance.choice(['true', 'false'])}{self.gap()}({self.gap()})"
         if self.goes_on(0.1):
             return f"({self.gap()}{self.either(depth)}{self.gap()})"
+        if self.goes_on(self.comparisons):
+            self.part(depth)
+            return self.comparison()
         return self.listed("|", depth, 0.15, lambda: self.steps(depth))
+
+    def comparison(self):
+        chance = self.chance
+        if chance.random() < 0.5:
+            front = chance.choice(["", "", f"child{self.gap()}::{self.gap()}"]) + f"text{self.gap()}({self.gap()})"
+        else:
+            front = chance.choice(["@", "@", f"attribute{self.gap()}::"]) + self.gap() + chance.choice(ATTRIBUTES)
+        literal = chance.choice(LITERALS)
+        quote = "'" if '"' in literal else '"' if "'" in literal else chance.choice("'\"")
+        return f"{front}{self.gap()}={self.gap()}{quote}{literal}{quote}"

@@ -6,7 +6,11 @@ pub mod ChunkLemmas
 pub mod MovedLemmas
 pub mod GapLemmas
 pub mod NumberLemmas
+pub mod DictionaryLemmas
 pub mod DifferentLemmas
 pub mod CopyLemmas
 pub mod MarkingLemmas
 pub mod PlaceMarks
+pub mod DictionaryLaws
+pub mod FindingLemmas
+pub mod DistinctLemmas

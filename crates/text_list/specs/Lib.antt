@@ -6,3 +6,6 @@ pub mod Chunks
 pub mod Different
 pub mod Copied
 pub mod Marking
+pub mod Dictionaries
+pub mod Numbering
+pub mod Finding

@@ -207,6 +207,19 @@ impl TextList {
         (&self.kept, self.loose.as_slice(), &self.places)
     }
 
+    // The list of these numbers of texts.
+    pub(crate) fn of_parts(kept: Blob, places: Places) -> TextList
+        requires within { AreWithin kept places.numbers }
+        requires few { length kept ≤ 2 ^ 32 }
+        ensures texts { result.texts ≡ texts_at kept places.numbers }
+    {
+        TextList {
+            loose: Vec::new(kept.allocator()),
+            kept,
+            places,
+        }
+    }
+
     // Makes a new list of the same texts, with this room and no less than there was.
     fn make_anew(&mut self, more: u64) -> Result<(), AllocError>
         ensures texts { self.new.texts ≡ self.old.texts }

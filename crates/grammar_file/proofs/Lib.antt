@@ -26,3 +26,5 @@ pub mod TextListing
 pub mod TextWalking
 pub mod PartLemmas
 pub mod TextFitting
+pub mod PlaceReading
+pub mod DictionaryReading

@@ -21,7 +21,7 @@ use Rattle.slt_grammar.specs.declared.rules.Rule.{Rule}
 use Rattle.slt_grammar.proofs.Carrying.{up-value_at}
 use Rattle.slt_grammar.proofs.Meanings.{only, meanings-whole}
 use Rattle.slt_grammar.proofs.RuleMeanings.{memo-at, rank_at-ranks_of}
-use Rattle.grammar_file.specs.FileBytes.{file_bytes}
+use Rattle.grammar_file.specs.FileBytes.{AreBytesOf}
 use Rattle.grammar_file.specs.Files.{SymbolsBelow, AreNamed, IsFileOf}
 
 -- whether all symbols of a term are below a number
@@ -194,7 +194,7 @@ coded-named G names ts g swept codes =
 
 -- such rules, names and texts are those of a file
 pub document-file : (bytes : List ℕ) (G : List Rule) (names : List (Kind × List ℕ)) (texts : List (List ℕ)) (t : Tree) → IsGrammar G → IsSwept G → StandsFor G names texts t
-    → bytes ≡ file_bytes names G texts → IsFileOf bytes names G texts
+    → AreBytesOf bytes names G texts → IsFileOf bytes names G texts
 document-file bytes G names texts t g swept stands is = record {
   lawful = record { distinct = stands.distinct; lawful = stands.lawful };
   grammar = record { grammar = g; swept = swept; named = coded-named G names (more t none) g swept stands.code };

@@ -158,3 +158,8 @@ pub adds_all : (a b : Seen) (bytes : List ℕ) → Adds a b bytes → a.held ≡
 adds_all a b bytes h empty last =
     let e : h.written ≡ bytes = sym (append-nil h.written) ∙ (rw (empty, last) at h.whole) in
     subst (λ z. Gets a.got b.got z) e h.got
+
+-- where nothing was put
+pub gets_nothing : (got : Option (List ℕ)) (bytes : List ℕ) → GetsFront got got bytes
+gets_nothing None bytes = tt
+gets_nothing (Some got) bytes = ([], (bytes, refl), sym (append-nil got))

@@ -9,7 +9,8 @@ use Rattle.rule_arena.specs.declared.label.Label.{Label}
 use Rattle.slt_grammar.specs.Grammars.{whole}
 use Rattle.slt_grammar.specs.declared.rules.Rule.{Rule}
 use Rattle.grammar_file.specs.Numbers.{number_bytes}
-use Rattle.grammar_file.specs.FileBytes.{list_bytes, text_bytes, name_bytes, rule_bytes, file_bytes}
+use Rattle.grammar_file.specs.FileBytes.{list_bytes, text_bytes, name_bytes, rule_bytes, listed_file_bytes}
+use Rattle.text_list.specs.Dictionaries.{ListedTexts}
 use Rattle.grammar_file.proofs.NumberLemmas.{one-most, more-most}
 use Rattle.grammar_file.proofs.Listing.{sizes, sizes-same}
 
@@ -75,8 +76,19 @@ length-rules G few nodes h =
     let k : sizes rule_size G ≤ 2 ^ 67 = omega (arith, sizes-rules G) in
     omega (arith, length-list rule_bytes rule_size G _ few h k)
 
-pub length-file : (names : List (Kind × List ℕ)) (G : List Rule) (texts : List (List ℕ)) → length (list_bytes name_bytes names) < 2 ^ 126 + 2 ^ 68 → length (list_bytes rule_bytes G) < 2 ^ 68
-    → length (list_bytes text_bytes texts) < 2 ^ 127 + 2 ^ 68 → length (file_bytes names G texts) < 2 ^ 128
-length-file names G texts h k l =
+-- a number's bytes are no more than ten
+abbrev pub number_size : ℕ → ℕ
+number_size n = 10
+
+pub length-numbers : (ns : List ℕ) → length ns < 2 ^ 64 → length (flat_map number_bytes ns) ≤ sizes number_size ns → length (list_bytes number_bytes ns) < 2 ^ 68
+length-numbers ns few h =
+    let k : sizes number_size ns ≤ 10 * 2 ^ 64 = omega (arith, sizes-same 10 ns) in
+    omega (arith, length-list number_bytes number_size ns _ few h k)
+
+pub length-file : (names : List (Kind × List ℕ)) (G : List Rule) (d : ListedTexts) → length (list_bytes name_bytes names) < 2 ^ 126 + 2 ^ 68 → length (list_bytes rule_bytes G) < 2 ^ 68
+    → length (list_bytes text_bytes d.different) < 2 ^ 127 + 2 ^ 68 → length (list_bytes number_bytes d.places) < 2 ^ 68 → length (listed_file_bytes names G d) < 2 ^ 128
+length-file names G d h k l m =
     let rules = list_bytes rule_bytes G in
-    omega (arith, length-append (list_bytes name_bytes names) (rules ++ list_bytes text_bytes texts), length-append rules (list_bytes text_bytes texts))
+    let texts = list_bytes text_bytes d.different in
+    let places = list_bytes number_bytes d.places in
+    omega (arith, length-append (list_bytes name_bytes names) (rules ++ (texts ++ places)), length-append rules (texts ++ places), length-append texts places)

@@ -1,5 +1,5 @@
 -- The parts of a file are told by its bytes.
-use Rattle.std.proofs.Common.{◌≡◌, ℕ, zero, suc, ◌+◌, ◌/◌, ◌%◌, ◌<◌, ◌≤◌, List, [], ◌∷◌, ◌++◌, length, refl, sym, ap, ◌∙◌, subst, arith, append_assoc, append-nil}
+use Rattle.std.proofs.Common.{◌≡◌, inl, inr, ℕ, zero, suc, ◌+◌, ◌/◌, ◌%◌, ◌<◌, ◌≤◌, List, [], ◌∷◌, ◌++◌, length, get_or, refl, sym, ap, ◌∙◌, subst, arith, append_assoc, append-nil}
 use Rattle.std.specs.Prelude.{Bool, true, false, nat_lt}
 use Rattle.std.specs.List.{flat_map}
 use Rattle.std.proofs.lemmas.Bool.Decides.{nat_tests}
@@ -12,7 +12,10 @@ use Rattle.slt_grammar.specs.Algebras.{ranks_of}
 use Rattle.slt_grammar.specs.Bodies.{arity}
 use Rattle.slt_grammar.specs.declared.rules.Rule.{Rule}
 use Rattle.grammar_file.specs.Numbers.{number_bytes}
-use Rattle.grammar_file.specs.FileBytes.{list_bytes, text_bytes, name_bytes, label_bytes, rule_bytes}
+use Rattle.grammar_file.specs.FileBytes.{mark, first_mark, list_bytes, text_bytes, name_bytes, label_bytes, rule_bytes, dictionary_bytes}
+use Rattle.text_list.specs.Dictionaries.{dictionary_of, first_texts, places_among}
+use Rattle.text_list.proofs.DictionaryLaws.{dictionary_told}
+use Rattle.slt_grammar.specs.Grammars.{IsGrammar}
 use Rattle.grammar_file.specs.Forming.{IsRule, AreFormed}
 use Rattle.grammar_file.specs.Laws.{EqualFilesHaveEqualParts}
 use Rattle.grammar_file.proofs.Formed.{grammar-formed}
@@ -51,7 +54,7 @@ number-told (suc most) a b xs ys false false s o less e =
 pub number-unique : (a b : ℕ) (xs ys : List ℕ) → number_bytes a ++ xs ≡ number_bytes b ++ ys → (a ≡ b) × (xs ≡ ys)
 number-unique a b xs ys e = number-told (suc a) a b xs ys (nat_lt a 128) (nat_lt b 128) refl refl (omega arith) e
 
-append-unique : (ps qs xs ys : List ℕ) → length ps ≡ length qs → ps ++ xs ≡ qs ++ ys → (ps ≡ qs) × (xs ≡ ys)
+pub append-unique : (ps qs xs ys : List ℕ) → length ps ≡ length qs → ps ++ xs ≡ qs ++ ys → (ps ≡ qs) × (xs ≡ ys)
 append-unique [] [] xs ys n e = (refl, e)
 append-unique [] (q ∷ qs) xs ys n e = absurd (omega arith)
 append-unique (p ∷ ps) [] xs ys n e = absurd (omega arith)
@@ -172,10 +175,37 @@ pub formed-unique : (G H : List Rule) (xs ys : List ℕ) → AreFormed [] G → 
 formed-unique G H xs ys g h e = let c = counted rule_bytes G H xs ys e in rules-unique [] G H xs ys g h c.0 c.1
 
 -- ---- the whole file
+-- the names and rules of two files, and what is behind them
+front-unique : (names others : List (Kind × List ℕ)) (G H : List Rule) (xs ys : List ℕ) → IsGrammar G → IsGrammar H
+    → list_bytes name_bytes names ++ (list_bytes rule_bytes G ++ xs) ≡ list_bytes name_bytes others ++ (list_bytes rule_bytes H ++ ys) → (names ≡ others) × (G ≡ H) × (xs ≡ ys)
+front-unique names others G H xs ys g h e =
+    let first = list-unique name_bytes name-unique names others _ _ e in
+    let second = formed-unique G H xs ys (grammar-formed G g) (grammar-formed H h) first.1 in
+    (first.0, second.0, second.1)
+
+whole-list : {A : Type 0} (f : A → List ℕ) → ((x y : A) (xs ys : List ℕ) → f x ++ xs ≡ f y ++ ys → (x ≡ y) × (xs ≡ ys)) → (ps qs : List A) → list_bytes f ps ≡ list_bytes f qs → ps ≡ qs
+whole-list f told ps qs e = (list-unique f told ps qs [] [] (append-nil (list_bytes f ps) ∙ e ∙ sym (append-nil (list_bytes f qs)))).0
+
+pub dictionary-unique : (texts values : List (List ℕ)) (xs ys : List ℕ) → dictionary_bytes (dictionary_of texts) ++ xs ≡ dictionary_bytes (dictionary_of values) ++ ys → (texts ≡ values) × (xs ≡ ys)
+dictionary-unique texts values xs ys e =
+    let F = first_texts texts in
+    let H = first_texts values in
+    let one = list-unique text_bytes text-unique F H (list_bytes number_bytes (places_among F texts) ++ xs) (list_bytes number_bytes (places_among H values) ++ ys)
+    (sym (append_assoc (list_bytes text_bytes F) (list_bytes number_bytes (places_among F texts)) xs) ∙ e ∙ append_assoc (list_bytes text_bytes H) (list_bytes number_bytes (places_among H values)) ys) in
+    let two = list-unique number_bytes number-unique (places_among F texts) (places_among H values) xs ys one.1 in
+    (dictionary_told texts values one.0 two.0, two.1)
+
+-- the two versions have different marks
+pub apart : (xs ys : List ℕ) → mark ++ xs ≡ first_mark ++ ys → ⊥
+apart xs ys e = let f : 50 ≡ 49 = ap (λ zs. get_or zs 3 0) e in omega (arith, f)
+
 pub equal-files : EqualFilesHaveEqualParts
-equal-files names others G H texts values g h e =
-    let rest : list_bytes name_bytes names ++ (list_bytes rule_bytes G ++ list_bytes text_bytes texts) ≡ list_bytes name_bytes others ++ (list_bytes rule_bytes H ++ list_bytes text_bytes values) = cc in
-    let first = list-unique name_bytes name-unique names others _ _ rest in
-    let second = formed-unique G H _ _ (grammar-formed G g) (grammar-formed H h) first.1 in
-    let third = list-unique text_bytes text-unique texts values [] [] (append-nil (list_bytes text_bytes texts) ∙ second.1 ∙ sym (append-nil (list_bytes text_bytes values))) in
-    (first.0, second.0, third.0)
+equal-files bytes names others G H texts values g h (inl a) (inl b) =
+    let e : mark ++ (list_bytes name_bytes names ++ (list_bytes rule_bytes G ++ dictionary_bytes (dictionary_of texts))) ≡ mark ++ (list_bytes name_bytes others ++ (list_bytes rule_bytes H ++ dictionary_bytes (dictionary_of values))) = sym a ∙ b in
+    let front = front-unique names others G H (dictionary_bytes (dictionary_of texts)) (dictionary_bytes (dictionary_of values)) g h (append-unique mark mark _ _ refl e).1 in
+    (front.0, front.1, (dictionary-unique texts values [] [] (append-nil (dictionary_bytes (dictionary_of texts)) ∙ front.2 ∙ sym (append-nil (dictionary_bytes (dictionary_of values))))).0)
+equal-files bytes names others G H texts values g h (inl a) (inr b) = absurd (apart _ _ (sym a ∙ b))
+equal-files bytes names others G H texts values g h (inr a) (inl b) = absurd (apart _ _ (sym b ∙ a))
+equal-files bytes names others G H texts values g h (inr a) (inr b) =
+    let front = front-unique names others G H (list_bytes text_bytes texts) (list_bytes text_bytes values) g h (append-unique first_mark first_mark _ _ refl (sym a ∙ b)).1 in
+    (front.0, front.1, whole-list text_bytes text-unique texts values front.2)

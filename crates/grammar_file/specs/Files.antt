@@ -7,7 +7,7 @@ use Rattle.plain_tree.specs.NameTable.{AreDistinct}
 use Rattle.slt_grammar.specs.Grammars.{IsGrammar, IsSwept}
 use Rattle.slt_grammar.specs.Names.{NodeLabel, Symbol}
 use Rattle.slt_grammar.specs.declared.rules.Rule.{Rule}
-use Rattle.grammar_file.specs.FileBytes.{file_bytes}
+use Rattle.grammar_file.specs.FileBytes.{AreBytesOf}
 
 -- distinct pairs, of which each name is lawful for its kind
 pub record AreNames (names : List (Kind × List ℕ)) : Type 0 where
@@ -29,8 +29,8 @@ pub record AreRules (names : ℕ) (G : List Rule) : Type 0 where
   pub swept : IsSwept G
   pub named : AreNamed names G
 
--- the bytes are the file of these parts
+-- the bytes are a file of these parts, of either version
 pub record IsFileOf (bytes : List ℕ) (names : List (Kind × List ℕ)) (G : List Rule) (texts : List (List ℕ)) : Type 0 where
   pub lawful : AreNames names
   pub grammar : AreRules (length names) G
-  pub whole : bytes ≡ file_bytes names G texts
+  pub whole : AreBytesOf bytes names G texts

@@ -4,12 +4,12 @@ use Rattle.plain_tree.specs.declared.kind.Kind.{Kind}
 use Rattle.slt_grammar.specs.Grammars.{IsGrammar}
 use Rattle.slt_grammar.specs.declared.rules.Rule.{Rule}
 use Rattle.grammar_file.specs.Numbers.{number_bytes, number_of, AreOneNumber}
-use Rattle.grammar_file.specs.FileBytes.{file_bytes}
+use Rattle.grammar_file.specs.FileBytes.{AreBytesOf}
 
--- grammars with equal files are equal, and so are their names and texts
+-- the file of a grammar, of either version, is that of one grammar alone, and of its names and texts
 abbrev pub EqualFilesHaveEqualParts : Type 0
-EqualFilesHaveEqualParts = (names others : List (Kind × List ℕ)) (G H : List Rule) (texts values : List (List ℕ)) → IsGrammar G → IsGrammar H
-    → file_bytes names G texts ≡ file_bytes others H values → (names ≡ others) × (G ≡ H) × (texts ≡ values)
+EqualFilesHaveEqualParts = (bytes : List ℕ) (names others : List (Kind × List ℕ)) (G H : List Rule) (texts values : List (List ℕ)) → IsGrammar G → IsGrammar H
+    → AreBytesOf bytes names G texts → AreBytesOf bytes others H values → (names ≡ others) × (G ≡ H) × (texts ≡ values)
 
 -- the bytes of a number are one number, and that one
 abbrev pub NumbersAreReadBack : Type 0

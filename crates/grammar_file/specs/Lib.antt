@@ -14,3 +14,4 @@ pub mod Unlike
 pub mod TextLists
 pub mod Listings
 pub mod TextWalks
+pub mod Versions

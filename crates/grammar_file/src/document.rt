@@ -13,7 +13,7 @@ use crate::parsing::{Parts, parse_file};
 use segment_counts::{CountError, Counts};
 use std::alloc::Global;
 
-/// The parts whose file the bytes are.
+/// The parts whose file the bytes are, in version 1 or 2.
 ///
 /// `Bad` comes exactly where the bytes are no file of parts that stand for a document, `TooMany` exactly where they are and the
 /// document has more than 2^63 - 1 nodes. Nothing is unfolded, and a count is believed only as far as there are bytes for what it

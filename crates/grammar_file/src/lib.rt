@@ -1,6 +1,6 @@
 //! Grammar files: the bytes in which the names, the rules and the texts of a document are kept.
 //!
-//! `write` gives them to a sink, in pieces. `read` (`document`) takes the parts from the bytes that are theirs, and decides whether they
+//! `write` gives them to a sink, in pieces, and `write_with` does so from a dictionary of the texts. `read` (`document`) takes the parts from the bytes that are theirs, and decides whether they
 //! stand for a document. `equal_files_have_equal_parts` says that a file belongs to one list of names, one list of rules and one list of
 //! texts alone, `numbers_are_read_back` that the numbers in it are LEB128.
 //!
@@ -32,4 +32,4 @@ pub use document::read;
 pub use error::FileError;
 pub use laws::{equal_files_have_equal_parts, numbers_are_read_back};
 pub use parsing::Parts;
-pub use writing::{WriteError, write};
+pub use writing::{WriteError, write, write_with};

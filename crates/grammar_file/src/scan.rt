@@ -1,8 +1,9 @@
 // A place in the bytes of a file.
 ghost use Rattle.std.specs.Prelude.{◌≡◌, ◌<◌, ◌≤◌, ◌^◌, ◌↔◌, [], ◌∷◌, IsTrue, length};
-ghost use Rattle.grammar_file.specs.FileBytes.{mark, text_bytes};
+ghost use Rattle.grammar_file.specs.FileBytes.{text_bytes};
 ghost use Rattle.grammar_file.specs.Numbers.{number_bytes};
 ghost use Rattle.grammar_file.specs.Reading.{Reads, ReadsAs};
+ghost use Rattle.grammar_file.specs.Versions.{mark_of};
 
 use crate::error::FileError;
 use std::marker::Model;
@@ -11,6 +12,13 @@ use std::marker::Model;
 #[derive(Drop)]
 pub(crate) struct Scan<'a> {
     left: &'a [u8],
+}
+
+/// The version of a file: with the texts as they come, or with each different one once.
+#[derive(Clone, Copy, Drop)]
+pub(crate) enum Version {
+    First,
+    Second,
 }
 
 impl<'a> Model for Scan<'a> {
@@ -41,17 +49,19 @@ impl<'a> Scan<'a> {
         self.left.len()
     }
 
-    /// The mark at the front of each file.
-    pub(crate) fn mark(&mut self) -> Result<(), FileError>
-        ensures { Reads (λ _. Unit {0}) (λ _. mark) self.old result self.new }
+    /// The mark at the front of each file, which tells its version.
+    pub(crate) fn mark(&mut self) -> Result<Version, FileError>
+        ensures { Reads (λ _. Unit {0}) mark_of self.old result self.new }
     {
-        match self.left.strip_prefix(b"TGF1") {
-            Some(rest) => {
-                self.left = rest;
-                Ok(())
-            }
-            None => Err(FileError::Bad),
+        if let Some(rest) = self.left.strip_prefix(b"TGF1") {
+            self.left = rest;
+            return Ok(Version::First);
         }
+        if let Some(rest) = self.left.strip_prefix(b"TGF2") {
+            self.left = rest;
+            return Ok(Version::Second);
+        }
+        Err(FileError::Bad)
     }
 
     pub(crate) fn byte(&mut self) -> Result<u8, FileError>

@@ -8,7 +8,7 @@ ghost use Rattle.slt_grammar.specs.Keyed.{rules_of};
 ghost use Rattle.grammar_file.specs.Numbers.{number_bytes};
 ghost use Rattle.grammar_file.specs.Buffers.{Puts};
 ghost use Rattle.grammar_file.specs.BufferOf.{seen, held_of};
-ghost use Rattle.grammar_file.specs.FileBytes.{file_bytes, list_bytes, text_bytes, name_bytes, label_bytes, rule_bytes};
+ghost use Rattle.grammar_file.specs.FileBytes.{file_bytes, listed_file_bytes, list_bytes, text_bytes, name_bytes, label_bytes, rule_bytes};
 
 use crate::buffer::Buffer;
 use plain_tree::{Kind, Names};
@@ -16,7 +16,7 @@ use read_steps::Steps;
 use slt_grammar::{Grammar, Label};
 use std::marker::Brand;
 use std::sync::ledger::{Blank, Ledger};
-use text_list::TextList;
+use text_list::{Dictionary, TextList};
 use thiserror::Error;
 use tree_outside::{Failed, Sink};
 
@@ -33,9 +33,10 @@ pub enum WriteError {
 
 /// Writes the file of a grammar, a table of names and a list of texts, and answers how many bytes it has.
 ///
-/// The symbols of the grammar are the places of their names. The file has the mark `TGF1`, the names, the rules and the
-/// texts, each list behind its count, and nothing more; its numbers are unsigned LEB128 of the least length. `Failed` comes
-/// only where the sink failed, which has then got a front of the file. No memory is taken, so `Memory` never comes.
+/// The symbols of the grammar are the places of their names. The file has the mark `TGF2`, the names, the rules, the different
+/// texts in the order of their first places, and for each text its place among these, each list behind its count, and nothing
+/// more; its numbers are unsigned LEB128 of the least length. `Failed` comes only where the sink failed, which has then got a
+/// front of the file. `Memory` comes before the first byte, and leaves the sink as it was.
 pub fn write<K: Sink>(
     grammar: &Grammar,
     names: &Names,
@@ -46,37 +47,60 @@ pub fn write<K: Sink>(
     ensures count { IfOk result (λ count. count ≡ length (file_bytes names.now (rules_of grammar.now.rules) texts.now.texts)) }
     ensures front { OnErr result (GetsFront (K.got sink.old) (K.got sink.new) (file_bytes names.now (rules_of grammar.now.rules) texts.now.texts)) }
     ensures kept { Keeps (K.kept sink.old) (K.kept sink.new) }
-    ensures lost { Loses (K.kept sink.old) (K.got sink.old) (K.got sink.new) result }
-    ensures cause { HasCause (K.faults sink.old) (K.faults sink.new) result }
-    ensures no_memory { result ≢ Err WriteError.Memory }
+    ensures lost { result ≢ Err WriteError.Memory → Loses (K.kept sink.old) (K.got sink.old) (K.got sink.new) result }
+    ensures cause { result ≢ Err WriteError.Memory → HasCause (K.faults sink.old) (K.faults sink.new) result }
+    ensures memory { result ≡ Err WriteError.Memory → sink.new ≡ sink.old }
 {
-    let mut out = Buffer::new(sink);
-    match write_file::<K, Brand>(grammar, names, texts, Blank::new(1), &mut out) {
-        Ok(()) => Ok(out.count()),
+    let Ok(dictionary) = texts.dictionary() else {
+        return Err(WriteError::Memory);
+    };
+    match write_with(grammar, names, &dictionary, sink) {
+        Ok(count) => Ok(count),
         Err(Failed) => Err(WriteError::Failed),
     }
+}
+
+/// Writes the file as `write` does, from the dictionary of the texts. It takes no memory, and is refused only where the sink failed,
+/// which has then got a front of the file.
+pub fn write_with<K: Sink>(
+    grammar: &Grammar,
+    names: &Names,
+    dictionary: &Dictionary<'_>,
+    sink: &mut K,
+) -> Result<u128, Failed>
+    ensures written { OnOk result (Gets (K.got sink.old) (K.got sink.new) (listed_file_bytes names.now (rules_of grammar.now.rules) dictionary.now)) }
+    ensures count { IfOk result (λ count. count ≡ length (listed_file_bytes names.now (rules_of grammar.now.rules) dictionary.now)) }
+    ensures front { OnErr result (GetsFront (K.got sink.old) (K.got sink.new) (listed_file_bytes names.now (rules_of grammar.now.rules) dictionary.now)) }
+    ensures kept { Keeps (K.kept sink.old) (K.kept sink.new) }
+    ensures lost { Loses (K.kept sink.old) (K.got sink.old) (K.got sink.new) result }
+    ensures cause { HasCause (K.faults sink.old) (K.faults sink.new) result }
+{
+    let mut out = Buffer::new(sink);
+    write_file::<K, Brand>(grammar, names, dictionary, Blank::new(1), &mut out)?;
+    Ok(out.count())
 }
 
 // Writes the file, with a counter of the ledger `L` for the reads of nodes.
 fn write_file<K: Sink, L: Ledger>(
     grammar: &Grammar,
     names: &Names,
-    texts: &TextList,
+    dictionary: &Dictionary<'_>,
     blank: Blank,
     out: &mut Buffer<'_, K>,
 ) -> Result<(), Failed>
     requires name { blank.name ≡ L.name }
     requires parts { blank.parts ≡ L.parts }
     requires some { 0 < blank.parts }
-    ensures puts { Puts (seen K.Sink out.old) (seen K.Sink out.new) result (file_bytes names.now (rules_of grammar.now.rules) texts.now.texts) }
+    ensures puts { Puts (seen K.Sink out.old) (seen K.Sink out.new) result (listed_file_bytes names.now (rules_of grammar.now.rules) dictionary.now) }
     ensures empty { OnOk result (held_of out.new ≡ []) }
-    ensures small { OnOk result (length (file_bytes names.now (rules_of grammar.now.rules) texts.now.texts) < 2 ^ 128) }
+    ensures small { OnOk result (length (listed_file_bytes names.now (rules_of grammar.now.rules) dictionary.now) < 2 ^ 128) }
 {
     let mut steps: Steps<L> = Steps::new(blank);
-    out.bytes(b"TGF1")?;
+    out.bytes(b"TGF2")?;
     write_names(names, out)?;
     write_rules(grammar, &mut steps, out)?;
-    write_texts(texts, out)?;
+    write_texts(dictionary, out)?;
+    write_places(dictionary, out)?;
     out.flush()
 }
 
@@ -173,15 +197,27 @@ fn write_place<K: Sink>(tag: u8, place: usize, out: &mut Buffer<'_, K>) -> Resul
     out.number(place as u64)
 }
 
-fn write_texts<K: Sink>(texts: &TextList, out: &mut Buffer<'_, K>) -> Result<(), Failed>
-    ensures puts { Puts (seen K.Sink out.old) (seen K.Sink out.new) result (list_bytes text_bytes texts.now.texts) }
-    ensures small { OnOk result (length (list_bytes text_bytes texts.now.texts) < 2 ^ 127 + 2 ^ 68) }
+fn write_texts<K: Sink>(texts: &Dictionary<'_>, out: &mut Buffer<'_, K>) -> Result<(), Failed>
+    ensures puts { Puts (seen K.Sink out.old) (seen K.Sink out.new) result (list_bytes text_bytes texts.now.different) }
+    ensures small { OnOk result (length (list_bytes text_bytes texts.now.different) < 2 ^ 127 + 2 ^ 68) }
 {
     out.number(texts.len())?;
     let mut place = 0;
     while let Some(text) = texts.get(place) {
         write_text(text, out)?;
         place += 1;
+    }
+    Ok(())
+}
+
+fn write_places<K: Sink>(dictionary: &Dictionary<'_>, out: &mut Buffer<'_, K>) -> Result<(), Failed>
+    ensures puts { Puts (seen K.Sink out.old) (seen K.Sink out.new) result (list_bytes number_bytes dictionary.now.places) }
+    ensures small { OnOk result (length (list_bytes number_bytes dictionary.now.places) < 2 ^ 68) }
+{
+    let count = dictionary.texts();
+    out.number(count)?;
+    for text in 0..count {
+        out.number(dictionary.place(text))?;
     }
     Ok(())
 }

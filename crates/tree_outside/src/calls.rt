@@ -50,6 +50,20 @@ impl Schedule {
         self.fails.contains(&number)
     }
 
+    /// How many calls were counted.
+    pub fn made(&self) -> u64
+        ensures { result ≡ self.now.made }
+    {
+        self.made
+    }
+
+    /// How many faults were counted.
+    pub fn faults(&self) -> u64
+        ensures { result ≡ self.now.faults }
+    {
+        self.faults
+    }
+
     /// Counts a fault.
     pub fn fail(&mut self) -> Failed
         ensures counted { self.new ≡ failed self.old }

@@ -42,6 +42,20 @@ impl MemorySource {
             calls: Schedule::new(fails),
         }
     }
+
+    /// How many reads were made, those that failed among them. The count ends at 2^64 - 1.
+    pub fn calls(&self) -> u64
+        ensures { result ≡ self.now.calls.made }
+    {
+        self.calls.made()
+    }
+
+    /// How often it has failed. The count ends at 2^64 - 1.
+    pub fn faults(&self) -> u64
+        ensures { result ≡ self.now.calls.faults }
+    {
+        self.calls.faults()
+    }
 }
 
 impl Source for MemorySource {
@@ -97,6 +111,20 @@ impl MemorySink {
         ensures { result.now ≡ self.now.got }
     {
         &self.bytes
+    }
+
+    /// How many writes were made, those that failed among them. The count ends at 2^64 - 1.
+    pub fn calls(&self) -> u64
+        ensures { result ≡ self.now.calls.made }
+    {
+        self.calls.made()
+    }
+
+    /// How often it has failed. The count ends at 2^64 - 1.
+    pub fn faults(&self) -> u64
+        ensures { result ≡ self.now.calls.faults }
+    {
+        self.calls.faults()
     }
 }
 

@@ -77,6 +77,20 @@ impl MemoryShelf {
     {
         file_of(&self.files, name)
     }
+
+    /// How many calls, all but `close`, were made, those that failed among them. The count ends at 2^64 - 1.
+    pub fn calls(&self) -> u64
+        ensures { result ≡ self.now.calls.made }
+    {
+        self.calls.made()
+    }
+
+    /// How often it has failed. The count ends at 2^64 - 1.
+    pub fn faults(&self) -> u64
+        ensures { result ≡ self.now.calls.faults }
+    {
+        self.calls.faults()
+    }
 }
 
 impl Shelf for MemoryShelf {

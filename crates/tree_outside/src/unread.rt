@@ -60,7 +60,7 @@ impl Unread {
 }
 
 /// Copies the first bytes to the buffer's front, at most so many, and answers how many.
-fn copy_front(from: &[u8], most: usize, buf: &mut [u8]) -> usize
+pub fn copy_front(from: &[u8], most: usize, buf: &mut [u8]) -> usize
     ensures fits { result ≤ length buf.new }
     ensures most { result ≤ most }
     ensures within { result ≤ length from.now }

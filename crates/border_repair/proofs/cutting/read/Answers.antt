@@ -1,0 +1,118 @@
+use Rattle.std.proofs.Common.{rules, refl, ◌≤◌, suc, drop, arith, ◌∷◌, [], List, reverse, ap, sym, subst, ◌∙◌}
+use Rattle.std.proofs.lemmas.List.{length-reverse}
+use Rattle.rule_arena.specs.declared.label.Label.{Label}
+use Rattle.slt_grammar.specs.Algebras.{ranks_of}
+use Rattle.slt_grammar.specs.Bodies.{arity, params, real_nodes}
+use Rattle.slt_grammar.specs.declared.rules.Rule.{Rule}
+use Rattle.border_repair.specs.Cutting.{IsReadOn}
+use Rattle.border_repair.specs.Digrams.{IsEnd}
+use Rattle.border_repair.specs.Sizes.{free}
+use Rattle.border_repair.specs.declared.cutting.Mark.{Mark}
+use Rattle.border_repair.proofs.SizeLemmas.{real-append, real-reverse, real-one, no-params, free-drop, free-drops, end-few}
+use Rattle.border_repair.proofs.ReadSteps.{read-inner, read-outer, read-parameter, can_close, kids_held, end-arity}
+use Rattle.border_repair.proofs.cutting.read.Goals as goal
+
+pub close_kids-requires-clause-kids : goal.close_kids-requires-clause-kids
+close_kids-requires-clause-kids c =
+    let o = c.args.cutter.now in
+    let end : IsEnd c.args.label = search rules in
+    can_close c.args.rules.now (reverse o.marks.items) (reverse o.parts.items) (reverse o.args.items) c.args.label c.requires.can (arity [] c.args.label) (end-arity (ranks_of c.args.rules.now) [] c.args.label end)
+
+pub returns-in-Param-clause-read : goal.returns-in-Param-clause-read
+returns-in-Param-clause-read c w =
+    let o = c.args.cutter.now in
+    let k = c.add_outer.new.cutter in
+    let e = c.in_ok-add_outer.ensures in
+    subst (λ (l : Label). IsReadOn c.args.rules.now c.args.rules.now (reverse k.marks.items) (reverse k.parts.items) (reverse k.args.items) (l ∷ w.labels)) (sym c.in-Param.is)
+    (read-parameter c.args.rules.now (reverse o.marks.items) (reverse o.parts.items) (reverse o.args.items) w.labels w.read e.marks.0 (reverse k.marks.items) (reverse k.parts.items) (reverse k.args.items)
+    e.marks.1 (e.marks.2 ∙ sym (length-reverse o.parts.items)) (e.marks.3 ∙ c.len-start.ensures ∙ o.args.ok.0 ∙ sym (length-reverse o.args.items)) e.parts (e.args ∙ ap (λ (l : Label). l ∷ reverse o.args.items) c.in-Param.is))
+
+pub returns-then-is_exposed-clause-read : goal.returns-then-is_exposed-clause-read
+returns-then-is_exposed-clause-read c w =
+    let o = c.args.cutter.now in
+    let j = c.close_kids.new.cutter in
+    let k = c.add_outer-then-is_exposed.new.cutter in
+    let e = c.in_ok-add_outer-2.ensures in
+    let end : IsEnd c.args.label = search rules in
+    let x = c.in_ok-start.ensures.closed (can_close c.args.rules.now (reverse o.marks.items) (reverse o.parts.items) (reverse o.args.items) c.args.label w (arity [] c.args.label) (end-arity (ranks_of c.args.rules.now) [] c.args.label end)) in
+    read-outer c.args.rules.now (reverse o.marks.items) (reverse o.parts.items) (reverse o.args.items) c.args.label w c.requires.below c.close_kids.new.rules (reverse j.marks.items) (reverse j.parts.items) (reverse j.args.items) c.in_ok-start.start x
+    e.marks.0 (reverse k.marks.items) (reverse k.parts.items) (reverse k.args.items) c.in_default.not-Param e.marks.1 (e.marks.2 ∙ sym (length-reverse j.parts.items)) e.marks.3 e.parts e.args
+
+pub returns-clause-read : goal.returns-clause-read
+returns-clause-read c w =
+    let o = c.args.cutter.now in
+    let k = c.add_inner.new.cutter in
+    let many = c.arity_of-kids.ensures ∙ ap (λ (G : List Rule). arity (ranks_of G) c.args.label) c.as_slice-2.ensures in
+    let held = kids_held c.args.rules.now (reverse o.marks.items) (reverse o.parts.items) (reverse o.args.items) c.args.label w c.arity_of-kids.result (sym many) in
+    read-inner c.args.rules.now (reverse o.marks.items) (reverse o.parts.items) (reverse o.args.items) c.args.label w c.requires.below (reverse k.marks.items) (reverse k.parts.items) (reverse k.args.items) c.in_default.not-Param
+    (c.in_ok-add_inner.ensures.held held)
+
+pub returns-in-Param-clause-small : goal.returns-in-Param-clause-small
+returns-in-Param-clause-small c =
+    let o = c.args.cutter.now in
+    let k = c.add_outer.new.cutter in
+    let e = c.in_ok-add_outer.ensures in
+    let parts = ap real_nodes e.parts in
+    let args = ap real_nodes e.args in
+    let marks = ap free e.marks.1 in
+    let top = ap (λ (l : Label). params (l ∷ [])) e.marks.4 in
+    let param = ap (λ (l : Label). params (l ∷ [])) c.in-Param.is in
+    record {
+      ruled = omega (arith, parts, real-reverse k.parts.items, real-reverse o.parts.items);
+      any = omega (arith, args, real-reverse k.args.items, real-reverse o.args.items, marks, top, param, real-one c.args.label, real-append (c.args.label ∷ []) (reverse o.args.items));
+      others = λ r. omega (arith, args, real-reverse k.args.items, real-reverse o.args.items, marks, top, param, real-one c.args.label, real-append (c.args.label ∷ []) (reverse o.args.items));
+    }
+
+pub returns-then-is_exposed-clause-small : goal.returns-then-is_exposed-clause-small
+returns-then-is_exposed-clause-small c =
+    let o = c.args.cutter.now in
+    let j = c.close_kids.new.cutter in
+    let k = c.add_outer-then-is_exposed.new.cutter in
+    let e = c.in_ok-add_outer-2.ensures in
+    let x = c.in_ok-start.ensures.off in
+    let end : IsEnd c.args.label = search rules in
+    let parts = ap real_nodes e.parts in
+    let args = ap real_nodes e.args in
+    let marks = ap free e.marks.1 in
+    let top = ap (λ (l : Label). params (l ∷ [])) e.marks.4 in
+    let none = no-params c.args.label c.in_default.not-Param in
+    let left = ap free x.left in
+    let R = reverse o.marks.items in
+    record {
+      ruled = omega (arith, parts, real-reverse k.parts.items, real-reverse j.parts.items, x.ruled);
+      any = omega (
+        arith,
+        args,
+        real-reverse k.args.items,
+        real-reverse j.args.items,
+        marks,
+        top,
+        none,
+        real-one c.args.label,
+        real-append (c.args.label ∷ []) (reverse j.args.items),
+        x.called,
+        left,
+        free-drop (arity [] c.args.label) R,
+        end-few c.args.label end,
+      );
+      others = λ r.
+          let u = c.if-is_exposed.ensures.upper refl r in
+          let p = subst (λ (ms : List Mark). suc (free (drop c.args.digram.place (reverse ms))) ≤ free (reverse ms)) c.as_slice.ensures.value (c.if-is_exposed.ensures.parameter refl r) in
+          let place = subst (λ (l : Label). c.args.digram.place ≤ arity [] l) (sym u) c.requires.place in
+          omega (
+            arith,
+            args,
+            real-reverse k.args.items,
+            real-reverse j.args.items,
+            marks,
+            top,
+            none,
+            real-one c.args.label,
+            real-append (c.args.label ∷ []) (reverse j.args.items),
+            x.called,
+            left,
+            free-drops c.args.digram.place (arity [] c.args.label) R place,
+            p,
+            end-few c.args.label end,
+          );
+    }

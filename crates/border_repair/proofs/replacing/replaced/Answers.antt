@@ -1,0 +1,60 @@
+use Rattle.std.proofs.Common.{◌≡◌, ◌+◌, arith, ◌-◌, List, [], ap, sym, subst, ◌∙◌}
+use Rattle.slt_grammar.specs.Algebras.{ranks_of}
+use Rattle.slt_grammar.specs.Grammars.{body_at, size, value}
+use Rattle.slt_grammar.specs.Keyed.{rules_of}
+use Rattle.slt_grammar.specs.KeyedEdits.{digram_body}
+use Rattle.slt_grammar.specs.declared.rules.Rule.{Rule}
+use Rattle.slt_grammar.specs.Bodies.{calls_in}
+use Rattle.slt_grammar.specs.Terms.{up}
+use Rattle.border_repair.specs.Digrams.{is, occurrences}
+use Rattle.border_repair.specs.ValueBut.{pairs_in, value_but}
+use Rattle.border_repair.specs.Weighing.{weight_algebra}
+use Rattle.border_repair.proofs.CallsLeft.{calls-and-left}
+use Rattle.border_repair.specs.Folding.{AreFolded}
+use Rattle.border_repair.proofs.KeptValues.{occurs-placed, pair-ranked, placed-below, pair-same, kept-value, kept-pair}
+use Rattle.border_repair.proofs.replacing.replaced.Goals as goal
+
+pub expose-requires-clause-place : goal.expose-requires-clause-place
+expose-requires-clause-place g = occurs-placed g.args.digram (rules_of g.args.grammar.now.rules) g.requires.there
+
+pub fold_all-requires-clause-place : goal.fold_all-requires-clause-place
+fold_all-requires-clause-place g = placed-below (ranks_of g.as_slice.result.now) g.args.digram g.requires.upper (occurs-placed g.args.digram (rules_of g.args.grammar.now.rules) g.requires.there)
+
+pub returns-in-Ok-clause-value : goal.returns-in-Ok-clause-value
+returns-in-Ok-clause-value g =
+    let d = g.args.digram in
+    let x = g.in_ok-exposed.ensures in
+    let H = g.in_ok-exposed.exposed in
+    let f = subst (λ (rs : List Rule). AreFolded d rs g.in_ok-folded.folded) g.as_slice.ensures g.in_ok-folded.ensures.folded in
+    ap value g.in-Ok.ensures.rules
+    ∙ kept-value d g.requires.upper g.requires.lower (rules_of g.args.grammar.now.rules) H g.in_ok-folded.folded g.rules-rules.ensures.grammar g.in-Ok.ensures.grammar
+    x.exposed.0 x.exposed.1 (pair-ranked H d g.requires.upper g.requires.lower x.rank) (x.body ∙ pair-same [] (ranks_of H) d g.requires.upper g.requires.lower) f
+
+pub returns-in-Ok-clause-rule : goal.returns-in-Ok-clause-rule
+returns-in-Ok-clause-rule g =
+    let d = g.args.digram in
+    let x = g.in_ok-exposed.ensures in
+    let H = g.in_ok-exposed.exposed in
+    let f = subst (λ (rs : List Rule). AreFolded d rs g.in_ok-folded.folded) g.as_slice.ensures g.in_ok-folded.ensures.folded in
+    subst (λ (rs : List Rule). body_at rs 0 ≡ digram_body (ranks_of rs) d.upper (d.place - 1) d.lower) (sym g.in-Ok.ensures.rules)
+    (kept-pair d g.requires.upper g.requires.lower (rules_of g.args.grammar.now.rules) H g.in_ok-folded.folded g.rules-rules.ensures.grammar g.in-Ok.ensures.grammar
+    x.exposed.0 x.exposed.1 (pair-ranked H d g.requires.upper g.requires.lower x.rank) (x.body ∙ pair-same [] (ranks_of H) d g.requires.upper g.requires.lower) f)
+
+pub returns-in-Ok-clause-size : goal.returns-in-Ok-clause-size
+returns-in-Ok-clause-size g = omega (arith, ap size g.in-Ok.ensures.rules, g.in_ok-folded.ensures.size, ap size g.as_slice.ensures, g.in_ok-exposed.ensures.size)
+
+pub returns-in-Ok-clause-counted : goal.returns-in-Ok-clause-counted
+returns-in-Ok-clause-counted g apart =
+    let d = g.args.digram in
+    let x = g.in_ok-exposed.ensures in
+    let G = rules_of g.args.grammar.now.rules in
+    let H = g.in_ok-exposed.exposed in
+    let K = g.in_ok-folded.folded in
+    let f = subst (λ (rs : List Rule). AreFolded d rs g.in_ok-folded.folded) g.as_slice.ensures g.in_ok-folded.ensures.folded in
+    let value_kept = kept-value d g.requires.upper g.requires.lower (rules_of g.args.grammar.now.rules) H K g.rules-rules.ensures.grammar g.in-Ok.ensures.grammar x.exposed.0 x.exposed.1
+    (pair-ranked H d g.requires.upper g.requires.lower x.rank) (x.body ∙ pair-same [] (ranks_of H) d g.requires.upper g.requires.lower) f in
+    let pair = kept-pair d g.requires.upper g.requires.lower (rules_of g.args.grammar.now.rules) H K g.rules-rules.ensures.grammar g.in-Ok.ensures.grammar x.exposed.0 x.exposed.1
+    (pair-ranked H d g.requires.upper g.requires.lower x.rank) (x.body ∙ pair-same [] (ranks_of H) d g.requires.upper g.requires.lower) f in
+    let law = calls-and-left d g.requires.upper g.requires.lower apart (occurs-placed d (rules_of g.args.grammar.now.rules) g.requires.there) K g.in-Ok.ensures.grammar pair in
+    subst (λ (rs : List Rule). calls_in 0 (value_but rs) + pairs_in d (ranks_of rs) (value_but rs) ≡ occurrences d (rules_of g.args.grammar.now.rules)) (sym g.in-Ok.ensures.rules)
+    (law ∙ ap (λ t. (up (weight_algebra (is d)) t []).weight) value_kept)

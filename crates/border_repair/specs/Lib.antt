@@ -1,0 +1,15 @@
+pub mod Weighing
+pub mod Using
+pub mod Digrams
+pub mod Rims
+pub mod Edge
+pub mod SameEdges
+pub mod Counted
+pub mod Splitting
+pub mod Expanding
+pub mod Cutting
+pub mod Folding
+pub mod Sizes
+pub mod Edges
+pub mod ValueBut
+pub mod Cuts

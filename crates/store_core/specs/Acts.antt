@@ -38,6 +38,8 @@ pub data Act : Type 0 where
   Check : (name : List ℕ) → Act
   -- the grammar is settled
   Repair : Act
+  -- the heaviest digram of the whole document becomes a rule, and the grammar is settled
+  RepairWide : Act
   -- the document becomes the one that is made with so many records
   Generate : (records : ℕ) → Act
 

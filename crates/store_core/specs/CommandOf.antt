@@ -1,5 +1,5 @@
 -- The act that a command of the program asks for.
-use Rattle.store_core.specs.Acts.{Act, Load, LoadGrammar, Save, SaveGrammar, Show, Query, Count, Rename, Insert, Append, Delete, Value, Attr, Copy, RenameAll, DeleteAll, Check, Repair, Generate}
+use Rattle.store_core.specs.Acts.{Act, Load, LoadGrammar, Save, SaveGrammar, Show, Query, Count, Rename, Insert, Append, Delete, Value, Attr, Copy, RenameAll, DeleteAll, Check, Repair, RepairWide, Generate}
 use Rattle.store_core.specs.declared.command.Command.{Command}
 use Rattle.store_core.specs.declared.command.Command.TheVariants as c
 
@@ -22,4 +22,5 @@ act_of (c.RenameAll name query) = RenameAll name.now query.now
 act_of (c.DeleteAll query) = DeleteAll query.now
 act_of (c.Check name) = Check name.now
 act_of c.Repair = Repair
+act_of c.RepairWide = RepairWide
 act_of (c.Generate records) = Generate records

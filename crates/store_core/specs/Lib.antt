@@ -13,6 +13,7 @@ pub mod Making
 pub mod Opening
 pub mod Printed
 pub mod Reads
+pub mod Repairing
 pub mod Refusals
 pub mod Saving
 pub mod Schemas

@@ -16,10 +16,11 @@ use Rattle.record_generator.specs.Records.{generated}
 use Rattle.grammar_file.specs.FileBytes.{file_bytes}
 use Rattle.content_models.specs.Models.{Model}
 use Rattle.content_models.specs.Wrong.{AreWrong}
-use Rattle.store_core.specs.Acts.{Act, Load, LoadGrammar, Save, SaveGrammar, Show, Query, Count, Rename, Insert, Append, Delete, Value, Attr, Copy, RenameAll, DeleteAll, Check, Repair, Generate}
+use Rattle.store_core.specs.Acts.{Act, Load, LoadGrammar, Save, SaveGrammar, Show, Query, Count, Rename, Insert, Append, Delete, Value, Attr, Copy, RenameAll, DeleteAll, Check, Repair, RepairWide, Generate}
 use Rattle.store_core.specs.BulkEditing.{EditsAll, KeepsNamesOfAll}
 use Rattle.store_core.specs.Editing.{Edits, KeepsNames}
 use Rattle.store_core.specs.GrammarFiles.{IsFileOfDocument}
+use Rattle.store_core.specs.Repairing.{IsGreatestWeight}
 use Rattle.store_core.specs.Schemas.{HoldsSchema, verdict}
 use Rattle.store_core.specs.Selecting.{Selects}
 use Rattle.store_core.specs.Worlds.{Parts, parts_in, unedited, with_rules, PartsStandFor, IsLawfulState, World, Same, HasFile}
@@ -159,6 +160,23 @@ pub record Repairs (rank : ℕ) (old : World) (out : List ℕ) (new : World) : T
   pub files : Stays old.files new.files
   pub printed : out ≡ answer_line (ok.Repaired (length rules) (size rules))
 
+-- The rules become ones that are settled for a rank, stand for the same document and have no more nodes; the greatest weight that a
+-- digram of at most that rank had is told. No edit was made since then. Nothing else changes.
+pub record RepairsWide (rank : ℕ) (old : World) (out : List ℕ) (new : World) : Type 0 where
+  pub parts : Parts
+  pub tree : Tree
+  pub rules : List Rule
+  pub weight : ℕ
+  pub held : parts_in old.state ≡ Some parts
+  pub stand : PartsStandFor parts tree
+  pub state : new.state ≡ Some (unedited (with_rules parts rules))
+  pub still : PartsStandFor (with_rules parts rules) tree
+  pub settled : IsSettled rules rank
+  pub smaller : size rules ≤ size parts.rules
+  pub heaviest : IsGreatestWeight rank parts.rules weight
+  pub files : Stays old.files new.files
+  pub printed : out ≡ answer_line (ok.RepairedWide weight (length rules) (size rules))
+
 -- the command is done, by these settings
 abbrev pub Does : Settings → Act → World → List ℕ → World → Type 0
 Does settings (Load name) old out new = Loads settings.rank name old out new
@@ -179,6 +197,7 @@ Does settings (RenameAll name query) old out new = EditsAll settings (RenameAll 
 Does settings (DeleteAll query) old out new = EditsAll settings (DeleteAll query) old out new
 Does settings (Check name) old out new = Checks name old out new
 Does settings Repair old out new = Repairs settings.rank old out new
+Does settings RepairWide old out new = RepairsWide settings.rank old out new
 Does settings (Generate records) old out new = Generates settings.rank records old out new
 
 -- the text is the lines of some first nodes that the query selects

@@ -18,6 +18,8 @@ answer_line (ok.Bytes n) = codes "ok bytes " ++ decimal n ++ codes "\n"
 answer_line (ok.Grammar rules size bytes) =
     codes "ok rules " ++ decimal rules ++ codes " size " ++ decimal size ++ codes " bytes " ++ decimal bytes ++ codes "\n"
 answer_line (ok.Repaired rules size) = codes "ok rules " ++ decimal rules ++ codes " size " ++ decimal size ++ codes "\n"
+answer_line (ok.RepairedWide weight rules size) =
+    codes "ok weight " ++ decimal weight ++ codes " rules " ++ decimal rules ++ codes " size " ++ decimal size ++ codes "\n"
 answer_line (ok.Selected n) = codes "ok selected " ++ decimal n ++ codes "\n"
 answer_line ok.Shown = codes "ok shown\n"
 answer_line ok.Valid = codes "ok valid\n"

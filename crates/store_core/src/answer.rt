@@ -36,6 +36,12 @@ pub enum Answer {
         rules: usize,
         size: u64,
     },
+    /// The heaviest digram has this weight; the grammar is settled, and has so many rules and nodes.
+    RepairedWide {
+        weight: u64,
+        rules: usize,
+        size: u64,
+    },
     /// The query selects so many nodes.
     Selected(u64),
     /// The node was printed before the line.
@@ -192,6 +198,13 @@ pub(crate) fn write_line<K: Sink>(
         Ok(Answer::Bytes(count)) => write_count(b"ok bytes ", count, sink),
         Ok(Answer::Grammar { rules, size, bytes }) => write_grammar(rules, size, bytes, sink),
         Ok(Answer::Repaired { rules, size }) => write_repaired(rules, size, sink),
+        Ok(
+            Answer::RepairedWide {
+                weight,
+                rules,
+                size,
+            },
+        ) => write_repaired_wide(weight, rules, size, sink),
         Ok(Answer::Selected(count)) => write_count(b"ok selected ", count, sink),
         Ok(Answer::Shown) => sink.write(b"ok shown\n"),
         Ok(Answer::Valid) => sink.write(b"ok valid\n"),
@@ -276,6 +289,27 @@ fn write_repaired<K: Sink>(rules: usize, size: u64, sink: &mut K) -> Result<(), 
 {
     let mut line: AnswerLine = ArrayVec::new();
     add(&mut line, b"ok rules ");
+    add_number(&mut line, rules);
+    add(&mut line, b" size ");
+    add_number(&mut line, size);
+    add(&mut line, b"\n");
+    sink.write(line.as_slice())
+}
+
+fn write_repaired_wide<K: Sink>(
+    weight: u64,
+    rules: usize,
+    size: u64,
+    sink: &mut K,
+) -> Result<(), Failed>
+    ensures content { Writes (K.got sink.old) (K.got sink.new) result (answer_line (Answer.RepairedWide weight rules size)) }
+    ensures kept { Keeps (K.kept sink.old) (K.kept sink.new) }
+    ensures cause { HasCause (K.faults sink.old) (K.faults sink.new) result }
+{
+    let mut line: AnswerLine = ArrayVec::new();
+    add(&mut line, b"ok weight ");
+    add_number(&mut line, weight);
+    add(&mut line, b" rules ");
     add_number(&mut line, rules);
     add(&mut line, b" size ");
     add_number(&mut line, size);

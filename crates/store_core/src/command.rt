@@ -81,6 +81,8 @@ pub enum Command<'a> {
     },
     /// The grammar is settled.
     Repair,
+    /// The heaviest digram of the whole document becomes a rule, also where calls and parameters hide it, and the grammar is settled.
+    RepairWide,
     /// The document becomes the one that `record_generator` makes with so many records, 1 to 200,000.
     Generate {
         records: u64,

@@ -10,9 +10,12 @@ ghost use Rattle.store_core.specs.Stopping.{StopsReading};
 ghost use Rattle.store_core.specs.Worlds.{State, HasFile, IsIdle, told_files, world};
 
 use crate::answer::Refusal;
-use crate::reading::{FILE_LIMIT, PIECE};
+use crate::reading::FILE_LIMIT;
 use std::alloc::Global;
 use tree_outside::{Failed, Shelf};
+
+// How many bytes of a file are read at once.
+const PIECE: usize = 1 << 14;
 
 /// The bytes of the file with this name.
 pub(crate) fn read_file<F: Shelf>(
@@ -58,8 +61,7 @@ fn read_bytes<F: Shelf>(alloc: Global, shelf: &mut F) -> Result<Vec<u8>, Refusal
     ensures left { IfOk result (λ bytes. HasLeft (F.told shelf.old) bytes.items) }
     ensures refused { IfErr result (λ refusal. StopsReading refusal (F.told shelf.old) (F.faults shelf.old) (F.faults shelf.new)) }
 {
-    let mut piece = Vec::new(alloc);
-    piece.resize(PIECE, 0)?;
+    let mut piece = [0u8; PIECE];
     let mut bytes = Vec::new(alloc);
     while bytes.len() < FILE_LIMIT {
         let count = match shelf.read(&mut piece) {

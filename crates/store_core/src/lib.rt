@@ -2,15 +2,16 @@
 //!
 //! `Session::command` is one step of the plain tree machine (specs/Machine): what the command prints, what it leaves of the
 //! session and of the shelf's files. The document is held as a `Store`. Commands are in `loading`, `generating`, `saving`,
-//! `showing`, `repairing`, `selecting`, `checking`, `editing` and `bulk_editing`; files are read whole in `file_reading`, the walk over a
+//! `showing`, `repairing`, `repairing_wide`, `selecting`, `checking`, `editing` and `bulk_editing`; files are read whole in `file_reading`, the walk over a
 //! node is in `walking`, and what it writes in `writing`;
-//! `answer` has the lines that commands print.
+//! `doing` is what a session does for each; `answer` has the lines that commands print.
 #![tactic(auto)]
 
 mod answer;
 mod bulk_editing;
 mod checking;
 mod command;
+mod doing;
 mod editing;
 mod file_reading;
 mod generating;
@@ -20,6 +21,7 @@ mod loaded;
 mod loading;
 mod reading;
 mod repairing;
+mod repairing_wide;
 mod saving;
 mod selecting;
 mod session;

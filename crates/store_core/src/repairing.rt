@@ -3,16 +3,16 @@ ghost use Rattle.std.specs.Prelude.{◌≡◌, ◌≤◌, ◌<◌, ◌+◌, ◌-
 ghost use Rattle.tree_outside.specs.Files.{Told};
 ghost use Rattle.plain_tree.specs.Tree.{Tree};
 ghost use Rattle.slt_grammar.specs.Digrams.{IsSettled};
-ghost use Rattle.slt_grammar.specs.Grammars.{IsGrammar, size};
+ghost use Rattle.slt_grammar.specs.Grammars.{IsGrammar, IsSwept, size, value};
 ghost use Rattle.slt_grammar.specs.Keyed.{rules_of};
 ghost use Rattle.slt_grammar.specs.Ranks.{greatest_rank};
 ghost use Rattle.digram_index.specs.Linked.{IsIndexOf};
-ghost use Rattle.local_repair.specs.Settling.{IsNoLarger};
 ghost use Rattle.tree_updates.specs.Stores.{HasMarks, IsStoreFor};
 ghost use Rattle.store_core.specs.Machine.{Repairs};
+ghost use Rattle.store_core.specs.Repairing.{SettlesTo};
 ghost use Rattle.store_core.specs.StoreOf.{IsCounted, held_of, parts_of};
 ghost use Rattle.store_core.specs.Texts.{answer_line};
-ghost use Rattle.store_core.specs.Worlds.{AreLawfulParts, world};
+ghost use Rattle.store_core.specs.Worlds.{AreLawfulParts, unedited, with_rules, world};
 
 use crate::answer::Answer;
 use crate::loaded::Loaded;
@@ -40,17 +40,38 @@ pub(crate) fn repair_document(
     ensures refused { OnErr result (held_of loaded.new ≡ held_of loaded.old) }
 {
     // A copy is settled, so that want of memory halfway changes nothing.
-    let Settled { grammar, index } = settled_copy(alloc, &loaded.store.grammar, rank)?;
-    let store = &mut loaded.store;
+    let settled = settled_copy(alloc, &loaded.store.grammar, rank)?;
+    let (rules, size) = hold(loaded, settled)?;
+    Ok(Answer::Repaired { rules, size })
+}
+
+// Puts a grammar in the place of the one that is held, and answers how many rules and nodes it has. It is refused only for want of memory, and
+// what is held then stays.
+pub(crate) fn hold(loaded: &mut Loaded, settled: Settled) -> Result<(usize, u64), AllocError>
+    requires held { AreLawfulParts (parts_of loaded.old.store) }
+    requires counted { IsCounted loaded.old.store }
+    requires few { loaded.old.edits < 2 ^ 64 }
+    requires same { value (rules_of settled.grammar.rules) ≡ value (rules_of loaded.old.store.grammar.rules) }
+    requires swept { IsSwept (rules_of settled.grammar.rules) }
+    requires index { IsIndexOf settled.grammar settled.index }
+    ensures held { AreLawfulParts (parts_of loaded.new.store) }
+    ensures counted { IsCounted loaded.new.store }
+    ensures few { loaded.new.edits < 2 ^ 64 }
+    ensures replaced { OnOk result (held_of loaded.new ≡ unedited (with_rules (parts_of loaded.old.store) (rules_of settled.grammar.rules))) }
+    ensures told { IfOk result (λ told. (told.0 ≡ length (rules_of settled.grammar.rules)) × (told.1 ≡ size (rules_of settled.grammar.rules))) }
+    ensures refused { OnErr result (held_of loaded.new ≡ held_of loaded.old) }
+{
+    let Settled { grammar, index } = settled;
     let rules = grammar.rules();
+    let size = grammar.size();
+    let store = &mut loaded.store;
     store.counts.reserve(rules)?;
     store.counts.update(&grammar, &store.names);
-    let size = grammar.size();
     store.grammar = grammar;
     store.index = index;
     store.marks.clear();
     loaded.edits = 0;
-    Ok(Answer::Repaired { rules, size })
+    Ok((rules, size))
 }
 
 /// Settles the grammar of a store where it stands, for this rank, at most 8. Where there is no memory for that, the store is one for the same
@@ -85,24 +106,33 @@ fn most_rules(grammar: &Grammar) -> usize
 
 // A settled grammar with its index.
 #[derive(Drop)]
-struct Settled {
-    grammar: Grammar,
-    index: Index,
+pub(crate) struct Settled {
+    pub(crate) grammar: Grammar,
+    pub(crate) index: Index,
 }
 
 // A copy of the grammar, settled for this rank.
 fn settled_copy(alloc: Global, grammar: &Grammar, rank: usize) -> Result<Settled, AllocError>
     requires { rank ≤ 8 }
-    ensures settled { IfOk result (λ s. IsSettled (rules_of s.grammar.rules) rank) }
-    ensures kept { IfOk result (λ s. IsNoLarger (rules_of grammar.now.rules) (rules_of s.grammar.rules)) }
+    ensures settles { IfOk result (λ s. SettlesTo rank (rules_of grammar.now.rules) (rules_of s.grammar.rules)) }
     ensures ranks { IfOk result (λ s. greatest_rank (rules_of s.grammar.rules) ≤ max rank (greatest_rank (rules_of grammar.now.rules))) }
     ensures index { IfOk result (λ s. IsIndexOf s.grammar s.index) }
 {
-    let mut copy = grammar.copy()?;
-    let mut index = build(alloc, &copy)?;
-    settle_touched(alloc, &mut copy, &mut index, rank)?;
-    Ok(Settled {
-        grammar: copy,
-        index,
-    })
+    settle_whole(alloc, grammar.copy()?, rank)
+}
+
+// A grammar, settled for this rank.
+pub(crate) fn settle_whole(
+    alloc: Global,
+    mut grammar: Grammar,
+    rank: usize,
+) -> Result<Settled, AllocError>
+    requires { rank ≤ 8 }
+    ensures settles { IfOk result (λ s. SettlesTo rank (rules_of grammar.rules) (rules_of s.grammar.rules)) }
+    ensures ranks { IfOk result (λ s. greatest_rank (rules_of s.grammar.rules) ≤ max rank (greatest_rank (rules_of grammar.rules))) }
+    ensures index { IfOk result (λ s. IsIndexOf s.grammar s.index) }
+{
+    let mut index = build(alloc, &grammar)?;
+    settle_touched(alloc, &mut grammar, &mut index, rank)?;
+    Ok(Settled { grammar, index })
 }

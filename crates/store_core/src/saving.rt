@@ -3,7 +3,7 @@ ghost use Rattle.std.specs.Prelude.{◌≡◌, ◌≤◌, Some, None, Err, IfOk,
 ghost use Rattle.tree_outside.specs.Outside.{Gets, Rose, Stays};
 ghost use Rattle.tree_outside.specs.Shelf.{beside_of, pending_bytes};
 ghost use Rattle.slt_grammar.specs.Keyed.{rules_of};
-ghost use Rattle.grammar_file.specs.FileBytes.{file_bytes};
+ghost use Rattle.grammar_file.specs.FileBytes.{listed_file_bytes};
 ghost use Rattle.store_core.specs.Acts as act;
 ghost use Rattle.plain_tree.specs.Tree.{Tree};
 ghost use Rattle.xml_nodes.specs.Saved.{saved_bytes};
@@ -17,10 +17,10 @@ ghost use Rattle.store_core.specs.Texts.{answer_line};
 use crate::answer::{Answer, Refusal};
 use crate::walking::NodeWalk;
 use crate::writing::{write_node, written};
-use grammar_file::WriteError;
 use read_steps::Steps;
 use std::alloc::{AllocError, Global};
 use std::sync::ledger::Ledger;
+use text_list::Dictionary;
 use tree_outside::{Failed, Pending, Shelf};
 use tree_updates::Store;
 
@@ -108,9 +108,11 @@ pub(crate) fn save_grammar<F: Shelf>(
         → Cause refusal (act.SaveGrammar name.now) (world state (F.told shelf.old) (F.faults shelf.old)) (world state (F.told shelf.new) (F.faults shelf.new))) }
     ensures files { OnErr result (Stays (told_files (F.told shelf.old)) (told_files (F.told shelf.new))) }
     ensures idle { IsIdle (F.told shelf.old) → IsIdle (F.told shelf.new) }
+    ensures memory { result ≡ Err Refusal.Memory → F.told shelf.new ≡ F.told shelf.old }
 {
+    let dictionary = store.texts.dictionary()?;
     written(shelf.create(name))?;
-    let bytes = write_grammar(store, shelf)?;
+    let bytes = write_grammar(store, &dictionary, shelf)?;
     written(shelf.seal())?;
     Ok(Answer::Grammar {
         rules: store.grammar.rules(),
@@ -119,20 +121,22 @@ pub(crate) fn save_grammar<F: Shelf>(
     })
 }
 
-// Adds the grammar file to the pending file, and answers how many bytes it has.
-fn write_grammar<F: Shelf>(store: &Store, shelf: &mut F) -> Result<u128, Refusal>
-    ensures written { OnOk result (Gets (pending_bytes (F.told shelf.old)) (pending_bytes (F.told shelf.new)) (file_bytes store.now.names (rules_of store.now.grammar.rules) store.now.texts.texts)) }
-    ensures count { IfOk result (λ count. count ≡ length (file_bytes store.now.names (rules_of store.now.grammar.rules) store.now.texts.texts)) }
+// Adds the grammar file, whose texts the dictionary has, to the pending file, and answers how many bytes it has.
+fn write_grammar<F: Shelf>(
+    store: &Store,
+    dictionary: &Dictionary<'_>,
+    shelf: &mut F,
+) -> Result<u128, Refusal>
+    ensures written { OnOk result (Gets (pending_bytes (F.told shelf.old)) (pending_bytes (F.told shelf.new)) (listed_file_bytes store.now.names (rules_of store.now.grammar.rules) dictionary.now)) }
+    ensures count { IfOk result (λ count. count ≡ length (listed_file_bytes store.now.names (rules_of store.now.grammar.rules) dictionary.now)) }
     ensures beside { Stays (beside_of (F.told shelf.old)) (beside_of (F.told shelf.new)) }
     ensures lost { OnErr result (IfSome (pending_bytes (F.told shelf.old)) (λ _. pending_bytes (F.told shelf.new) ≡ None)) }
     ensures later { F.faults shelf.old ≤ F.faults shelf.new }
     ensures refused { IfErr result (λ refusal. (refusal ≡ Refusal.WriteFault) × Rose (F.faults shelf.old) (F.faults shelf.new)) }
 {
     let mut pending = Pending::new(shelf);
-    match grammar_file::write(&store.grammar, &store.names, &store.texts, &mut pending) {
+    match grammar_file::write_with(&store.grammar, &store.names, dictionary, &mut pending) {
         Ok(bytes) => Ok(bytes),
-        Err(WriteError::Failed) => Err(Refusal::WriteFault),
-        // The writing takes no memory.
-        Err(WriteError::Memory) => unreachable!(),
+        Err(Failed) => Err(Refusal::WriteFault),
     }
 }

@@ -4,15 +4,15 @@ use Rattle.std.proofs.Common.{sym, ap, ◌∙◌, subst, arith}
 use Rattle.std.specs.List.{ends_with}
 use Rattle.std.proofs.lemmas.Fmt.{decimal_injective}
 use Rattle.std.proofs.lemmas.List.{length-take}
-use Rattle.store_core.specs.Acts.{Act, Load, LoadGrammar, Save, SaveGrammar, Show, Query, Count, Rename, Insert, Append, Delete, Value, Attr, Copy, RenameAll, DeleteAll, Check, Repair, Generate}
+use Rattle.store_core.specs.Acts.{Act, Load, LoadGrammar, Save, SaveGrammar, Show, Query, Count, Rename, Insert, Append, Delete, Value, Attr, Copy, RenameAll, DeleteAll, Check, Repair, RepairWide, Generate}
 use Rattle.store_shell.specs.Forms.{Form, Empty, Long, Bad, Quit, Command, IsForm, Asks, Gives, without_return}
 use Rattle.store_shell.specs.Lines.{longest}
 use Rattle.store_shell.specs.Arguments.{IsNamed}
-use Rattle.store_shell.specs.Verbs.{verb_of}
+use Rattle.store_shell.specs.Verbs.{lone_word, verb_of}
 use Rattle.store_shell.specs.declared.verb.Verb.{Verb}
 use Rattle.store_shell.proofs.Arguments.{named-one, numbered-one}
 use Rattle.store_shell.proofs.Verbs.{place, place_of, place-low, place-told, verb-one}
-use Rattle.store_shell.proofs.Words.{AsksBy, repair-unspaced}
+use Rattle.store_shell.proofs.Words.{AsksBy, lone-unspaced}
 
 short_by : (b : Bool) (line words : List ℕ) → (if b then take (length line - 1) line else line) ≡ words → length words < longest → length line ≤ longest
 short_by true line words e lt = omega (arith, ap length e, length-take {A = ℕ})
@@ -74,40 +74,51 @@ gives-one given (Check x) b e h k = absurd cc
 gives-one given (Generate m) (Generate n) e h k = ap Generate (decimal_injective m n (omega (arith, h.1)) (omega (arith, k.1)) (sym h.2 ∙ k.2))
 gives-one given (Generate m) b e h k = absurd cc
 gives-one given Repair b e h k = absurd h
+gives-one given RepairWide b e h k = absurd h
 
-repairs-one : (a b : Act) → verb_of a ≡ None → verb_of b ≡ None → a ≡ b
-repairs-one Repair Repair e d = refl
-repairs-one Repair b e d = absurd cc
-repairs-one a b e d = absurd cc
+lone-one : (a b : Act) → verb_of a ≡ None → verb_of b ≡ None → lone_word a ≡ lone_word b → a ≡ b
+lone-one Repair Repair e d same = refl
+lone-one RepairWide RepairWide e d same = refl
+lone-one Repair RepairWide e d same = absurd cc
+lone-one RepairWide Repair e d same = absurd cc
+lone-one Repair b e d same = absurd cc
+lone-one RepairWide b e d same = absurd cc
+lone-one a b e d same = absurd cc
 
 -- words ask for one command
 asks-one : (words : List ℕ) (a b : Act) → Asks words a → Asks words b → a ≡ b
 asks-one words a b h k = by (verb_of a) (verb_of b) refl refl h k
   where
-    by : (v w : Option Verb) → verb_of a ≡ v → verb_of b ≡ w → AsksBy words (λ given. Gives given a) v → AsksBy words (λ given. Gives given b) w → a ≡ b
-    by None None e d h k = repairs-one a b e d
-    by None (Some w) e d h (rest, is, gives) = absurd (repair-unspaced w words rest is h)
-    by (Some v) None e d (rest, is, gives) k = absurd (repair-unspaced v words rest is k)
+    by : (v w : Option Verb) → verb_of a ≡ v → verb_of b ≡ w → AsksBy words (lone_word a) (λ given. Gives given a) v → AsksBy words (lone_word b) (λ given. Gives given b) w → a ≡ b
+    by None None e d h k = lone-one a b e d (sym h ∙ k)
+    by None (Some w) e d h (rest, is, gives) = absurd (lone-unspaced a w words rest is h)
+    by (Some v) None e d (rest, is, gives) k = absurd (lone-unspaced b v words rest is k)
     by (Some v) (Some w) e d (xs, is, gives) (ys, is2, gives2) =
         let same = verb-one v w words xs ys is is2 in
         gives-one xs a b (e ∙ (ap (λ z. Some z) same.0 ∙ sym d)) gives (subst (λ z. Gives z b) (sym same.1) gives2)
 
--- words whose first is no verb and not `repair` ask for nothing
-asks_none : (words : List ℕ) (a : Act) → Asks words a → (words ≡ codes "repair" → ⊥) → place_of words ≡ 18 → ⊥
-asks_none words a h other e = by (verb_of a) h
+-- a command's word is something, and not `quit`
+lone-worded : (a : Act) → verb_of a ≡ None → (lone_word a ≡ [] → ⊥) × (lone_word a ≡ codes "quit" → ⊥)
+lone-worded Repair none = (λ e. absurd cc, λ e. absurd cc)
+lone-worded RepairWide none = (λ e. absurd cc, λ e. absurd cc)
+lone-worded a none = absurd cc
+
+-- words whose first is no verb, and that are no word of a command without arguments, ask for nothing
+asks_none : (words : List ℕ) (a : Act) → Asks words a → (verb_of a ≡ None → words ≡ lone_word a → ⊥) → place_of words ≡ 18 → ⊥
+asks_none words a h other e = by (verb_of a) refl h
   where
-    by : (v : Option Verb) → AsksBy words (λ given. Gives given a) v → ⊥
-    by None h = other h
-    by (Some v) (rest, is, gives) =
+    by : (v : Option Verb) → verb_of a ≡ v → AsksBy words (lone_word a) (λ given. Gives given a) v → ⊥
+    by None none h = other none h
+    by (Some v) some (rest, is, gives) =
         let at : place v ≡ 18 = sym (place-told v words rest is) ∙ e in
         let wrong : false ≡ true = ap (λ p. nat_lt p 18) (sym at) ∙ place-low v in
         absurd (cc)
 
 asks_some : (words : List ℕ) (a : Act) → Asks words a → words ≡ [] → ⊥
-asks_some words a h e = asks_none words a h (λ r. let f : codes "repair" ≡ [] = sym r ∙ e in absurd (cc)) (ap place_of e)
+asks_some words a h e = asks_none words a h (λ none is. (lone-worded a none).0 (sym is ∙ e)) (ap place_of e)
 
 asks_no_quit : (words : List ℕ) (a : Act) → Asks words a → words ≡ codes "quit" → ⊥
-asks_no_quit words a h e = asks_none words a h (λ r. let f : codes "repair" ≡ codes "quit" = sym r ∙ e in absurd (cc)) (ap place_of e)
+asks_no_quit words a h e = asks_none words a h (λ none is. (lone-worded a none).1 (sym is ∙ e)) (ap place_of e)
 
 quit_some : (words : List ℕ) → words ≡ codes "quit" → words ≡ [] → ⊥
 quit_some words h e = let f : codes "quit" ≡ [] = sym h ∙ e in absurd (cc)

@@ -5,11 +5,11 @@ use Rattle.std.specs.List.{position}
 use Rattle.std.proofs.lemmas.Bool.Decides.{nat_tests}
 use Rattle.std.proofs.lemmas.List.{take_at}
 use Rattle.std.proofs.lemmas.Option.{same_Some}
-use Rattle.store_core.specs.Acts.{Act, AsksFewRecords, Generate}
+use Rattle.store_core.specs.Acts.{Act, AsksFewRecords, Repair, RepairWide, Generate}
 use Rattle.store_core.specs.CommandOf.{act_of}
 use Rattle.store_core.specs.declared.command.Command.{Command}
 use Rattle.store_shell.specs.Forms.{Asks, Gives}
-use Rattle.store_shell.specs.Verbs.{verb_of, verb_word, is_blank}
+use Rattle.store_shell.specs.Verbs.{lone_word, verb_of, verb_word, is_blank}
 use Rattle.store_shell.specs.declared.verb.Verb.{Verb}
 use Rattle.store_shell.specs.declared.verb.Verb.TheVariants as verb
 use Rattle.store_shell.proofs.Arguments.{from_behind, spaced}
@@ -52,29 +52,37 @@ pub words_at : (v : Verb) (words : List ℕ) (at : ℕ) → position is_blank wo
 words_at v words at found is = spaced words at found ∙ ap (λ z. z ++ 32 ∷ from_behind words at) is
 
 -- what words ask for by a verb, or by none
-abbrev pub AsksBy : List ℕ → (List ℕ → Type 0) → Option Verb → Type 0
-AsksBy words P verb = MatchOption verb (words ≡ codes "repair") (λ v. (arguments : List ℕ) × (words ≡ verb_word v ++ 32 ∷ arguments) × P arguments)
+abbrev pub AsksBy : List ℕ → List ℕ → (List ℕ → Type 0) → Option Verb → Type 0
+AsksBy words lone P verb = MatchOption verb (words ≡ lone) (λ v. (arguments : List ℕ) × (words ≡ verb_word v ++ 32 ∷ arguments) × P arguments)
 
-none-by : (words : List ℕ) (at : ℕ) (P : List ℕ → Type 0) (verb : Option Verb) → position is_blank words ≡ Some at → ((v : Verb) → take at words ≡ verb_word v → ⊥) → AsksBy words P verb → ⊥
-none-by words at P None e none h = let unspaced : None ≡ Some at = sym (ap (position is_blank) h) ∙ e in cc
-none-by words at P (Some v) e none (arguments, is, p) = none v (word_at v arguments words at e is)
+-- a word alone has no space
+lone-at : (a : Act) → position is_blank (lone_word a) ≡ None
+lone-at Repair = refl
+lone-at RepairWide = refl
+lone-at a = refl
+
+none-by : (words : List ℕ) (at : ℕ) (a : Act) (P : List ℕ → Type 0) (verb : Option Verb) → position is_blank words ≡ Some at → ((v : Verb) → take at words ≡ verb_word v → ⊥) → AsksBy words (lone_word a) P verb → ⊥
+none-by words at a P None e none h = let unspaced : None ≡ Some at = sym (lone-at a) ∙ (sym (ap (position is_blank) h) ∙ e) in cc
+none-by words at a P (Some v) e none (arguments, is, p) = none v (word_at v arguments words at e is)
 
 -- a command's word is one of the verbs
 pub no_verb : (words : List ℕ) (at : ℕ) (act : Act) → position is_blank words ≡ Some at → ((v : Verb) → take at words ≡ verb_word v → ⊥) → Asks words act → ⊥
-no_verb words at act e none h = none-by words at (λ arguments. Gives arguments act) (verb_of act) e none h
+no_verb words at act e none h = none-by words at act (λ arguments. Gives arguments act) (verb_of act) e none h
 
-pub repair-unspaced : (v : Verb) (words rest : List ℕ) → words ≡ verb_word v ++ 32 ∷ rest → words ≡ codes "repair" → ⊥
-repair-unspaced v words rest e h = let unspaced : None ≡ Some (length (verb_word v)) = sym (ap (position is_blank) h) ∙ (ap (position is_blank) e ∙ verb_at v rest) in cc
+pub lone-unspaced : (a : Act) (v : Verb) (words rest : List ℕ) → words ≡ verb_word v ++ 32 ∷ rest → words ≡ lone_word a → ⊥
+lone-unspaced a v words rest e h =
+    let unspaced : None ≡ Some (length (verb_word v)) = sym (lone-at a) ∙ (sym (ap (position is_blank) h) ∙ (ap (position is_blank) e ∙ verb_at v rest)) in
+    cc
 
-none-given : (v : Verb) (words arguments : List ℕ) (act : Act) (verb : Option Verb) → words ≡ verb_word v ++ 32 ∷ arguments → (verb ≡ Some v → Gives arguments act → ⊥) → AsksBy words (λ given. Gives given act) verb → ⊥
-none-given v words arguments act None is none h = repair-unspaced v words arguments is h
+none-given : (v : Verb) (words arguments : List ℕ) (act : Act) (verb : Option Verb) → words ≡ verb_word v ++ 32 ∷ arguments → (verb ≡ Some v → Gives arguments act → ⊥) → AsksBy words (lone_word act) (λ given. Gives given act) verb → ⊥
+none-given v words arguments act None is none h = lone-unspaced act v words arguments is h
 none-given v words arguments act (Some w) is none (given, is2, gives) =
     let same = verb-one w v words given arguments is2 is in
     none (ap (λ z. Some z) same.0) (subst (λ z. Gives z act) same.1 gives)
 
 -- words ask for what stands behind their verb, and for nothing else
 asks_given : (v : Verb) (words arguments : List ℕ) (act : Act) → words ≡ verb_word v ++ 32 ∷ arguments → verb_of act ≡ Some v → Gives arguments act → Asks words act
-asks_given v words arguments act is of gives = subst (λ verb. AsksBy words (λ given. Gives given act) verb) (sym of) (arguments, is, gives)
+asks_given v words arguments act is of gives = subst (λ verb. AsksBy words (lone_word act) (λ given. Gives given act) verb) (sym of) (arguments, is, gives)
 
 asks_nothing : (v : Verb) (words arguments : List ℕ) → words ≡ verb_word v ++ 32 ∷ arguments → ((act : Act) → verb_of act ≡ Some v → Gives arguments act → ⊥) → (act : Act) → Asks words act → ⊥
 asks_nothing v words arguments is none act h = none-given v words arguments act (verb_of act) is (none act) h

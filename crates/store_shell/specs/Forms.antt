@@ -2,10 +2,10 @@
 use Rattle.std.specs.Prelude.{◌≡◌, ◌≢◌, ◌<◌, ◌≤◌, ◌-◌, ◌^◌, ℕ, List, [], ◌∷◌, ◌++◌, All, length, take, if◌then◌else◌, codes, decimal, nat_eq, MatchOption}
 use Rattle.std.specs.List.{ends_with}
 use Rattle.std.specs.Str.{IsUtf8}
-use Rattle.store_core.specs.Acts.{Act, Load, LoadGrammar, Save, SaveGrammar, Show, Query, Count, Rename, Insert, Append, Delete, Value, Attr, Copy, RenameAll, DeleteAll, Check, Repair, Generate}
+use Rattle.store_core.specs.Acts.{Act, Load, LoadGrammar, Save, SaveGrammar, Show, Query, Count, Rename, Insert, Append, Delete, Value, Attr, Copy, RenameAll, DeleteAll, Check, Repair, RepairWide, Generate}
 use Rattle.store_shell.specs.Arguments.{IsNamed, IsNumbered}
 use Rattle.store_shell.specs.Lines.{longest}
-use Rattle.store_shell.specs.Verbs.{verb_of, verb_word}
+use Rattle.store_shell.specs.Verbs.{lone_word, verb_of, verb_word}
 
 pub data Form : Type 0 where
   -- nothing
@@ -45,11 +45,12 @@ Gives arguments (RenameAll name query) = (query ≢ []) × IsNamed arguments nam
 Gives arguments (DeleteAll query) = (query ≢ []) × (arguments ≡ query)
 Gives arguments (Check name) = IsFileName name × (arguments ≡ name)
 Gives arguments Repair = ⊥
+Gives arguments RepairWide = ⊥
 Gives arguments (Generate records) = (1 ≤ records) × (records ≤ 200000) × (arguments ≡ decimal records)
 
--- the words ask for this: they are its verb and, behind one space, what gives it the rest; `repair` stands alone
+-- the words ask for this: they are its verb and, behind one space, what gives it the rest, or its word alone where it takes nothing
 abbrev pub Asks : List ℕ → Act → Type 0
-Asks words act = MatchOption (verb_of act) (words ≡ codes "repair") (λ verb. (arguments : List ℕ) × (words ≡ verb_word verb ++ 32 ∷ arguments) × Gives arguments act)
+Asks words act = MatchOption (verb_of act) (words ≡ lone_word act) (λ verb. (arguments : List ℕ) × (words ≡ verb_word verb ++ 32 ∷ arguments) × Gives arguments act)
 
 -- a line has this form
 abbrev pub IsForm : List ℕ → Form → Type 0

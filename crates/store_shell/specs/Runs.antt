@@ -1,7 +1,10 @@
 -- What the machine does for the lines of a script.
-use Rattle.std.specs.Prelude.{◌≡◌, ℕ, List, [], ◌∷◌, ◌++◌, codes}
+use Rattle.std.specs.Prelude.{◌≡◌, ◌+◌, ◌-◌, ◌^◌, ◌≤◌, min, ℕ, List, [], ◌∷◌, ◌++◌, Result, Err, codes}
 use Rattle.store_core.specs.Machine.{Step}
 use Rattle.store_core.specs.Worlds.{World}
+use Rattle.store_core.specs.declared.answer.Answer.{Answer}
+use Rattle.store_core.specs.declared.answer.Refusal.{Refusal}
+use Rattle.store_core.specs.declared.answer.Refusal.TheVariants.{ReadFault, WriteFault}
 use Rattle.store_words.specs.declared.words.Settings.{Settings}
 use Rattle.store_shell.specs.Forms.{Form, Empty, Long, Bad, Quit, Command, IsForm}
 
@@ -23,3 +26,27 @@ pub record DoesLine (settings : Settings) (line : List ℕ) (old : World) (out :
 abbrev pub Run : Settings → List (List ℕ) → World → List ℕ → World → Type 0
 Run settings [] old out new = (out ≡ []) × (new ≡ old)
 Run settings (line ∷ lines) old out new = (mid : World) × (first : List ℕ) × (rest : List ℕ) × DoesLine settings line old first mid × Run settings lines mid rest new × (out ≡ first ++ rest)
+
+-- 1 for what is refused for a fault of the shelf
+abbrev pub fault_of : Result Answer Refusal → ℕ
+fault_of (Err ReadFault) = 1
+fault_of (Err WriteFault) = 1
+fault_of _ = 0
+
+-- 1 for a line that is answered `! read-fault` or `! write-fault`
+abbrev pub line_fault : (settings : Settings) (form : Form) (old : World) (out : List ℕ) (new : World) → One settings form old out new → ℕ
+line_fault settings Empty old out new does = 0
+line_fault settings Long old out new does = 0
+line_fault settings Bad old out new does = 0
+line_fault settings Quit old out new does = 0
+line_fault settings (Command act) old out new does = fault_of does.outcome
+
+-- how many lines are
+abbrev pub line_faults : (settings : Settings) (lines : List (List ℕ)) (old : World) (out : List ℕ) (new : World) → Run settings lines old out new → ℕ
+line_faults settings [] old out new run = 0
+line_faults settings (line ∷ lines) old out new run =
+    line_fault settings run.3.form old run.1 run.0 run.3.does + line_faults settings lines run.0 run.2 new run.4
+
+-- a count rose at least so often, or stands at its last value
+abbrev pub RoseBy : ℕ → ℕ → ℕ → Type 0
+RoseBy times before now = min (before + times) (2 ^ 64 - 1) ≤ now

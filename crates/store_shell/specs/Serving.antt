@@ -1,12 +1,12 @@
 -- What `serve` does: its contract on the script, the session, the files and the sink.
-use Rattle.std.specs.Prelude.{◌≡◌, ◌<◌, ◌≤◌, ◌^◌, ◌⊎◌, ℕ, List, [], ◌∷◌, ◌++◌, length, Option, IfSome}
+use Rattle.std.specs.Prelude.{◌≡◌, ◌<◌, ◌≤◌, ◌+◌, ◌^◌, ◌⊎◌, ℕ, List, [], ◌∷◌, ◌++◌, length, Option, IfSome}
 use Rattle.tree_outside.specs.Outside.{Gets, GetsFront, Stays}
 use Rattle.store_words.specs.Words.{IsWords}
 use Rattle.store_core.specs.Worlds.{World}
 use Rattle.store_words.specs.declared.words.Settings.{Settings}
 use Rattle.store_shell.specs.Forms.{Quit, IsForm, HasNoQuit}
 use Rattle.store_shell.specs.Lines.{IsCut}
-use Rattle.store_shell.specs.Runs.{DoesLine, Run}
+use Rattle.store_shell.specs.Runs.{DoesLine, Run, RoseBy, line_fault, line_faults}
 use Rattle.store_shell.specs.declared.status.Status.{Status}
 use Rattle.store_shell.specs.declared.status.Status.TheVariants as status
 
@@ -18,15 +18,17 @@ pub record Script : Type 0 where
   pub tail : List ℕ
   pub cut : IsCut bytes lines tail
 
--- no quit is among these lines, they were done, and the sink got their text
+-- No quit is among these lines, they were done, and the sink got their text. The shelf's count rose for each that was answered
+-- `! read-fault` or `! write-fault`.
 pub record Did (settings : Settings) (lines : List (List ℕ)) (old new : World) (before now : Option (List ℕ)) : Type 0 where
   pub no_quit : HasNoQuit lines
   pub out : List ℕ
   pub ran : Run settings lines old out new
   pub got : Gets before now out
+  pub faults : RoseBy (line_faults settings lines old out new ran) old.count new.count
 
 -- The sink failed at one of the lines, which isn't quit: session and files stand as after it, and the sink got the text of
--- the lines before it and a front of its own.
+-- the lines before it and a front of its own. The shelf's count rose as for lines that were done.
 pub record Stops (settings : Settings) (lines : List (List ℕ)) (old new : World) (before now : Option (List ℕ)) : Type 0 where
   pub done : List (List ℕ)
   pub last : List ℕ
@@ -39,6 +41,7 @@ pub record Stops (settings : Settings) (lines : List (List ℕ)) (old new : Worl
   pub text : List ℕ
   pub does : DoesLine settings last mid text new
   pub got : GetsFront between now text
+  pub faults : RoseBy (line_faults settings done old did.out mid did.ran + line_fault settings does.form mid text new does.does) old.count new.count
 
 -- one of the lines is quit, and these come before it
 pub record Quits (lines before : List (List ℕ)) : Type 0 where

@@ -1,6 +1,6 @@
 -- The words that begin commands with arguments, and what ends them.
-use Rattle.std.specs.Prelude.{◌==◌, ℕ, Bool, List, Option, Some, None, codes}
-use Rattle.store_core.specs.Acts.{Act, Load, LoadGrammar, Save, SaveGrammar, Show, Query, Count, Rename, Insert, Append, Delete, Value, Attr, Copy, RenameAll, DeleteAll, Check, Repair, Generate}
+use Rattle.std.specs.Prelude.{◌==◌, ℕ, Bool, List, [], Option, Some, None, codes}
+use Rattle.store_core.specs.Acts.{Act, Load, LoadGrammar, Save, SaveGrammar, Show, Query, Count, Rename, Insert, Append, Delete, Value, Attr, Copy, RenameAll, DeleteAll, Check, Repair, RepairWide, Generate}
 use Rattle.store_shell.specs.declared.verb.Verb.{Verb}
 use Rattle.store_shell.specs.declared.verb.Verb.TheVariants as verb
 
@@ -44,7 +44,14 @@ verb_of (RenameAll name query) = Some verb.RenameAll
 verb_of (DeleteAll query) = Some verb.DeleteAll
 verb_of (Check name) = Some verb.Check
 verb_of Repair = None
+verb_of RepairWide = None
 verb_of (Generate records) = Some verb.Generate
+
+-- the word of a command that has none
+abbrev pub lone_word : Act → List ℕ
+lone_word Repair = codes "repair"
+lone_word RepairWide = codes "repair-wide"
+lone_word act = []
 
 abbrev pub is_blank : ℕ → Bool
 is_blank byte = byte == 32

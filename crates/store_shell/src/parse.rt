@@ -1,5 +1,5 @@
 // What a line asks for.
-ghost use Rattle.std.specs.Prelude.{◌≡◌, ◌≢◌, ◌≤◌, ◌<◌, ◌^◌, ◌↔◌, ℕ, true, List, [], length, IfSome, MatchOption, Some, codes, decimal};
+ghost use Rattle.std.specs.Prelude.{◌≡◌, ◌≢◌, ◌≤◌, ◌<◌, ◌^◌, ◌↔◌, ℕ, true, List, [], length, IfSome, MatchOption, None, Some, codes, decimal};
 ghost use Rattle.std.specs.Option.{option_copied};
 ghost use Rattle.std.specs.List.{position};
 ghost use Rattle.store_core.specs.Acts.{Act};
@@ -8,7 +8,7 @@ ghost use Rattle.store_shell.specs.Arguments.{HasNoSpace, IsBegun, IsNamed, IsNu
 ghost use Rattle.store_shell.specs.Lines.{kept};
 ghost use Rattle.store_shell.specs.Forms.{without_return, IsFileName, Asks, Gives, IsForm};
 ghost use Rattle.store_shell.specs.Parsed.{HasFewRecords, form_of};
-ghost use Rattle.store_shell.specs.Verbs.{is_blank, verb_of};
+ghost use Rattle.store_shell.specs.Verbs.{is_blank, lone_word, verb_of};
 
 use crate::verb::Verb;
 use itoa::Buffer;
@@ -68,8 +68,8 @@ fn is_quit(words: &[u8]) -> bool
 fn parse_command(words: &[u8]) -> Option<Command<'_>>
     ensures { MatchOption result ((act : Act) → Asks words.now act → ⊥) (λ command. Asks words.now (act_of command)) }
 {
-    if is_repair(words) {
-        return Some(Command::Repair);
+    if let Some(command) = lone_command(words) {
+        return Some(command);
     }
     let space = first_space(words)?;
     let verb = Verb::of(&words[..space])?;
@@ -119,11 +119,16 @@ fn command_of(verb: Verb, arguments: &[u8]) -> Option<Command<'_>>
     }
 }
 
-/// Whether the words ask for a settling.
-fn is_repair(words: &[u8]) -> bool
-    ensures { (result ≡ true) ↔ (words.now ≡ codes "repair") }
+/// The command without arguments that the words ask for.
+fn lone_command(words: &[u8]) -> Option<Command<'_>>
+    ensures { MatchOption result ((act : Act) → verb_of act ≡ None → words.now ≢ lone_word act)
+        (λ command. (verb_of (act_of command) ≡ None) × (words.now ≡ lone_word (act_of command))) }
 {
-    matches!(words, b"repair")
+    match words {
+        b"repair" => Some(Command::Repair),
+        b"repair-wide" => Some(Command::RepairWide),
+        _ => None,
+    }
 }
 
 fn first_space(words: &[u8]) -> Option<usize>

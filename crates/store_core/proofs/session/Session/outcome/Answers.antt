@@ -21,6 +21,10 @@ pub returns-in-Repair-clause-prints : goal.returns-in-Repair-clause-prints
 returns-in-Repair-clause-prints g c =
     rw c.in-Repair.is ([], Gets-nil (g.K.Sink.got c.args.sink.now), c.repair.ensures.comes (g.F.Shelf.told c.args.shelf.now) (g.F.Shelf.faults c.args.shelf.now))
 
+pub returns-in-RepairWide-clause-prints : goal.returns-in-RepairWide-clause-prints
+returns-in-RepairWide-clause-prints g c =
+    rw c.in-RepairWide.is ([], Gets-nil (g.K.Sink.got c.args.sink.now), c.repair_wide.ensures.comes (g.F.Shelf.told c.args.shelf.now) (g.F.Shelf.faults c.args.shelf.now))
+
 pub returns-in-Count-clause-prints : goal.returns-in-Count-clause-prints
 returns-in-Count-clause-prints g c =
     rw c.in-Count.is ([], Gets-nil (g.K.Sink.got c.args.sink.now), c.count.ensures.comes c.args.settings (g.F.Shelf.told c.args.shelf.now) (g.F.Shelf.faults c.args.shelf.now))

@@ -1,0 +1,97 @@
+// Settling the grammar that is held across the borders of rules.
+ghost use Rattle.std.specs.Prelude.{◌≡◌, ◌≤◌, ◌<◌, ◌^◌, ℕ, Option, Some, IfOk, IfSome, OnOk, OnErr};
+ghost use Rattle.tree_outside.specs.Files.{Told};
+ghost use Rattle.slt_grammar.specs.Automata.{nodes_in};
+ghost use Rattle.slt_grammar.specs.Grammars.{value, IsSwept};
+ghost use Rattle.slt_grammar.specs.Keyed.{rules_of};
+ghost use Rattle.digram_index.specs.Linked.{IsIndexOf};
+ghost use Rattle.border_repair.specs.Digrams.{IsCandidate, occurrences};
+ghost use Rattle.store_core.specs.Machine.{RepairsWide};
+ghost use Rattle.store_core.specs.Repairing.{IsGreatestWeight, SettlesTo};
+ghost use Rattle.store_core.specs.StoreOf.{IsCounted, held_of, parts_of};
+ghost use Rattle.store_core.specs.Texts.{answer_line};
+ghost use Rattle.store_core.specs.Worlds.{AreLawfulParts, world};
+
+use crate::answer::Answer;
+use crate::loaded::Loaded;
+use crate::repairing::{Settled, hold, settle_whole};
+use border_repair::{Weights, across};
+use slt_grammar::{Digram, Grammar};
+use std::alloc::{AllocError, Global};
+
+/// Makes a rule of the heaviest digram of the document, wherever it occurs, and settles the grammar for this rank, from 1 to 8. What is held
+/// becomes that grammar, or the one settled as it stood where that is no larger. It is refused only for want of memory, and what is held
+/// then stays.
+pub(crate) fn repair_document_wide(
+    alloc: Global,
+    loaded: &mut Loaded,
+    rank: usize,
+) -> Result<Answer, AllocError>
+    requires rank { rank ≤ 8 }
+    requires held { AreLawfulParts (parts_of loaded.old.store) }
+    requires counted { IsCounted loaded.old.store }
+    requires few { loaded.old.edits < 2 ^ 64 }
+    ensures held { AreLawfulParts (parts_of loaded.new.store) }
+    ensures counted { IsCounted loaded.new.store }
+    ensures few { loaded.new.edits < 2 ^ 64 }
+    ensures repairs { IfOk result (λ answer. (told : Option Told) (count : ℕ)
+        → RepairsWide rank (world (Some (held_of loaded.old)) told count) (answer_line answer) (world (Some (held_of loaded.new)) told count)) }
+    ensures refused { OnErr result (held_of loaded.new ≡ held_of loaded.old) }
+{
+    let heaviest = find_heaviest(alloc, &loaded.store.grammar, rank)?;
+    let settled = settled_across(alloc, &loaded.store.grammar, heaviest.digram, rank)?;
+    let (rules, size) = hold(loaded, settled)?;
+    Ok(Answer::RepairedWide {
+        weight: heaviest.weight,
+        rules,
+        size,
+    })
+}
+
+// The heaviest digram of a document within a rank, if one is there, and its weight.
+#[derive(Clone, Copy)]
+struct Heaviest {
+    digram: Option<Digram>,
+    weight: u64,
+}
+
+fn find_heaviest(alloc: Global, grammar: &Grammar, rank: usize) -> Result<Heaviest, AllocError>
+    requires { nodes_in (value (rules_of grammar.now.rules)) < 2 ^ 63 }
+    ensures weight { IfOk result (λ h. IsGreatestWeight rank (rules_of grammar.now.rules) h.weight) }
+    ensures digram { IfOk result (λ h. IfSome h.digram (λ d. IsCandidate rank d × (0 < occurrences d (rules_of grammar.now.rules)))) }
+{
+    let weights = Weights::new(alloc, grammar)?;
+    let digram = weights.top(rank);
+    let weight = match digram {
+        Some(digram) => weights.get(digram),
+        None => 0,
+    };
+    Ok(Heaviest { digram, weight })
+}
+
+// A copy of the grammar, settled after a digram became a rule, or settled as it is where that leaves no more nodes.
+fn settled_across(
+    alloc: Global,
+    grammar: &Grammar,
+    digram: Option<Digram>,
+    rank: usize,
+) -> Result<Settled, AllocError>
+    requires rank { rank ≤ 8 }
+    requires digram { IfSome digram (λ d. IsCandidate rank d × (0 < occurrences d (rules_of grammar.now.rules))) }
+    requires few { nodes_in (value (rules_of grammar.now.rules)) < 2 ^ 63 }
+    ensures settles { IfOk result (λ s. SettlesTo rank (rules_of grammar.now.rules) (rules_of s.grammar.rules)) }
+    ensures index { IfOk result (λ s. IsIndexOf s.grammar s.index) }
+{
+    let plain = settle_whole(alloc, grammar.copy()?, rank)?;
+    let Some(digram) = digram else {
+        return Ok(plain);
+    };
+    let mut copy = grammar.copy()?;
+    across(alloc, &mut copy, digram)?;
+    let wide = settle_whole(alloc, copy, rank)?;
+    if wide.grammar.size() < plain.grammar.size() {
+        Ok(wide)
+    } else {
+        Ok(plain)
+    }
+}

@@ -16,6 +16,7 @@ use tree_outside::{MemorySink, RealSource, Shelf, Source};
 mod limits;
 mod long_files;
 pub(crate) mod memory;
+mod refused_calls;
 mod rows;
 mod statuses;
 mod words;

@@ -29,8 +29,8 @@ const LONG: File = File {
     rules: &[LEAF],
     text: 5000,
     fails: &[],
-    front: b"TGF1\x03\x00\x00\x01\x01a\x01\x01b\x01\x00\x02\x00\x02\x01\x00\x00\x00\x01\x88\x27",
-    len: 5025,
+    front: b"TGF2\x03\x00\x00\x01\x01a\x01\x01b\x01\x00\x02\x00\x02\x01\x00\x00\x00\x01\x88\x27",
+    len: 5027,
 };
 
 static FILES: [File; 5] = [
@@ -38,15 +38,15 @@ static FILES: [File; 5] = [
         rules: &[TWICE, START],
         text: 0,
         fails: &[],
-        front: b"TGF1\x03\x00\x00\x01\x01a\x01\x01b\
+        front: b"TGF2\x03\x00\x00\x01\x01a\x01\x01b\
             \x02\x01\x02\x02\x00\x02\x02\x00\x01\
-            \x00\x02\x00\x02\x01\x03\x00\x03\x00\x03\x00\x00\x00\x00\x00",
-        len: 37,
+            \x00\x02\x00\x02\x01\x03\x00\x03\x00\x03\x00\x00\x00\x00\x00\x00",
+        len: 38,
     },
     File {
         text: 300,
-        front: b"TGF1\x03\x00\x00\x01\x01a\x01\x01b\x01\x00\x02\x00\x02\x01\x00\x00\x00\x01\xAC\x02",
-        len: 325,
+        front: b"TGF2\x03\x00\x00\x01\x01a\x01\x01b\x01\x00\x02\x00\x02\x01\x00\x00\x00\x01\xAC\x02",
+        len: 327,
         ..LONG
     },
     LONG,
@@ -94,8 +94,12 @@ fn written(alloc: Global, file: &File) -> Result<(MemorySink, bool), Fail> {
 // Whether these are a file's bytes, or a front of them.
 fn is_front(file: &File, got: &[u8]) -> bool {
     let own = file.front.len().min(got.len());
-    let (front, text) = got.split_at(own);
-    file.front.starts_with(front) && text.iter().all(|byte| *byte == b'x')
+    let (front, behind) = got.split_at(own);
+    // Behind the text stand the count of places and its place.
+    let (text, places) = behind.split_at(file.text.min(behind.len()));
+    file.front.starts_with(front)
+        && text.iter().all(|byte| *byte == b'x')
+        && b"\x01\x00".starts_with(places)
 }
 
 #[test]

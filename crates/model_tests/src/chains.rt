@@ -87,7 +87,7 @@ static ROWS: [Row; 14] = [
     },
 ];
 
-fn table(alloc: Global) -> Result<Names, AllocError> {
+pub(crate) fn table(alloc: Global) -> Result<Names, AllocError> {
     let mut names = Names::new(alloc);
     names.intern(alloc, Kind::Text, b"")?;
     for name in [b"a", b"b", b"c", b"x", b"z"] {
@@ -106,7 +106,7 @@ fn symbol_of(names: &Names, letter: u8) -> usize {
 }
 
 // Whether the element `x` is wrong with these children.
-fn is_wrong(names: &Names, checker: &Checker, kids: &[u8]) -> Result<bool, AllocError> {
+pub(crate) fn is_wrong(names: &Names, checker: &Checker, kids: &[u8]) -> Result<bool, AllocError> {
     let bottom = checker.bottom()?;
     let mut chain = checker.bottom()?;
     for &letter in kids.iter().rev() {

@@ -86,9 +86,9 @@ fn is_right(alloc: Global, row: &Row<'_>, piece: usize, fault: Fault) -> Result<
 
 #[derive(Drop)]
 pub(super) struct Objects {
-    source: MemorySource,
-    sink: MemorySink,
-    shelf: MemoryShelf,
+    pub source: MemorySource,
+    pub sink: MemorySink,
+    pub shelf: MemoryShelf,
 }
 
 impl Objects {

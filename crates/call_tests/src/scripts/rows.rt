@@ -8,11 +8,24 @@ const SAVED: &[u8] = b"<a><b/><b/></a>\n";
 
 // Six `b` in an `a`. Rule 0 is `b(bottom, b(bottom, y1))`, and the start calls it three times, over one another.
 const SIX: &[u8] =
+    b"TGF2\x03\x00\x00\x01\x01a\x01\x01b\x02\x01\x02\x02\x00\x02\x02\x00\x01\x00\x02\x00\x02\x01\x03\x00\x03\x00\x03\x00\x00\x00\x00\x00\x00";
+
+// The same in version 1.
+const FIRST_SIX: &[u8] =
     b"TGF1\x03\x00\x00\x01\x01a\x01\x01b\x02\x01\x02\x02\x00\x02\x02\x00\x01\x00\x02\x00\x02\x01\x03\x00\x03\x00\x03\x00\x00\x00\x00\x00";
 
 // A text, an attribute, a comment and an instruction; two texts side by side.
 const KINDS: &[u8] =
+    b"TGF2\x06\x00\x00\x01\x01a\x02\x01k\x03\x00\x04\x00\x05\x01p\x01\x00\x02\x00\x02\x01\x02\x02\x00\x02\x03\x00\x02\x03\x00\x02\x04\x00\x02\x05\x00\x00\x00\x00\x05\x01v\x01t\x01u\x01c\x00\x05\x00\x01\x02\x03\x04";
+
+const FIRST_KINDS: &[u8] =
     b"TGF1\x06\x00\x00\x01\x01a\x02\x01k\x03\x00\x04\x00\x05\x01p\x01\x00\x02\x00\x02\x01\x02\x02\x00\x02\x03\x00\x02\x03\x00\x02\x04\x00\x02\x05\x00\x00\x00\x00\x05\x01v\x01t\x01u\x01c\x00";
+
+// The document `EQUAL`, with two texts that are the same. Rule 0 is a text.
+const EQUAL_TEXTS: &[u8] =
+    b"TGF2\x05\x00\x00\x01\x01a\x01\x01b\x03\x00\x01\x01c\x02\x00\x02\x03\x00\x00\x00\x02\x00\x02\x01\x02\x02\x03\x00\x02\x02\x03\x00\x02\x04\x03\x00\x00\x00\x00\x02\x01x\x01y\x03\x00\x00\x01";
+
+const EQUAL: &[u8] = b"<a><b>x</b><b>x</b><c>y</c></a>\n";
 
 // What is done where no call fails. In pieces of seven bytes each read of the source takes one whole line.
 const WHOLE: Row<'static> = Row {
@@ -31,7 +44,7 @@ const LISTED: Row<'static> = Row {
     ..DONE
 };
 
-static ROWS: [Row<'static>; 31] = [
+static ROWS: [Row<'static>; 34] = [
     Row {
         pieces: &[1, 2, 7, 1000],
         ..WHOLE
@@ -80,33 +93,54 @@ static ROWS: [Row<'static>; 31] = [
         printed: "ok nodes 4\n",
         ..DONE
     },
-    // Grammar files.
+    // Grammar files. What is read of version 1 is written in version 2.
     Row {
         document: b"<a/>",
         script: "load a\nrepair\nsave-grammar c\n",
-        printed: "ok nodes 2\nok rules 1 size 5\nok rules 1 size 5 bytes 20\n",
-        saved: b"TGF1\x02\x00\x00\x01\x01a\x01\x00\x02\x00\x02\x01\x00\x00\x00\x00",
+        printed: "ok nodes 2\nok rules 1 size 5\nok rules 1 size 5 bytes 21\n",
+        saved: b"TGF2\x02\x00\x00\x01\x01a\x01\x00\x02\x00\x02\x01\x00\x00\x00\x00\x00",
         ..DONE
     },
     Row {
         document: b"<a><b/><b/><b/><b/><b/><b/></a>",
         script: "load a\nsave-grammar c\n",
-        printed: "ok nodes 8\nok rules 2 size 12 bytes 37\n",
+        printed: "ok nodes 8\nok rules 2 size 12 bytes 38\n",
         saved: SIX,
         ..DONE
     },
     Row {
-        document: SIX,
+        document: FIRST_SIX,
         script: "load-grammar a\nload-grammar c\nsave-grammar c\n",
-        printed: "ok nodes 8\n! bad-grammar\nok rules 2 size 12 bytes 37\n",
+        printed: "ok nodes 8\n! bad-grammar\nok rules 2 size 12 bytes 38\n",
         saved: SIX,
+        ..DONE
+    },
+    Row {
+        document: FIRST_KINDS,
+        script: "load-grammar a\nsave-grammar c\n",
+        printed: "ok nodes 7\nok rules 1 size 15 bytes 60\n",
+        saved: KINDS,
         ..DONE
     },
     Row {
         document: KINDS,
         script: "load-grammar a\nsave-grammar c\n",
-        printed: "ok nodes 7\nok rules 1 size 15 bytes 54\n",
+        printed: "ok nodes 7\nok rules 1 size 15 bytes 60\n",
         saved: KINDS,
+        ..DONE
+    },
+    Row {
+        document: EQUAL,
+        script: "load a\nsave-grammar c\n",
+        printed: "ok nodes 8\nok rules 2 size 14 bytes 53\n",
+        saved: EQUAL_TEXTS,
+        ..DONE
+    },
+    Row {
+        document: EQUAL_TEXTS,
+        script: "load-grammar a\nsave c\n",
+        printed: "ok nodes 8\nok bytes 32\n",
+        saved: EQUAL,
         ..DONE
     },
     // A read of the source fails.

@@ -1,4 +1,4 @@
-"""Counts of a query in turn with libxml2's; bench/queries and bench/comparisons share them."""
+"""What libxml2 takes, and counts of a query in turn with its; bench/queries, bench/comparisons and bench/models share them."""
 import os
 import resource
 import statistics
@@ -8,8 +8,8 @@ OTHERS_LIMIT = 20  # seconds
 OTHERS_TIMES = 7  # counts of libxml2 in a run, of which the first find their memory cold
 
 
-def others_seconds(document, query, runs):
-    """libxml2's count and its seconds, found by a process that ends behind the limit; None where it ended so."""
+def others_seconds(ask, runs):
+    """libxml2's answer, a number, and its seconds, found by a process that ends behind the limit; None where it ended so."""
     reader, writer = os.pipe()
     child = os.fork()
     if child == 0:
@@ -18,9 +18,9 @@ def others_seconds(document, query, runs):
         spent = []
         while len(spent) < runs and sum(spent) + max(spent, default=0) < OTHERS_LIMIT / 2:
             start = time.thread_time()
-            count = document.count(query)
+            answer = ask()
             spent.append(time.thread_time() - start)
-        os.write(writer, f"{count} {statistics.median(spent)}".encode())
+        os.write(writer, f"{answer} {statistics.median(spent)}".encode())
         os._exit(0)
     os.close(writer)
     told = os.read(reader, 100).decode().split()
@@ -34,5 +34,5 @@ def in_turn(session, document, query, runs):
     rounds = []
     while len(rounds) < runs and (not rounds or rounds[-1][1]):
         ours = session.seconds_of(f"count {query}", 1)
-        rounds.append((ours, others_seconds(document, query, OTHERS_TIMES)))
+        rounds.append((ours, others_seconds(lambda: document.count(query), OTHERS_TIMES)))
     return rounds

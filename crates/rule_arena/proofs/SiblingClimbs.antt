@@ -1,4 +1,4 @@
--- The climb of `next_in_preorder` by the links between siblings.
+-- The climb to what follows a term by the links between siblings.
 use Rattle.std.proofs.Common.{◌≡◌, ℕ, suc, ◌-◌, ◌<◌, ◌≤◌, Option, Some, None, slice_get, sym, ap, ◌∙◌, arith}
 use Rattle.slab.specs.Slab.{Slab, get}
 use Rattle.rule_arena.specs.Linked.{Raw}
@@ -9,7 +9,7 @@ use Rattle.rule_arena.proofs.Climbs.{Climbs, comes_from}
 use Rattle.rule_arena.proofs.ListLemmas.{get-past}
 use Rattle.rule_arena.proofs.SeenLemmas.{length-row, get-row, row-follows, seen-some}
 
--- the answer is what follows the subterm of a node, whose parent and next sibling are these
+-- what follows the subterm of a node follows that of another, whose parent and next sibling are these
 abbrev pub ClimbsBy : (slots : Slab Raw) (s : Standing (seen slots)) (key : Key) (up : Option (Key × ℕ)) (next : Key) → Type 0
 ClimbsBy slots s key up next = (C : Climbs (seen slots) s key up) × (next ≡ after (get slots C.current.number))
 

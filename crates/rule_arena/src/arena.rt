@@ -98,6 +98,8 @@ impl Arena {
         ensures sound { IsSound self.now }
         ensures within { node_count self.now ≤ result }
         ensures few { node_count self.now ≤ 2 ^ 32 }
+        // Where there is room, there are no more slots than keys.
+        ensures keyed { 0 < self.now.spare → result ≤ 2 ^ 32 }
     {
         self.slots.capacity()
     }
@@ -179,6 +181,25 @@ impl Arena {
         if here.count() > 0 {
             return Some(here.first());
         }
+        self.past_term(key)
+    }
+
+    /// The next node of the same term, in preorder, behind all that stands below a node. One step.
+    pub fn next_past_term<L: Ledger>(&self, key: Key, steps: &mut Steps<L>) -> Option<Key>
+        requires { At self.now key }
+        ensures next { (x : At self.now key) → key_in x.nodes (x.place + length (subterm kids_of x.nodes x.place)) ≡ result }
+        ensures step { steps.new ≡ steps.old + 1 }
+    {
+        steps.tick();
+        self.past_term(key)
+    }
+
+    // The same, where nobody counts: the next sibling of the node, or of the first node above it that has one.
+    fn past_term(&self, key: Key) -> Option<Key>
+        requires { At self.now key }
+        ensures { (x : At self.now key) → key_in x.nodes (x.place + length (subterm kids_of x.nodes x.place)) ≡ result }
+    {
+        let here = cell_of(&self.slots, key);
         let mut at = here.parent();
         let mut next = here.next();
         while let Some(link) = at {

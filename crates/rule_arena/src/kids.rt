@@ -21,8 +21,8 @@ impl Model for Kids {
 }
 
 impl Kids {
-    // No children.
-    pub(crate) fn new() -> Kids
+    /// No children.
+    pub fn new() -> Kids
         ensures { result ≡ [] }
     {
         Kids {
@@ -30,8 +30,8 @@ impl Kids {
         }
     }
 
-    // One more child at the end.
-    pub(crate) fn push(&mut self, key: Key)
+    /// One more child at the end; there are less than eight.
+    pub fn push(&mut self, key: Key)
         requires { length self.old < 8 }
         ensures { self.new ≡ self.old ++ key ∷ [] }
     {
@@ -64,8 +64,8 @@ impl Kids {
         Kids { keys: kids }
     }
 
-    // The keys one after another.
-    pub(crate) fn as_slice(&self) -> &[Key]
+    /// The keys one after another.
+    pub fn as_slice(&self) -> &[Key]
         ensures value { result.now ≡ self.now }
         ensures few { length result.now ≤ 8 }
     {

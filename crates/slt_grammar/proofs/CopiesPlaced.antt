@@ -10,19 +10,19 @@ use Rattle.slt_grammar.specs.Copying.{hole, holes_in, copied, copied_node, kids_
 use Rattle.slt_grammar.specs.Placing.{placed, placed_node, placed_label, IsKnown, AreKnown}
 use Rattle.slt_grammar.proofs.Placed.{known-append, known-take, known-drop, known-term}
 
-hole-cases : (l : Label) → (hole l ≡ 0) ⊎ (hole l ≡ 1)
+pub hole-cases : (l : Label) → (hole l ≡ 0) ⊎ (hole l ≡ 1)
 hole-cases Bottom = inl refl
 hole-cases (Symbol f) = inl refl
 hole-cases (Call q) = inl refl
 hole-cases Param = inr refl
 
-node-real : (l : Label) (n : Node) (k : Key) (given : List (List Node)) (rest : List Node) → hole l ≡ 0 → copied_node l n k given rest ≡ record n { key = k } ∷ rest
+pub node-real : (l : Label) (n : Node) (k : Key) (given : List (List Node)) (rest : List Node) → hole l ≡ 0 → copied_node l n k given rest ≡ record n { key = k } ∷ rest
 node-real Bottom n k given rest h = refl
 node-real (Symbol f) n k given rest h = refl
 node-real (Call q) n k given rest h = refl
 node-real Param n k given rest h = absurd (omega (arith, h))
 
-node-hole : (l : Label) (n : Node) (k : Key) (given : List (List Node)) (rest : List Node) → hole l ≡ 1 → copied_node l n k given rest ≡ get_or given 0 [] ++ rest
+pub node-hole : (l : Label) (n : Node) (k : Key) (given : List (List Node)) (rest : List Node) → hole l ≡ 1 → copied_node l n k given rest ≡ get_or given 0 [] ++ rest
 node-hole Bottom n k given rest h = absurd (omega (arith, h))
 node-hole (Symbol f) n k given rest h = absurd (omega (arith, h))
 node-hole (Call q) n k given rest h = absurd (omega (arith, h))

@@ -62,3 +62,9 @@ pub mod TourWalking
 pub mod StopLemmas
 pub mod RankBounds
 pub mod OtherValues
+pub mod CalledRules
+pub mod Exchanges
+pub mod Weaving
+pub mod KeptCalls
+pub mod Matching
+pub mod MatchWalks

@@ -31,3 +31,4 @@ pub mod Automata
 pub mod OneState
 pub mod Ranks
 pub mod RuleValues
+pub mod Calling

@@ -165,3 +165,32 @@ pub(crate) fn count_copy(
     drop_calls(counts, &[Label::Call(rule)]);
     come
 }
+
+// Counts a call that came in the place of a term like the body of its rule, and answers how many of its nodes are no parameters.
+pub(crate) fn count_call(
+    calls: &mut Vec<u64>,
+    arena: &Arena,
+    order: &Order,
+    root: Key,
+    rule: usize,
+) -> usize
+    requires root { IsRoot arena.now root }
+    requires known { (ns : List Node) → term_at arena.now root.number ≡ Some ns → AreKnown order.now.order ns }
+    requires len { length order.now.order ≡ length calls.old.items }
+    requires there { rule < length calls.old.items }
+    requires counted { (ns : List Node) → term_at arena.now root.number ≡ Some ns → (q : ℕ) → q < length calls.old.items
+        → calls_in q (labels_of (placed order.now.order ns)) ≤ slice_index calls.old.items q }
+    requires few { (q : ℕ) → q < length calls.old.items → slice_index calls.old.items q + 1 < 2 ^ 64 }
+    ensures calls { (ns : List Node) → term_at arena.now root.number ≡ Some ns → (q : ℕ) → q < length calls.old.items
+        → slice_index calls.new.items q + calls_in q (labels_of (placed order.now.order ns)) ≡ slice_index calls.old.items q + calls_in q (Call rule ∷ []) }
+    ensures len { length calls.new.items ≡ length calls.old.items }
+    ensures capacity { vec_capacity calls.new ≡ vec_capacity calls.old }
+    ensures real { (ns : List Node) → term_at arena.now root.number ≡ Some ns → result ≡ real_nodes (labels_of (placed order.now.order ns)) }
+{
+    // The call tells that the root has a term.
+    let _limit = arena.limit();
+    let counts = calls.as_mut_slice();
+    let gone = drop_term(arena, order, root, counts);
+    add_calls(counts, &[Label::Call(rule)]);
+    gone
+}

@@ -1,9 +1,8 @@
 // Subterms that are taken out of a term.
-ghost use Rattle.std.specs.Prelude.{◌≡◌, ◌≢◌, ◌+◌, ◌<◌, ◌≤◌, ◌++◌, ◌∷◌, [], ℕ, List, length, Some, IsSome};
-ghost use Rattle.std.specs.List.{flat_map};
+ghost use Rattle.std.specs.Prelude.{◌≡◌, ◌≢◌, ◌+◌, ◌<◌, ◌≤◌, ◌∷◌, [], ℕ, List, length, Some, IsSome};
 ghost use Rattle.rule_arena.specs.Preorder.{subterm, with_subterm};
 ghost use Rattle.rule_arena.specs.Terms.{Node, At, kids_of, term_at};
-ghost use Rattle.slt_grammar.specs.Detaching.{AreArgs, Detached};
+ghost use Rattle.slt_grammar.specs.Detaching.{AreArgs, Laced, Loosened};
 
 use rule_arena::{Arena, Key, Label};
 
@@ -23,19 +22,17 @@ pub(crate) fn detach(arena: &mut Arena, at: Key)
     arena.splice(at, leaf);
 }
 
-// Puts a leaf in the place of each child of a node.
-pub(crate) fn detach_all(arena: &mut Arena, kids: &[Key])
-    requires room { length kids.now ≤ arena.old.spare }
-    requires there { (r : ℕ) × (front back : List Node) × (n : Node) × (args : List (List Node))
-        × (term_at arena.old r ≡ Some (front ++ (n ∷ (flat_map (λ zs. zs) args ++ back)))) × AreArgs kids.now args }
-    ensures detached { (r : ℕ) (front back : List Node) (n : Node) (args : List (List Node))
-        → term_at arena.old r ≡ Some (front ++ (n ∷ (flat_map (λ zs. zs) args ++ back))) → AreArgs kids.now args
-        → Detached arena.old arena.new r front n args back kids.now }
-    ensures spare { arena.new.spare + length kids.now ≡ arena.old.spare }
+// Puts a leaf in the place of each of these nodes, which stand in one term, in their order. Their terms become roots.
+pub(crate) fn loosen(arena: &mut Arena, keys: &[Key])
+    requires room { length keys.now ≤ arena.old.spare }
+    requires there { (r : ℕ) × (ns : List Node) × (p : ℕ) × (args : List (List Node)) × (term_at arena.old r ≡ Some ns) × Laced ns p args × AreArgs keys.now args }
+    ensures loosened { (r : ℕ) (ns : List Node) (p : ℕ) (args : List (List Node)) → term_at arena.old r ≡ Some ns → (L : Laced ns p args) → AreArgs keys.now args
+        → Loosened arena.old arena.new r ns p args L keys.now }
+    ensures spare { arena.new.spare + length keys.now ≡ arena.old.spare }
     ensures limit { arena.new.limit ≡ arena.old.limit }
 {
-    for i in 0..kids.len() {
+    for i in 0..keys.len() {
         let _limit = arena.limit();
-        detach(arena, kids[i]);
+        detach(arena, keys[i]);
     }
 }

@@ -52,7 +52,8 @@ impl Model for Grammar {
 }
 
 impl Grammar {
-    ghost use Rattle.rule_arena.specs.Terms.{Node, kids_in, parent_in};
+    ghost use Rattle.rule_arena.specs.Preorder.{subterm};
+    ghost use Rattle.rule_arena.specs.Terms.{Node, kids_in, kids_of, parent_in};
     ghost use Rattle.std.specs.Prelude.{slice_get, slice_index, ◌^◌, IfOk};
     ghost use Rattle.slt_grammar.specs.Grammars.{body_at, calls_of, rank_at, size, whole, IsGrammar};
     ghost use Rattle.slt_grammar.specs.Keyed.{IsKeyed, key_at, nodes_at, rules_of};
@@ -188,6 +189,16 @@ impl Grammar {
         ensures step { steps.new ≡ steps.old + 1 }
     {
         self.arena.next_in_preorder(key, steps)
+    }
+
+    // The next node of the same body, in preorder, behind all that stands below a node. One step.
+    pub(crate) fn next_past_term<L: Ledger>(&self, key: Key, steps: &mut Steps<L>) -> Option<Key>
+        requires { (r : ℕ) × (p : ℕ) × (key_at self.now.rules r p ≡ Some key) }
+        ensures next { (r p : ℕ) → key_at self.now.rules r p ≡ Some key
+            → key_at self.now.rules r (p + length (subterm kids_of (nodes_at self.now.rules r) p)) ≡ result }
+        ensures step { steps.new ≡ steps.old + 1 }
+    {
+        self.arena.next_past_term(key, steps)
     }
 
     /// A walk over the labels of a rule's body.

@@ -7,7 +7,7 @@ ghost use Rattle.slt_grammar.specs.Copying.{InlinedAt, IsShape, holes_in, kids_a
 ghost use Rattle.slt_grammar.specs.Holding.{AreHeld};
 
 use crate::copying::build_over;
-use crate::detaching::detach_all;
+use crate::detaching::loosen;
 use crate::reading::{children, is_root};
 use crate::replacing::replace;
 use crate::shape::Shape;
@@ -74,7 +74,7 @@ fn inline_over(
     // The calls tell that a key stands once.
     let _before = arena.limit();
     let is_root = is_root(arena, call);
-    detach_all(arena, kids);
+    loosen(arena, kids);
     let copied = build_over(arena, shapes, kids, stack, follow);
     let _after = arena.limit();
     replace(arena, roots, call, is_root, copied.root);

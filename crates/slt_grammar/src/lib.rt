@@ -7,10 +7,10 @@
 //! has their laws for the crates above. A `Digram` is two labels, one under the other; `specs/Digrams.antt` says where it occurs,
 //! and which grammars are settled. `automata` has the traits of automata that run over what a grammar means, upward and downward.
 //!
-//! A grammar is changed by the calls of `editing` (one body), `wrap`, `share`, `add_rule` and `rule_edits`, and copied by that of
-//! `listing`. `order` keeps identities of rules, which nodes hold in place of the rules' places. What these calls do in the arena is in
-//! `fold`, `lift` and `inline`, by `reading`, `detaching`, `replacing`, `copying`, and by `collecting` and `shaping`, which make ready
-//! what is copied.
+//! A grammar is changed by the calls of `editing` (one body), `call_at`, `wrap`, `share`, `add_rule` and `rule_edits`, and copied by that
+//! of `listing`. `match_at` finds where `call_at` may make a call. `order` keeps identities of rules, which nodes hold in place of the
+//! rules' places. What these calls do in the arena is in `fold`, `lift` and `inline`, by `reading`, `detaching`, `replacing`, `copying`,
+//! and by `collecting` and `shaping`, which make ready what is copied.
 #![tactic(auto)]
 
 mod add_rule;
@@ -18,6 +18,7 @@ mod automata;
 mod bodies;
 mod body_walk;
 mod building;
+mod call_at;
 mod checking;
 mod collecting;
 mod copying;
@@ -32,6 +33,7 @@ mod laws;
 mod level;
 mod lift;
 mod listing;
+mod match_at;
 mod order;
 mod reading;
 mod replacing;

@@ -1,5 +1,5 @@
 // Terms that are put in the place of others, in bodies that are held by their roots.
-ghost use Rattle.std.specs.Prelude.{◌≡◌, ◌↔◌, ◌≤◌, ℕ, List, Some, IsTrue, slice_get, slice_set, length};
+ghost use Rattle.std.specs.Prelude.{◌≡◌, ◌↔◌, ◌+◌, ◌^◌, ◌≤◌, ℕ, List, Some, IsTrue, slice_get, slice_set, length};
 ghost use Rattle.rule_arena.specs.Preorder.{subterm, with_subterm};
 ghost use Rattle.rule_arena.specs.Terms.{Node, At, Apart, AreDistinctKeys, IsRoot, kids_of, term_at};
 ghost use Rattle.rule_arena.specs.declared.key.Key.{Key};
@@ -40,6 +40,9 @@ pub(crate) fn replace(arena: &mut Arena, roots: &mut [Key], at: Key, is_root: bo
     requires apart { Apart roots.old new.number }
     ensures changed { (i : ℕ) (k : Key) (x : At arena.old at) (ms : List Node) → slice_get roots.old i ≡ Some k → x.root ≡ k.number → term_at arena.old new.number ≡ Some ms
         → Changed arena.old arena.new roots.old roots.new i (with_subterm kids_of x.nodes x.place ms) }
+    // Each node's room is there again, as long as there are not more slots than keys.
+    ensures freed { (i : ℕ) (k : Key) (x : At arena.old at) → slice_get roots.old i ≡ Some k → x.root ≡ k.number → arena.old.limit ≤ 2 ^ 32
+        → arena.new.spare ≡ arena.old.spare + length (subterm kids_of x.nodes x.place) }
     ensures spare { arena.old.spare ≤ arena.new.spare }
     ensures limit { arena.new.limit ≡ arena.old.limit }
 {

@@ -26,7 +26,7 @@ under-some ranks up c (Call q) n = (_, refl)
 under-some ranks up c Param n = absurd (n refl)
 
 -- a node with a parent that is no parameter is a lower node
-lower-some : (G : List KeyedRule) (r p : ℕ) (n : Node) (parent : Option (Key × ℕ)) → slice_get (nodes_at G r) p ≡ Some n → parent_in (nodes_at G r) p ≡ parent → IsSome parent → n.label ≢ Param → (o : Cell) × (occurrence_at G r p ≡ Some o)
+pub lower-some : (G : List KeyedRule) (r p : ℕ) (n : Node) (parent : Option (Key × ℕ)) → slice_get (nodes_at G r) p ≡ Some n → parent_in (nodes_at G r) p ≡ parent → IsSome parent → n.label ≢ Param → (o : Cell) × (occurrence_at G r p ≡ Some o)
 lower-some G r p n parent h q s l = at (parent_node (nodes_at G r) p) refl
   where
     at : (u : Option (Node × ℕ)) → parent_node (nodes_at G r) p ≡ u → (o : Cell) × (occurrence_at G r p ≡ Some o)

@@ -53,24 +53,26 @@ known-shifted ns ns' place (Symbol f) M l K = tt
 known-shifted ns ns' place (Call n) M l K = let z = M n K in let s = shifted-below place (place_of ns n) (length ns) K in omega arith
 known-shifted ns ns' place Param M l K = tt
 
-pub knowns-shifted : (n n' : Numbering) (e : Entered) (place : ℕ) → AreKnown n e → length n'.numbers ≡ length n.numbers + 1 → Moves n.numbers n'.numbers place → AreKnown n' e
-knowns-shifted n n' e place K l M = record {
+pub knowns-shifted : (n n' : Numbering) (e : Entered) (place : ℕ) → AreKnown n e → n'.given ≤ e.callees → length n'.numbers ≡ length n.numbers + 1 → Moves n.numbers n'.numbers place → AreKnown n' e
+knowns-shifted n n' e place K f l M = record {
+  callees = f;
   upper = λ k s h. known-shifted n.numbers n'.numbers place s.pattern.upper M l (K.upper k s h);
   lower = λ k s h. known-shifted n.numbers n'.numbers place s.pattern.lower M l (K.lower k s h);
   small = K.small;
 }
 
-pub knowns-same : (n n' : Numbering) (e : Entered) → AreKnown n e → n'.numbers ≡ n.numbers → AreKnown n' e
-knowns-same n n' e K q = record {
+pub knowns-same : (n n' : Numbering) (e : Entered) → AreKnown n e → n'.given ≤ e.callees → n'.numbers ≡ n.numbers → AreKnown n' e
+knowns-same n n' e K f q = record {
+  callees = f;
   upper = λ k s h. subst (λ ns. IsKnown ns s.pattern.upper) (sym q) (K.upper k s h);
   lower = λ k s h. subst (λ ns. IsKnown ns s.pattern.lower) (sym q) (K.lower k s h);
   small = K.small;
 }
 
-pub knowns-inserted : {A E : Type 0} (r : Result A E) (n n' : Numbering) (e : Entered) (place : ℕ) → AreKnown n e
+pub knowns-inserted : {A E : Type 0} (r : Result A E) (n n' : Numbering) (e : Entered) (place : ℕ) → AreKnown n e → n'.given ≤ e.callees
     → OnOk r (length n'.numbers ≡ length n.numbers + 1) → OnOk r (Moves n.numbers n'.numbers place) → OnErr r (n'.numbers ≡ n.numbers) → AreKnown n' e
-knowns-inserted (Ok x) n n' e place K l M q = knowns-shifted n n' e place K l M
-knowns-inserted (Err x) n n' e place K l M q = knowns-same n n' e K q
+knowns-inserted (Ok x) n n' e place K f l M q = knowns-shifted n n' e place K f l M
+knowns-inserted (Err x) n n' e place K f l M q = knowns-same n n' e K f q
 
 pub cell-shifted : (n n' : Numbering) (e : Entered) (place : ℕ) → AreKnown n e → Moves n.numbers n'.numbers place → (k : ℕ)
     → get_or (map (cell_of n'.numbers) e.spots) k None ≡ shifted_cell place (get_or (map (cell_of n.numbers) e.spots) k None)
@@ -111,8 +113,9 @@ cell-spot n e k s h = cell-at n.numbers e.spots k ∙ ap (cell_of n.numbers) h
 abbrev pub NoCalls : List (Option Cell) → ℕ → Type 0
 NoCalls cs place = (k : ℕ) (o : Cell) → get_or cs k None ≡ Some o → (o.digram.upper ≢ CallLabel place) × (o.digram.lower ≢ CallLabel place)
 
-pub knowns-dropped : (n n' : Numbering) (e : Entered) (place : ℕ) → AreKnown n e → place < length n.numbers → length n'.numbers + 1 ≡ length n.numbers → Drops n.numbers n'.numbers place → NoCalls (map (cell_of n.numbers) e.spots) place → AreKnown n' e
-knowns-dropped n n' e place K h l M L = record {
+pub knowns-dropped : (n n' : Numbering) (e : Entered) (place : ℕ) → AreKnown n e → place < length n.numbers → length n'.numbers + 1 ≡ length n.numbers → Drops n.numbers n'.numbers place → NoCalls (map (cell_of n.numbers) e.spots) place → n'.given ≤ n.given → AreKnown n' e
+knowns-dropped n n' e place K h l M L f = record {
+  callees = let k = K.callees in omega arith;
   upper = λ k s x. known-unshifted n.numbers n'.numbers place s.pattern.upper M h l (K.upper k s x) (L k _ (cell-spot n e k s x)).0;
   lower = λ k s x. known-unshifted n.numbers n'.numbers place s.pattern.lower M h l (K.lower k s x) (L k _ (cell-spot n e k s x)).1;
   small = K.small;
@@ -132,17 +135,23 @@ cell-unshifted n n' e place K M L k =
         ap (cell_of n'.numbers) x ∙ (rw (u, l) refl) ∙ ap (λ (o : Option Spot). unshifted_cell place (cell_of n.numbers o)) (sym x)
 
 -- more room changes no occurrence
-pub knowns-spots : (n n' : Numbering) (e e' : Entered) → AreKnown n e → ((k : ℕ) → spot_at e' k ≡ spot_at e k) → n'.numbers ≡ n.numbers → AreKnown n' e'
-knowns-spots n n' e e' K q m = record {
+pub knowns-spots : (n n' : Numbering) (e e' : Entered) → AreKnown n e → ((k : ℕ) → spot_at e' k ≡ spot_at e k) → n'.numbers ≡ n.numbers → n'.given ≤ e'.callees → AreKnown n' e'
+knowns-spots n n' e e' K q m f = record {
+  callees = f;
   upper = λ k s h. subst (λ ns. IsKnown ns s.pattern.upper) (sym m) (K.upper k s (sym (q k) ∙ h));
   lower = λ k s h. subst (λ ns. IsKnown ns s.pattern.lower) (sym m) (K.lower k s (sym (q k) ∙ h));
   small = λ k s h. K.small k s (sym (q k) ∙ h);
 }
 
+-- and more numbers neither
+pub knowns-room : (n : Numbering) (e e' : Entered) → AreKnown n e → e'.spots ≡ e.spots → e.callees ≤ e'.callees → AreKnown n e'
+knowns-room n e e' K q f = knowns-spots n n e e' K (λ (k : ℕ). ap (λ (ss : List (Option Spot)). get_or ss k None) q) refl (let c = K.callees in omega arith)
+
 -- one occurrence more
 pub knowns-added : (n : Numbering) (e e' : Entered) (j u : ℕ) (p : Pattern) → AreKnown n e → spot_at e' j ≡ Some (record { pattern = p; upper = u }) → ((k : ℕ) → k ≢ j → spot_at e' k ≡ spot_at e k)
-    → IsKnown n.numbers p.upper → IsKnown n.numbers p.lower → p.rank < 16 → AreKnown n e'
-knowns-added n e e' j u p K here others ku kl kr = record {
+    → IsKnown n.numbers p.upper → IsKnown n.numbers p.lower → p.rank < 16 → e.callees ≤ e'.callees → AreKnown n e'
+knowns-added n e e' j u p K here others ku kl kr f = record {
+  callees = let c = K.callees in omega arith;
   upper = λ k s h. (all k s h (cases_eq k j)).0;
   lower = λ k s h. (all k s h (cases_eq k j)).1;
   small = λ k s h. (all k s h (cases_eq k j)).2;

@@ -50,10 +50,14 @@ drop-front [] ys (suc k) e = absurd (omega (arith, e))
 drop-front (x ∷ xs) ys zero e = absurd (omega (arith, e))
 drop-front (x ∷ xs) ys (suc k) e = drop-front xs ys k (omega (arith, e))
 
-length-drop-item : (xs : List Node) (i : ℕ) (x : Node) → slice_get xs i ≡ Some x → i + 1 ≤ length xs
+pub length-drop-item : (xs : List Node) (i : ℕ) (x : Node) → slice_get xs i ≡ Some x → i + 1 ≤ length xs
 length-drop-item [] i x e = absurd (let z : None ≡ Some x = e in cc)
 length-drop-item (y ∷ xs) zero x e = omega arith
 length-drop-item (y ∷ xs) (suc i) x e = omega (arith, length-drop-item xs i x e)
+
+-- a number is that of a node that the walk has still to meet
+abbrev pub IsAhead : (g : Keyed) (I : Linked) (q : ℕ) (model copy : Option Key) → IsCopyLinked g I q model copy → ℕ → Type 0
+IsAhead g I q model copy W n = (t : ℕ) × ((key : Key) × (Meets (drop W.at (nodes_at g.rules q)) W.given t × ((key_at g.rules W.rule (W.place + t) ≡ Some key) × (key.number ≡ n))))
 
 -- a walk over a body and its copy
 pub record IsWalking (g : Keyed) (q : ℕ) (old new : Linked) (model copy : Option Key) (begin now : ℕ) : Type 0 where
@@ -116,6 +120,12 @@ module _ (g : Keyed) (K : IsKeyed g) (q : ℕ) where
       pub copy-stands : Stands g.rules key
       copy-stands = record { rule = W.rule; place = W.place; there = copy-there }
 
+      -- it is the first that is ahead
+      pub ahead-here : IsAhead g I q (Some node) copy W key.number
+      ahead-here =
+          let z : W.place + 0 ≡ W.place = omega arith in
+          (0, (key, (subst (λ (xs : List Node). Meets xs W.given 0) (sym from) (inl refl), (ap (λ (j : ℕ). key_at g.rules W.rule j) z ∙ copy-there, refl))))
+
       -- the next one that came
       module _ (next : Option Key) (is_argument : label ≡ Param → (r p : ℕ) → key_at g.rules r p ≡ Some key → key_at g.rules r (end_of (nodes_at g.rules r) p) ≡ next)
           (is_node : label ≢ Param → (r p : ℕ) → key_at g.rules r p ≡ Some key → key_at g.rules r (p + 1) ≡ next) where
@@ -163,6 +173,27 @@ module _ (g : Keyed) (K : IsKeyed g) (q : ℕ) where
           part = part;
           todo = λ k S. todo k S (W.todo k S);
         }
+
+        pub at-next : copy-next.at ≡ W.at + 1
+        unfolding copy-next
+        at-next = refl
+
+        -- what is ahead is the node, or ahead of the next one
+        pub ahead-next : (m : ℕ) → IsAhead g I q (Some node) copy W m → (m ≡ key.number) ⊎ IsAhead g J q model next copy-next m
+        unfolding copy-next
+        ahead-next m (t, (k, (M, (e, z)))) = by (subst (λ (xs : List Node). Meets xs W.given t) from M)
+          where
+            by : Meets (n ∷ ns) W.given t → (m ≡ key.number) ⊎ IsAhead g J q model next copy-next m
+            by (inl y) =
+                let w : key ≡ k = same_some key k (sym copy-there ∙ ap (λ (j : ℕ). key_at g.rules W.rule j) (omega (arith, y)) ∙ e) in
+                inl (sym z ∙ ap (λ (x : Key). x.number) (sym w))
+            by (inr (u, (y, N))) = inr (u, (k, (N, (ap (λ (j : ℕ). key_at g.rules W.rule j) (omega (arith, y)) ∙ e, z))))
+
+        pub ahead-still : (m : ℕ) → IsAhead g J q model next copy-next m → IsAhead g I q (Some node) copy W m
+        unfolding copy-next
+        ahead-still m (u, (k, (N, (e, z)))) =
+            let t : ℕ = width label W.given + u in
+            (t, (k, (subst (λ (xs : List Node). Meets xs W.given t) (sym from) (inr (u, (refl, N))), (ap (λ (j : ℕ). key_at g.rules W.rule j) (omega arith) ∙ e, z))))
 
         pub walking-next : (old : Linked) (begin now then : ℕ) → length old.cells ≤ length I.cells → old.spare_links ≤ I.spare_links + W.at → now ≡ begin + (W.at + W.at)
             → length I.cells ≤ length J.cells → I.spare_links ≤ J.spare_links + 1 → I.spare_rules ≡ old.spare_rules → J.spare_rules ≡ I.spare_rules → then ≡ now + 1 + 1 → IsWalking g q old J model next begin then

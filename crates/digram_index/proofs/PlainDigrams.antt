@@ -258,10 +258,10 @@ pub two-of-three : (G : List Rule) (d : Digram) → HasThreeDisjoint G d → Has
 two-of-three G d H = record { first = H.first; second = H.second; occurs_first = H.occurs_first; occurs_second = H.occurs_second; first_second = H.first_second }
 
 -- what is said of an answer in other words
-pub some-then : (P Q : Digram → Type 0) (o : Option Digram) → ((d : Digram) → P d → Q d) → IfSome o P → IfSome o Q
+pub some-then : {T : Type 0} (P Q : T → Type 0) (o : Option T) → ((d : T) → P d → Q d) → IfSome o P → IfSome o Q
 some-then P Q None f h = tt
 some-then P Q (Some d) f h = f d h
 
-pub none-then : (P Q : Type 0) (o : Option Digram) → (P → Q) → IfNone o P → IfNone o Q
+pub none-then : {T : Type 0} (P Q : Type 0) (o : Option T) → (P → Q) → IfNone o P → IfNone o Q
 none-then P Q None f h = f h
 none-then P Q (Some d) f h = tt

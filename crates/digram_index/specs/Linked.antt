@@ -1,6 +1,6 @@
 -- What contracts see of an index, and how it is kept.
 use Rattle.slt_grammar.specs.contracts.digram.DigramPartialEq.TheImpl as eqs
-use Rattle.std.specs.Prelude.{◌≡◌, ◌≢◌, ◌<◌, ◌+◌, if◌then◌else◌, ℕ, List, [], ◌∷◌, length, get_or, Option, Some, None}
+use Rattle.std.specs.Prelude.{◌≡◌, ◌≢◌, ◌<◌, ◌≤◌, ◌+◌, if◌then◌else◌, ℕ, List, [], ◌∷◌, length, get_or, Option, Some, None}
 use Rattle.rule_arena.specs.declared.key.Key.{Key}
 use Rattle.rule_arena.specs.declared.label.Label.{Label}
 use Rattle.rule_arena.specs.declared.label.Label.TheVariants.{Bottom, Symbol, Call, Param}
@@ -25,6 +25,10 @@ pub record Linked : Type 0 where
 
 abbrev pub cell : Linked → ℕ → Option Cell
 cell I k = get_or I.cells k None
+
+-- the node with a number is the lower one of a linked occurrence there, and calls the rule
+abbrev pub IsCallLinked : Linked → ℕ → ℕ → Type 0
+IsCallLinked I rule k = (o : Cell) × ((cell I k ≡ Some o) × (o.digram.lower ≡ Call rule))
 
 -- how many cells have the digram
 abbrev pub cell_count : Digram → List (Option Cell) → ℕ
@@ -58,8 +62,9 @@ abbrev pub cell_of : List ℕ → Option Spot → Option Cell
 cell_of ns None = None
 cell_of ns (Some s) = Some (record { digram = digram_of ns s.pattern; rank = s.pattern.rank; upper = s.upper })
 
--- the calls of linked digrams are of rules that the index knows
+-- the calls of linked digrams are of rules that the index knows, and each number that was given may be called
 pub record AreKnown (n : Numbering) (e : Entered) : Type 0 where
+  pub callees : n.given ≤ e.callees
   pub upper : (k : ℕ) (s : Spot) → spot_at e k ≡ Some s → IsKnown n.numbers s.pattern.upper
   pub lower : (k : ℕ) (s : Spot) → spot_at e k ≡ Some s → IsKnown n.numbers s.pattern.lower
   pub small : (k : ℕ) (s : Spot) → spot_at e k ≡ Some s → s.pattern.rank < 16

@@ -27,6 +27,7 @@ pub fn build(alloc: Global, grammar: &Grammar) -> Result<Index, AllocError>
     let mut index = Index::new(alloc, grammar.rules())?;
     index.reserve(grammar, grammar.limit().min(FIRST_ROOM), 0)?;
     link_all(&mut index, grammar)?;
+    index.forget_touched();
     Ok(index)
 }
 

@@ -49,7 +49,7 @@ pub(crate) fn link_copy<L: Ledger>(
 
 // The next node that came, behind the one in the place of a node with this label, where there is more of the body. Where there is not,
 // a look for it would climb as far as the rule is high.
-fn next_of_copy(grammar: &Grammar, here: Key, label: Label, more: bool) -> Option<Key>
+pub(crate) fn next_of_copy(grammar: &Grammar, here: Key, label: Label, more: bool) -> Option<Key>
     requires { (r : ℕ) × (p : ℕ) × (key_at grammar.now.rules r p ≡ Some here) }
     ensures argument { more ≡ true → label ≡ Param → (r p : ℕ) → key_at grammar.now.rules r p ≡ Some here → key_at grammar.now.rules r (end_of (nodes_at grammar.now.rules r) p) ≡ result }
     ensures node { more ≡ true → label ≢ Param → (r p : ℕ) → key_at grammar.now.rules r p ≡ Some here → key_at grammar.now.rules r (p + 1) ≡ result }

@@ -4,28 +4,31 @@ ghost use Rattle.slt_grammar.specs.Algebras.{ranks_of};
 ghost use Rattle.slt_grammar.specs.Keyed.{rules_of};
 ghost use Rattle.slt_grammar.specs.Names.{Call};
 ghost use Rattle.digram_index.specs.Linked.{label_of, IsKnown};
+ghost use Rattle.digram_index.specs.declared.patterns.Mark.TheVariants.{Call as CallMark};
 ghost use Rattle.rule_arena.specs.declared.key.Key.{Key};
 ghost use Rattle.digram_index.specs.Digrams.{Cell, OccursAt, joint_rank};
 
 use crate::entries::Entries;
-use crate::nodes::arity_of;
 use crate::numbers::Numbers;
+use crate::occurrence::{rank_of, read};
 use crate::patterns::{Mark, Pattern};
-use read_steps::Steps;
+use crate::touched::Touched;
 use slt_grammar::{Digram, Grammar, Key, Label};
 use std::alloc::{AllocError, Global};
 use std::marker::{Brand, Model};
-use std::sync::ledger::{Blank, Ledger};
+use std::sync::ledger::Blank;
 
 /// The occurrences of the digrams of a grammar.
 #[derive(Drop)]
 pub struct Index {
     numbers: Numbers,
-    entries: Entries,
+    pub(crate) entries: Entries,
+    // A hint, of which the model doesn't speak.
+    pub(crate) touched: Touched,
 }
 
 impl Model for Index {
-    ghost use Rattle.std.specs.Prelude.{length, map};
+    ghost use Rattle.std.specs.Prelude.{◌-◌, length, map, min};
     ghost use Rattle.digram_index.specs.Linked.{Linked};
 
     ghost Value = { Linked };
@@ -36,10 +39,19 @@ impl Model for Index {
       rules = length a.numbers.numbers;
       cells = map (cell_of a.numbers.numbers) a.entries.spots;
       spare_links = a.entries.spare;
-      spare_rules = a.numbers.spare;
+      spare_rules = min a.numbers.spare (a.entries.callees - a.numbers.given);
     } };
 
     ghost invariant = { λ a. AreKnown a.numbers a.entries };
+}
+
+/// A call that was found.
+#[derive(Clone, Copy, Drop)]
+pub struct FoundCall {
+    /// the call
+    pub key: Key,
+    /// where the search for the next one goes on
+    pub hint: usize,
 }
 
 impl Index {
@@ -48,7 +60,7 @@ impl Index {
     ghost use Rattle.slt_grammar.specs.declared.digram.Digram.{Digram};
     ghost use Rattle.digram_index.specs.Frequency.{IsMostFrequent};
     ghost use Rattle.digram_index.specs.Keeping.{AreOccurrences};
-    ghost use Rattle.digram_index.specs.Linked.{IsIndexOf, cell, cell_count, shifted_cell, unshifted_cell, Lacks};
+    ghost use Rattle.digram_index.specs.Linked.{IsCallLinked, IsIndexOf, cell, cell_count, shifted_cell, unshifted_cell, Lacks};
     ghost use Rattle.digram_index.specs.Settled.{HasApart, HasTwoDisjoint, IsWithin};
 
     /// An index in which nothing is linked.
@@ -57,8 +69,14 @@ impl Index {
         ensures cells { IfOk result (λ a. a.cells ≡ []) }
     {
         let numbers = Numbers::new(alloc, rules)?;
-        let entries = Entries::new(alloc)?;
-        Ok(Index { numbers, entries })
+        let mut entries = Entries::new(alloc)?;
+        entries.reserve_callees(numbers.given(), 0)?;
+        let touched = Touched::new(alloc)?;
+        Ok(Index {
+            numbers,
+            entries,
+            touched,
+        })
     }
 
     /// Makes room for more occurrences of nodes whose numbers are below the grammar's limit, and for more rules.
@@ -75,6 +93,7 @@ impl Index {
         ensures room { OnOk result ((grammar.now.limit ≤ length self.new.cells) × (more ≤ self.new.spare_links) × (rules ≤ self.new.spare_rules)) }
     {
         self.numbers.reserve(rules)?;
+        self.entries.reserve_callees(self.numbers.given(), rules)?;
         self.entries.reserve(more)?;
         self.entries.extend(grammar.limit())
     }
@@ -115,6 +134,7 @@ impl Index {
         let _limit = grammar.limit();
         let reading = read::<Brand>(grammar, lower, Blank::new(1));
         self.enter(lower.number(), reading.upper, reading.digram, reading.rank);
+        self.note_touched(lower);
     }
 
     /// Whether a node is the lower node of a linked occurrence.
@@ -122,6 +142,12 @@ impl Index {
         ensures { MatchBool result (cell self.now lower.number ≢ None) (cell self.now lower.number ≡ None) }
     {
         self.entries.at(lower.number()).is_some()
+    }
+
+    /// Whether more rules came and went since the index was made than this. Their numbers and digrams are kept, so that it is time to make
+    /// it anew, which no clause tells.
+    pub fn is_worn(&self, most: usize) -> bool {
+        self.numbers.given().saturating_sub(self.numbers.len()) > most
     }
 
     /// How many occurrences of a digram there are.
@@ -168,6 +194,25 @@ impl Index {
         };
         match self.entries.first(pattern) {
             Some(number) => Some(Key::of(number)),
+            None => None,
+        }
+    }
+
+    /// The lower node of a linked occurrence that calls a rule there, and none exactly where none is linked. A call that is a rule's root
+    /// is no lower node. The search goes on from `hint`, which an earlier one gave, or begins anew with 0: of many calls of a rule that are
+    /// unlinked in turn each is found at once, which no clause tells of.
+    pub fn call_of(&self, rule: usize, hint: usize) -> Option<FoundCall>
+        requires { rule < self.now.rules }
+        ensures some { IfSome result (λ found. IsCallLinked self.now rule found.key.number) }
+        ensures none { IfNone result ((k : ℕ) → IsCallLinked self.now rule k → ⊥) }
+    {
+        // The call tells that the numbers of lower nodes are small.
+        let _len = self.entries.len();
+        match self.entries.call(self.numbers.number(rule), hint) {
+            Some((lower, entry)) => Some(FoundCall {
+                key: Key::of(lower),
+                hint: entry,
+            }),
             None => None,
         }
     }
@@ -294,6 +339,7 @@ impl Index {
         ensures spare { (self.old.spare_rules ≤ self.new.spare_rules + 1) × (self.new.spare_links ≡ self.old.spare_links) }
         ensures succeeds { 0 < self.old.spare_rules → IsOk result }
     {
+        self.entries.reserve_callees(self.numbers.given(), 1)?;
         self.numbers.insert(place)
     }
 
@@ -338,56 +384,12 @@ fn mark_of(numbers: &Numbers, label: Label) -> Mark
     requires { (q : ℕ) → label ≡ Call q → q < length numbers.now.numbers }
     ensures label { label_of numbers.now.numbers result ≡ label }
     ensures known { IsKnown numbers.now.numbers result }
+    ensures below { (n : ℕ) → result ≡ CallMark n → n < numbers.now.given }
 {
     match label {
         Label::Bottom => Mark::Bottom,
         Label::Symbol(symbol) => Mark::Symbol(symbol),
         Label::Call(rule) => Mark::Call(numbers.number(rule)),
         Label::Param => Mark::Param,
-    }
-}
-
-// An occurrence as it is read from the grammar.
-#[derive(Clone, Copy, Drop)]
-struct Reading {
-    digram: Digram,
-    rank: usize,
-    upper: Key,
-}
-
-// The rank of a digram.
-fn rank_of(grammar: &Grammar, digram: Digram) -> usize
-    ensures { result ≡ joint_rank (ranks_of (rules_of grammar.now.rules)) digram.upper digram.lower }
-{
-    (arity_of(grammar, digram.upper) + arity_of(grammar, digram.lower)).saturating_sub(1)
-}
-
-// Reads the occurrence of a lower node.
-fn read<L: Ledger>(grammar: &Grammar, lower: Key, blank: Blank) -> Reading
-    requires occurs { (o : Cell) × OccursAt grammar.now.rules lower o }
-    requires name { blank.name ≡ L.name }
-    requires parts { blank.parts ≡ L.parts }
-    requires some { 0 < blank.parts }
-    ensures told { (o : Cell) → OccursAt grammar.now.rules lower o → o ≡ record { digram = result.digram; rank = result.rank; upper = result.upper.number } }
-    ensures upper { (q : ℕ) → result.digram.upper ≡ Call q → q < length grammar.now.rules }
-    ensures lower { (q : ℕ) → result.digram.lower ≡ Call q → q < length grammar.now.rules }
-    ensures small { result.rank < 16 }
-    ensures place { result.digram.place ≤ 8 }
-{
-    let _rules = grammar.rules();
-    let _limit = grammar.limit();
-    let mut steps: Steps<L> = Steps::new(blank);
-    let low = grammar.site(lower, &mut steps);
-    let (high, place) = low.parent.unwrap();
-    let up = grammar.site(high, &mut steps);
-    let rank = (arity_of(grammar, up.label) + arity_of(grammar, low.label)).saturating_sub(1);
-    Reading {
-        digram: Digram {
-            upper: up.label,
-            place,
-            lower: low.label,
-        },
-        rank,
-        upper: high,
     }
 }

@@ -1,4 +1,4 @@
-use Rattle.std.proofs.Common.{ℕ, List, get_or, Option, None, refl, ap, sym, ◌∙◌}
+use Rattle.std.proofs.Common.{ℕ, List, get_or, Option, None, refl, ap, sym, ◌∙◌, arith}
 use Rattle.digram_index.specs.Linked.{cell_of}
 use Rattle.digram_index.specs.Spots.{Spot}
 use Rattle.digram_index.proofs.CellLemmas.{cell-at, knowns-spots}
@@ -12,4 +12,4 @@ returns-clause-cells c = rw (← c.self.view_is) (λ k.
 
 pub invariant_of-self : goal.invariant_of-self
 invariant_of-self c =
-    knowns-spots c.self.inside.numbers c.self.inside.numbers c.self.inside.entries c.reserve.new.self c.self.invariant (λ (k : ℕ). ap (λ (ss : List (Option Spot)). get_or ss k None) c.reserve.ensures.spots) refl
+    knowns-spots c.self.inside.numbers c.self.inside.numbers c.self.inside.entries c.reserve.new.self c.self.invariant (λ (k : ℕ). ap (λ (ss : List (Option Spot)). get_or ss k None) c.reserve.ensures.spots) refl (let k = c.self.invariant.callees in let e = c.reserve.ensures.callees in omega arith)

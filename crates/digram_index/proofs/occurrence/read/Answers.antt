@@ -6,7 +6,7 @@ use Rattle.slt_grammar.specs.Algebras.{ranks_of}
 use Rattle.slt_grammar.specs.Keyed.{rules_of}
 use Rattle.digram_index.specs.Digrams.{joint_rank}
 use Rattle.digram_index.proofs.Readings.{reads, call-there, up-key, up-pair, up-label, place-few}
-use Rattle.digram_index.proofs.index.read.Goals as goal
+use Rattle.digram_index.proofs.occurrence.read.Goals as goal
 
 pub new-steps-requires-clause-name : goal.new-steps-requires-clause-name
 new-steps-requires-clause-name g c = c.requires.name

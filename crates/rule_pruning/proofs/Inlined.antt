@@ -1,6 +1,5 @@
--- One call that gave way to a copy of its rule's body: which calls stay, and what is counted.
-use Rattle.std.proofs.Common.{◌≡◌, ◌≢◌, inl, inr, ℕ, ◌+◌, Bool, List, [], ◌∷◌, slice_get, refl, sym, ap, ◌∙◌, subst, arith}
-use Rattle.std.proofs.lemmas.Bool.{cases_eq}
+-- One call that gave way to a copy of its rule's body: what is counted.
+use Rattle.std.proofs.Common.{◌≡◌, ◌≢◌, ℕ, ◌+◌, Bool, List, [], ◌∷◌, refl, sym, ap, arith}
 use Rattle.rule_arena.specs.Terms.{Node}
 use Rattle.rule_arena.specs.declared.key.Key.{Key}
 use Rattle.rule_arena.specs.declared.label.Label.{Label}
@@ -11,15 +10,14 @@ use Rattle.slt_grammar.specs.Grammars.{body_at, calls_of}
 use Rattle.slt_grammar.specs.Keyed.{KeyedRule, labels_of, nodes_at, rules_of}
 use Rattle.slt_grammar.specs.KeyedEdits.{StandsAsCall, with_nodes}
 use Rattle.slt_grammar.proofs.InlinedRules.{inlined-weighs}
-use Rattle.slt_grammar.proofs.KeyedEdits.{nodes-with_nodes, rules-with_nodes}
+use Rattle.slt_grammar.proofs.KeyedEdits.{rules-with_nodes}
 use Rattle.slt_grammar.proofs.KeyedLemmas.{body_at-rules_of, length-rules_of}
 use Rattle.slt_grammar.proofs.Weights.{weigh, call_weight, calls-weigh, total, calls-total, total-with_body}
 use Rattle.slt_grammar.specs.Keyed.{Keyed, IsKeyed}
 use Rattle.slt_grammar.proofs.Removals.{calls-past}
 use Rattle.std.proofs.lemmas.Bool.{eq-eqb, ne_eqb}
 use Rattle.std.specs.Prelude.{if◌then◌else◌}
-use Rattle.digram_index.proofs.Inlined.{Has, L, callee-before, nodes-after, stays, there-in}
-use Rattle.rule_pruning.specs.Calls.{StandsAsCallOf}
+use Rattle.digram_index.proofs.Inlined.{L, callee-before, there-in}
 
 -- the calls of one label
 call-one : (q : ℕ) → calls_in q (Call q ∷ []) ≡ 1
@@ -34,21 +32,6 @@ module _ (g : Keyed) (K : IsKeyed g) (call : Key) (C : StandsAsCall g.rules call
 
   abbrev H : List KeyedRule
   H = with_nodes g.rules C.here.rule (inlined_nodes (nodes_at g.rules C.here.rule) C.here.place (nodes_at g.rules C.called) keys)
-
-  pub stands-after : (t : ℕ) (key : Key) → key ≢ call → StandsAsCallOf g.rules t key → StandsAsCallOf H t key
-  stands-after t key d S = elim (cases_eq S.rule C.here.rule) [
-    | inl e ↦
-        let h = stays g K call C keys S.node (subst (λ (i : ℕ). Has (nodes_at g.rules i) S.node) e (S.place, S.there)) (λ z. d (sym S.named ∙ z)) in
-        record {
-          rule = C.here.rule;
-          place = h.0;
-          node = S.node;
-          there = ap (λ (ns : List Node). slice_get ns h.0) (nodes-with_nodes g.rules C.here.rule ms (there-in g K call C keys)) ∙ h.1;
-          named = S.named;
-          label = S.label;
-        }
-    | inr n ↦ record { rule = S.rule; place = S.place; node = S.node; there = ap (λ (ns : List Node). slice_get ns S.place) (nodes-after g K call C keys S.rule n) ∙ S.there; named = S.named; label = S.label }
-  ]
 
   -- what is counted
   pub calls-after : (t : ℕ) → calls_of (rules_of H) t + calls_in t (Call C.called ∷ []) ≡ calls_of (rules_of g.rules) t + calls_in t (body_at (rules_of g.rules) C.called)

@@ -1,5 +1,5 @@
 -- What rules save.
-use Rattle.std.proofs.Common.{◌≡◌, ℕ, zero, suc, ◌+◌, ◌-◌, ◌*◌, ◌<◌, ◌≤◌, ◌^◌, List, [], ◌∷◌, length, refl, sym, ap, subst, arith}
+use Rattle.std.proofs.Common.{◌≡◌, ℕ, zero, suc, ◌+◌, ◌-◌, ◌*◌, ◌<◌, ◌≤◌, ◌^◌, List, [], ◌∷◌, length, sym, ap, subst, arith}
 use Rattle.std.proofs.lemmas.List.{length-map}
 use Rattle.rule_arena.specs.Terms.{Node}
 use Rattle.rule_arena.specs.declared.label.Label.{Label}
@@ -9,12 +9,8 @@ use Rattle.slt_grammar.specs.Grammars.{body_at, rank_at}
 use Rattle.slt_grammar.specs.Keyed.{Keyed, IsKeyed, nodes_at, rules_of}
 use Rattle.slt_grammar.proofs.CallCounts.{nodes-room, real_nodes-are}
 use Rattle.slt_grammar.proofs.KeyedLemmas.{body_at-rules_of, length-rules_of}
-use Rattle.std.specs.Prelude.{ℤ, pos, ◌*ℤ◌, ◌-ℤ◌, ◌≤ℤ◌, FitsSigned, unsigned_abs, int_lt, ◌↔◌, Bool, true, false, MatchBool}
+use Rattle.std.specs.Prelude.{ℤ, pos, ◌*ℤ◌, ◌-ℤ◌, FitsSigned, unsigned_abs, Bool, true, false, MatchBool}
 use Rattle.std.proofs.lemmas.Int.{ints, fits_signed_mul}
-use Rattle.slt_grammar.specs.Digrams.{Saves}
-use Rattle.slt_grammar.specs.Grammars.{calls_of}
-use Rattle.slt_grammar.specs.declared.rules.Rule.{Rule}
-use Rattle.rule_pruning.specs.Saving.{saving_of}
 use Rattle.std.specs.Int.{w128}
 
 pub real-cons : (l : Label) (ls : List Label) → real_nodes (l ∷ ls) ≡ real_nodes (l ∷ []) + real_nodes ls
@@ -64,29 +60,30 @@ saving-fits r (suc n) h k =
     fits : (m b : ℕ) → FitsSigned w128 (pos m) → b < 2 ^ 63 → FitsSigned w128 (pos m -ℤ pos b)
     fits m b f k = omega (arith, ints, f)
 
--- a rule saves nodes exactly where its saving is at least 1
-saves-one : (c s : ℕ) → (s < c * (s - 1)) ↔ (pos 1 ≤ℤ ((pos c *ℤ (pos s -ℤ pos 1)) -ℤ pos s))
-saves-one c zero = (λ h. absurd (omega (arith, h)), λ h. absurd (omega (arith, ints, h)))
-saves-one c (suc n) =
-    let e : suc n - 1 ≡ n = omega arith in
-    subst (λ (z : ℤ). (suc n < c * (suc n - 1)) ↔ (pos 1 ≤ℤ ((pos c *ℤ z) -ℤ pos (suc n)))) (sym (one-less n))
-    (subst (λ (m : ℕ). (suc n < c * m) ↔ (pos 1 ≤ℤ (pos (c * n) -ℤ pos (suc n)))) (sym e) (both (c * n) (suc n)))
+-- where more calls save more
+pub saves-more : (c d s : ℕ) → c ≤ d → s < c * (s - 1) → s < d * (s - 1)
+saves-more c d s h k = let m = rises c d (s - 1) h in omega (arith, m, k)
   where
-    both : (m b : ℕ) → (b < m) ↔ (pos 1 ≤ℤ (pos m -ℤ pos b))
-    both m b = (λ h. omega (arith, ints, h), λ h. omega (arith, ints, h))
+    rises : (a b x : ℕ) → a ≤ b → a * x ≤ b * x
+    rises a b x h = let e : b ≡ a + (b - a) = omega (arith, h) in subst (λ (y : ℕ). a * x ≤ y * x) (sym e) (omega arith)
 
-pub saves-saving : (G : List Rule) (r : ℕ) → Saves G r ↔ (pos 1 ≤ℤ saving_of G r)
-saves-saving G r = saves-one (calls_of G r) (real_nodes (body_at G r))
+-- a rule that is called once at most saves nothing
+pub once-saves-none : (c s : ℕ) → c < 2 → s < c * (s - 1) → ⊥
+once-saves-none zero s l h = omega (arith, h)
+once-saves-none (suc zero) s l h = omega (arith, h)
+once-saves-none (suc (suc c)) s l h = omega (arith, l)
 
-pub tells-saves : (G : List Rule) (r : ℕ) (z : ℤ) → z ≡ saving_of G r → MatchBool (int_lt (pos 0) z) (Saves G r) (Saves G r → ⊥)
-tells-saves G r z e = at (int_lt (pos 0) z) refl
-  where
-    at : (b : Bool) → int_lt (pos 0) z ≡ b → MatchBool b (Saves G r) (Saves G r → ⊥)
-    at true h = (saves-saving G r).1 (subst (λ (y : ℤ). pos 1 ≤ℤ y) e (above h))
-      where
-        above : int_lt (pos 0) z ≡ true → pos 1 ≤ℤ z
-        above h = grind (arith, ints)
-    at false h = λ s. below h (subst (λ (y : ℤ). pos 1 ≤ℤ y) (sym e) ((saves-saving G r).0 s))
-      where
-        below : int_lt (pos 0) z ≡ false → pos 1 ≤ℤ z → ⊥
-        below h l = grind (arith, ints)
+single-saves-none : (c s : ℕ) → s < 2 → s < c * (s - 1) → ⊥
+single-saves-none c zero h l = omega (arith, l)
+single-saves-none c (suc zero) h l = omega (arith, l)
+single-saves-none c (suc (suc s)) h l = omega (arith, h)
+
+-- with two calls a body of three nodes saves some
+pub twice-told : (b : Bool) (c s : ℕ) → c ≡ 2 → MatchBool b (3 ≤ s) (s < 3) → MatchBool b (s < c * (s - 1)) (s < c * (s - 1) → ⊥)
+twice-told true c s e h = subst (λ (x : ℕ). s < x * (s - 1)) (sym e) (omega (arith, h))
+twice-told false c s e h = λ l. let k : s < 2 * (s - 1) = subst (λ (x : ℕ). s < x * (s - 1)) e l in omega (arith, h, k)
+
+-- with more calls one of two nodes does
+pub often-told : (b : Bool) (c s : ℕ) → 3 ≤ c → MatchBool b (2 ≤ s) (s < 2) → MatchBool b (s < c * (s - 1)) (s < c * (s - 1) → ⊥)
+often-told true c s k h = saves-more 3 c s k (omega (arith, h))
+often-told false c s k h = single-saves-none c s h

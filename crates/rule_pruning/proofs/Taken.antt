@@ -1,12 +1,9 @@
 -- A rule whose calls were inlined is dropped.
-use Rattle.std.proofs.Common.{◌≡◌, ◌≢◌, inl, inr, ℕ, zero, suc, ◌+◌, ◌-◌, ◌*◌, ◌<◌, ◌≤◌, List, [], ◌∷◌, length, map, remove, slice_get, refl, sym, ap, ◌∙◌, subst, arith}
+use Rattle.std.proofs.Common.{◌≡◌, ◌≢◌, inl, inr, ℕ, zero, suc, ◌+◌, ◌-◌, ◌*◌, ◌<◌, ◌≤◌, List, [], ◌∷◌, length, map, remove, refl, sym, ap, ◌∙◌, subst, arith}
 use Rattle.std.proofs.Math.ListN.{get_or-map}
 use Rattle.std.proofs.lemmas.Bool.{cases_lt}
 use Rattle.std.proofs.lemmas.List.{length-map}
-use Rattle.std.proofs.lemmas.Option.{slice_get-map}
-use Rattle.std.specs.Option.{option_map}
 use Rattle.rule_arena.specs.Terms.{Node}
-use Rattle.rule_arena.specs.declared.key.Key.{Key}
 use Rattle.rule_arena.specs.declared.label.Label.{Label}
 use Rattle.rule_arena.specs.declared.label.Label.TheVariants.{Bottom, Symbol, Call, Param}
 use Rattle.slt_grammar.specs.Algebras.{ranks_of}
@@ -16,7 +13,7 @@ use Rattle.slt_grammar.specs.Editing.{shifted}
 use Rattle.slt_grammar.specs.Grammars.{IsSwept, body_at, calls_of, size, value, value_at}
 use Rattle.slt_grammar.specs.Keyed.{Keyed, KeyedRule, IsKeyed, labels_of, nodes_at, rules_of}
 use Rattle.slt_grammar.specs.KeyedEdits.{rule_dropped, unshifted_keyed}
-use Rattle.slt_grammar.specs.Placing.{unshifted, unshifted_node}
+use Rattle.slt_grammar.specs.Placing.{unshifted_node}
 use Rattle.slt_grammar.specs.Ranks.{greatest_rank}
 use Rattle.slt_grammar.specs.declared.rules.Rule.{Rule}
 use Rattle.slt_grammar.proofs.Keeping.{shifted-before, shifted-behind}
@@ -24,9 +21,7 @@ use Rattle.slt_grammar.proofs.KeyedLemmas.{body_at-rules_of, length-rules_of}
 use Rattle.slt_grammar.proofs.KeyedRemovals.{rules-dropped}
 use Rattle.slt_grammar.proofs.RankBounds.{rank-dropped, rank-same}
 use Rattle.slt_grammar.proofs.Removals.{calls-past, calls-removed, get-left, length-left}
-use Rattle.rule_pruning.specs.Calls.{AreCallsOf, StandsAsCallOf}
-use Rattle.rule_pruning.proofs.InlineCalls.{as-call}
-use Rattle.digram_index.proofs.Inlined.{callee-before}
+use Rattle.rule_pruning.proofs.SavingLemmas.{saves-more}
 
 -- all n calls of a rule were inlined
 pub record AreInlined (F G : List KeyedRule) (q n : ℕ) : Type 0 where
@@ -35,15 +30,8 @@ pub record AreInlined (F G : List KeyedRule) (q n : ℕ) : Type 0 where
   pub uncalled : calls_of (rules_of G) q ≡ 0
   pub before : (r : ℕ) → r ≤ q → nodes_at G r ≡ nodes_at F r
   pub called : (t : ℕ) → t ≢ q → calls_of (rules_of G) t ≡ calls_of (rules_of F) t + n * calls_in t (body_at (rules_of F) q)
-  pub kept : (t : ℕ) (key : Key) → t ≢ q → StandsAsCallOf F t key → StandsAsCallOf G t key
   pub values : (r : ℕ) → value_at (rules_of G) r ≡ value_at (rules_of F) r
   pub size : size (rules_of G) + n ≡ size (rules_of F) + n * real_nodes (body_at (rules_of F) q)
-
--- a later rule's place
-unshifted-behind : (q t : ℕ) → q ≤ t → unshifted q (suc t) ≡ t
-unshifted-behind zero t h = omega arith
-unshifted-behind (suc q) zero h = absurd (omega (arith, h))
-unshifted-behind (suc q) (suc t) h = ap suc (unshifted-behind q t (omega (arith, h)))
 
 real-unshifted : (q : ℕ) (ns : List Node) → real_nodes (labels_of (map (unshifted_node q) ns)) ≡ real_nodes (labels_of ns)
 real-unshifted q [] = refl
@@ -55,13 +43,6 @@ real-unshifted q (n ∷ ns) = at n.label (real-unshifted q ns)
     at (Symbol f) e = ap suc e
     at (Call c) e = ap suc e
     at Param e = e
-
--- where more calls save more
-saves-more : (c d s : ℕ) → c ≤ d → s < c * (s - 1) → s < d * (s - 1)
-saves-more c d s h k = let m = rises c d (s - 1) h in omega (arith, m, k)
-  where
-    rises : (a b x : ℕ) → a ≤ b → a * x ≤ b * x
-    rises a b x h = let e : b ≡ a + (b - a) = omega (arith, h) in subst (λ (y : ℕ). a * x ≤ y * x) (sym e) (omega arith)
 
 -- a rule that saves nothing brings no nodes
 brings-none : (n s : ℕ) → (s < n * (s - 1) → ⊥) → n * s ≤ n + s
@@ -150,34 +131,6 @@ module _ (F : List KeyedRule) (g : Keyed) (K : IsKeyed g) (q n : ℕ) (I : AreIn
       omega-length : length (rules_of H) ≡ length H
       omega-length = length-rules_of H
 
-  stands-taken : (t : ℕ) (key : Key) → q ≤ t → StandsAsCallOf g.rules (suc t) key → StandsAsCallOf H t key
-  stands-taken t key l S =
-      at S.rule refl (callee-before g K key (as-call g.rules (suc t) key S) [])
-    where
-      at : (s : ℕ) → S.rule ≡ s → suc t < S.rule → StandsAsCallOf H t key
-      at zero e b = absurd (omega (arith, e, b))
-      at (suc s) e b =
-          let w : q ≤ s = omega (arith, e, b, l) in
-          let ns : nodes_at H s ≡ map (unshifted_node q) (nodes_at g.rules S.rule) = nodes-taken s ∙ ap (λ (x : ℕ). map (unshifted_node q) (nodes_at g.rules x)) (shifted-behind q s w ∙ sym e) in
-          record {
-            rule = s;
-            place = S.place;
-            node = unshifted_node q S.node;
-            there = ap (λ (xs : List Node). slice_get xs S.place) ns ∙ slice_get-map (unshifted_node q) (nodes_at g.rules S.rule) S.place ∙ ap (option_map (unshifted_node q)) S.there;
-            named = S.named;
-            label = ap (λ (l : Label). (unshifted_node q (record { key = S.node.key; label = l; kids = S.node.kids })).label) S.label ∙ ap Call (unshifted-behind q t l);
-          }
-
-  pub calls-of-taken : (t : ℕ) (keys : List Key) → q ≤ t → t < length H → AreCallsOf F (t + 1) keys → AreCallsOf H t keys
-  calls-of-taken t keys l k A =
-      let e : t + 1 ≡ suc t = omega arith in
-      let B : AreCallsOf F (suc t) keys = subst (λ (x : ℕ). AreCallsOf F x keys) e A in
-      record {
-        each = λ i key f. stands-taken t key l (I.kept (suc t) key (λ z. omega (arith, z, l)) (B.each i key f));
-        once = A.once;
-        many = B.many ∙ sym (called-behind t l k);
-      }
-
   pub size-taken : (Saves (rules_of F) q → ⊥) → size (rules_of H) + real_nodes (body_at (rules_of g.rules) q) ≡ size (rules_of g.rules) → size (rules_of H) ≤ size (rules_of F)
   size-taken useless e =
       omega (
@@ -191,24 +144,22 @@ module _ (F : List KeyedRule) (g : Keyed) (K : IsKeyed g) (q n : ℕ) (I : AreIn
   pub value-mid : value (rules_of g.rules) ≡ value (rules_of F)
   value-mid = ap (λ (x : ℕ). value_at (rules_of g.rules) (x - 1)) (length-rules_of g.rules ∙ I.rules ∙ sym (length-rules_of F)) ∙ I.values (length (rules_of F) - 1)
 
--- what is told once a rule that saves nothing is gone
+-- what is told once a rule is gone
 pub record IsTaken (F H : List KeyedRule) (q : ℕ) : Type 0 where
   pub rules : length H + 1 ≡ length F
   pub swept : IsSwept (rules_of H)
   pub save : (r : ℕ) → r < q → Saves (rules_of F) r → Saves (rules_of H) r
-  pub later : (t : ℕ) (keys : List Key) → q ≤ t → t < length H → AreCallsOf F (t + 1) keys → AreCallsOf H t keys
-  pub size : size (rules_of H) ≤ size (rules_of F)
+  pub size : (Saves (rules_of F) q → ⊥) → size (rules_of H) ≤ size (rules_of F)
   pub ranks : greatest_rank (rules_of H) ≤ greatest_rank (rules_of F)
 
-pub taken : (F : List KeyedRule) (g : Keyed) → IsKeyed g → (q n : ℕ) → AreInlined F g.rules q n → q + 1 < length F → n ≡ calls_of (rules_of F) q → IsSwept (rules_of F) → (Saves (rules_of F) q → ⊥)
+pub taken : (F : List KeyedRule) (g : Keyed) → IsKeyed g → (q n : ℕ) → AreInlined F g.rules q n → q + 1 < length F → n ≡ calls_of (rules_of F) q → IsSwept (rules_of F)
     → (H : List KeyedRule) → H ≡ rule_dropped g.rules q → size (rules_of H) + real_nodes (body_at (rules_of g.rules) q) ≡ size (rules_of g.rules) → IsTaken F H q
-taken F g K q n I h many swept useless H e left =
+taken F g K q n I h many swept H e left =
     subst (λ (X : List KeyedRule). IsTaken F X q) (sym e)
     (record {
       rules = length-taken F g K q n I h many swept;
       swept = swept-taken F g K q n I h many swept;
       save = saves-taken F g K q n I h many swept;
-      later = calls-of-taken F g K q n I h many swept;
-      size = size-taken F g K q n I h many swept useless (subst (λ (X : List KeyedRule). size (rules_of X) + real_nodes (body_at (rules_of g.rules) q) ≡ size (rules_of g.rules)) e left);
+      size = λ useless. size-taken F g K q n I h many swept useless (subst (λ (X : List KeyedRule). size (rules_of X) + real_nodes (body_at (rules_of g.rules) q) ≡ size (rules_of g.rules)) e left);
       ranks = omega (arith, rank-dropped g.rules q, rank-same (rules_of F) (rules_of g.rules) I.ranks);
     })

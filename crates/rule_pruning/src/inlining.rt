@@ -7,34 +7,35 @@ ghost use Rattle.slt_grammar.specs.Grammars.{body_at, calls_of, size, value_at};
 ghost use Rattle.slt_grammar.specs.Keyed.{nodes_at, rules_of};
 ghost use Rattle.slt_grammar.specs.KeyedEdits.{IsInlined, StandsAsCall};
 ghost use Rattle.digram_index.specs.Linked.{IsIndexOf};
-ghost use Rattle.rule_pruning.specs.Calls.{AreCallsOf, StandsAsCallOf};
+ghost use Rattle.rule_pruning.specs.Calls.{StandsAsCallOf};
 
+use crate::call_search::{CallSearch, find_call};
 use digram_index::{Index, inline_linked};
 use slt_grammar::{Grammar, Key};
 
-// Replaces all calls of a rule by its body, given the keys of these calls. It takes no memory.
-pub(crate) fn inline_calls(grammar: &mut Grammar, index: &mut Index, rule: usize, calls: &[Key])
+// Replaces all calls of a rule by its body. It takes no memory.
+pub(crate) fn inline_calls(grammar: &mut Grammar, index: &mut Index, rule: usize)
     requires there { rule < length grammar.old.rules }
-    requires calls { AreCallsOf grammar.old.rules rule calls.now }
     requires index { IsIndexOf grammar.old index.old }
-    requires nodes { length calls.now * length (nodes_at grammar.old.rules rule) ≤ grammar.old.spare_nodes }
-    requires links { length calls.now * length (nodes_at grammar.old.rules rule) ≤ index.old.spare_links }
+    requires nodes { calls_of (rules_of grammar.old.rules) rule * length (nodes_at grammar.old.rules rule) ≤ grammar.old.spare_nodes }
+    requires links { calls_of (rules_of grammar.old.rules) rule * length (nodes_at grammar.old.rules rule) ≤ index.old.spare_links }
     requires cells { grammar.old.limit ≤ length index.old.cells }
     ensures rules { length grammar.new.rules ≡ length grammar.old.rules }
     ensures ranks { ranks_of (rules_of grammar.new.rules) ≡ ranks_of (rules_of grammar.old.rules) }
     ensures uncalled { calls_of (rules_of grammar.new.rules) rule ≡ 0 }
     ensures before { (r : ℕ) → r ≤ rule → nodes_at grammar.new.rules r ≡ nodes_at grammar.old.rules r }
     ensures called { (q : ℕ) → q ≢ rule → calls_of (rules_of grammar.new.rules) q
-        ≡ calls_of (rules_of grammar.old.rules) q + length calls.now * calls_in q (body_at (rules_of grammar.old.rules) rule) }
-    ensures kept { (q : ℕ) (key : Key) → q ≢ rule → StandsAsCallOf grammar.old.rules q key → StandsAsCallOf grammar.new.rules q key }
+        ≡ calls_of (rules_of grammar.old.rules) q + calls_of (rules_of grammar.old.rules) rule * calls_in q (body_at (rules_of grammar.old.rules) rule) }
     ensures values { (r : ℕ) → value_at (rules_of grammar.new.rules) r ≡ value_at (rules_of grammar.old.rules) r }
-    ensures size { size (rules_of grammar.new.rules) + length calls.now
-        ≡ size (rules_of grammar.old.rules) + length calls.now * real_nodes (body_at (rules_of grammar.old.rules) rule) }
+    ensures size { size (rules_of grammar.new.rules) + calls_of (rules_of grammar.old.rules) rule
+        ≡ size (rules_of grammar.old.rules) + calls_of (rules_of grammar.old.rules) rule * real_nodes (body_at (rules_of grammar.old.rules) rule) }
     ensures index { IsIndexOf grammar.new index.new }
 {
-    for &call in calls {
+    let mut search = CallSearch::new(grammar);
+    for _ in 0..grammar.calls(rule) {
         // The call tells that a key stands once.
         let _limit = grammar.limit();
+        let call = find_call(grammar, index, rule, &mut search);
         inline_call(grammar, index, rule, call);
     }
 }

@@ -1,15 +1,12 @@
 // The rules that save no nodes are taken away.
-ghost use Rattle.std.specs.Prelude.{◌≡◌, ◌+◌, ◌*◌, ◌<◌, ◌≤◌, ℕ, List, length, OnOk};
-ghost use Rattle.rule_arena.specs.declared.key.Key.{Key};
+ghost use Rattle.std.specs.Prelude.{◌≡◌, ◌+◌, ◌*◌, ◌<◌, ◌≤◌, ℕ, length, OnOk};
 ghost use Rattle.slt_grammar.specs.Digrams.{Saves};
-ghost use Rattle.slt_grammar.specs.Grammars.{size, value, IsSwept};
+ghost use Rattle.slt_grammar.specs.Grammars.{calls_of, size, value, IsSwept};
 ghost use Rattle.slt_grammar.specs.Keyed.{nodes_at, rules_of};
 ghost use Rattle.slt_grammar.specs.Ranks.{greatest_rank};
 ghost use Rattle.digram_index.specs.Linked.{IsIndexOf};
-ghost use Rattle.rule_pruning.specs.Calls.{AreCallsOf};
 ghost use Rattle.rule_pruning.specs.Saving.{AllSave};
 
-use crate::call_lists::{CallList, call_lists};
 use crate::inlining::inline_calls;
 use crate::savings::{all_save, body_length, saves};
 use digram_index::{Index, drop_linked};
@@ -22,7 +19,7 @@ use std::alloc::{AllocError, Global};
 ///
 /// It fails where memory is refused. Some rules may be gone then; the value is the same, and the index is the grammar's. Neither then nor
 /// else is the greatest rank of a rule greater than before.
-pub fn prune(alloc: Global, grammar: &mut Grammar, index: &mut Index) -> Result<(), AllocError>
+pub fn prune(_alloc: Global, grammar: &mut Grammar, index: &mut Index) -> Result<(), AllocError>
     requires { IsIndexOf grammar.old index.old }
     ensures swept { OnOk result (IsSwept (rules_of grammar.new.rules)) }
     ensures save { OnOk result (AllSave (rules_of grammar.new.rules)) }
@@ -37,7 +34,7 @@ pub fn prune(alloc: Global, grammar: &mut Grammar, index: &mut Index) -> Result<
         return Ok(());
     }
     sweep(grammar, index);
-    prune_swept(alloc, grammar, index)
+    prune_swept(grammar, index)
 }
 
 // Drops the rules that are not called. It takes no memory.
@@ -61,7 +58,7 @@ fn sweep(grammar: &mut Grammar, index: &mut Index)
 }
 
 // Takes away the rules that save no nodes, where all rules are called.
-fn prune_swept(alloc: Global, grammar: &mut Grammar, index: &mut Index) -> Result<(), AllocError>
+fn prune_swept(grammar: &mut Grammar, index: &mut Index) -> Result<(), AllocError>
     requires index { IsIndexOf grammar.old index.old }
     requires swept { IsSwept (rules_of grammar.old.rules) }
     ensures swept { IsSwept (rules_of grammar.new.rules) }
@@ -72,69 +69,56 @@ fn prune_swept(alloc: Global, grammar: &mut Grammar, index: &mut Index) -> Resul
     ensures ranks { greatest_rank (rules_of grammar.new.rules) ≤ greatest_rank (rules_of grammar.old.rules) }
     ensures index { IsIndexOf grammar.new index.new }
 {
-    if all_save(grammar) {
-        return Ok(());
-    }
-    let lists = call_lists(alloc, grammar)?;
     // The rule whose turn it is, once those before it that saved nothing were taken away.
     let mut rule = 0;
     let last = grammar.rules() - 1;
-    for turn in 0..last {
+    for _ in 0..last {
         if saves(grammar, rule) {
             rule += 1;
         } else {
-            take_away(grammar, index, rule, &lists[turn])?;
+            take_away(grammar, index, rule)?;
         }
     }
     Ok(())
 }
 
-// Takes away a rule that saves nothing, where these are its calls. Where memory is refused, the rules stay.
-fn take_away(
+// Takes away a rule. Where memory is refused, the rules stay.
+pub(crate) fn take_away(
     grammar: &mut Grammar,
     index: &mut Index,
     rule: usize,
-    calls: &CallList,
 ) -> Result<(), AllocError>
     requires there { rule + 1 < length grammar.old.rules }
-    requires calls { AreCallsOf grammar.old.rules rule calls.now }
     requires swept { IsSwept (rules_of grammar.old.rules) }
-    requires useless { Saves (rules_of grammar.old.rules) rule → ⊥ }
     requires index { IsIndexOf grammar.old index.old }
     ensures rules { OnOk result (length grammar.new.rules + 1 ≡ length grammar.old.rules) }
     ensures swept { IsSwept (rules_of grammar.new.rules) }
     ensures save { OnOk result ((r : ℕ) → r < rule → Saves (rules_of grammar.old.rules) r → Saves (rules_of grammar.new.rules) r) }
-    ensures later { OnOk result ((q : ℕ) (keys : List Key) → rule ≤ q → q < length grammar.new.rules → AreCallsOf grammar.old.rules (q + 1) keys → AreCallsOf grammar.new.rules q keys) }
     ensures value { value (rules_of grammar.new.rules) ≡ value (rules_of grammar.old.rules) }
-    ensures size { size (rules_of grammar.new.rules) ≤ size (rules_of grammar.old.rules) }
+    ensures size { (Saves (rules_of grammar.old.rules) rule → ⊥) → size (rules_of grammar.new.rules) ≤ size (rules_of grammar.old.rules) }
     ensures fewer { length grammar.new.rules ≤ length grammar.old.rules }
     ensures ranks { greatest_rank (rules_of grammar.new.rules) ≤ greatest_rank (rules_of grammar.old.rules) }
     ensures index { IsIndexOf grammar.new index.new }
 {
-    let keys = calls.as_slice();
-    make_room(grammar, index, rule, keys.len())?;
-    inline_calls(grammar, index, rule, keys);
+    make_room(grammar, index, rule)?;
+    inline_calls(grammar, index, rule);
     // The call tells that a key stands once.
     let _inlined = grammar.limit();
     drop_linked(grammar, index, rule);
     Ok(())
 }
 
-// Makes room for so many copies of a rule's body and for their occurrences.
-fn make_room(
-    grammar: &mut Grammar,
-    index: &mut Index,
-    rule: usize,
-    copies: usize,
-) -> Result<(), AllocError>
+// Makes room for a copy of a rule's body in the place of each of its calls, and for their occurrences.
+fn make_room(grammar: &mut Grammar, index: &mut Index, rule: usize) -> Result<(), AllocError>
     requires there { rule < length grammar.old.rules }
     requires index { IsIndexOf grammar.old index.old }
     ensures rules { grammar.new.rules ≡ grammar.old.rules }
     ensures index { IsIndexOf grammar.new index.new }
-    ensures nodes { OnOk result (copies * length (nodes_at grammar.old.rules rule) ≤ grammar.new.spare_nodes) }
-    ensures links { OnOk result (copies * length (nodes_at grammar.old.rules rule) ≤ index.new.spare_links) }
+    ensures nodes { OnOk result (calls_of (rules_of grammar.old.rules) rule * length (nodes_at grammar.old.rules rule) ≤ grammar.new.spare_nodes) }
+    ensures links { OnOk result (calls_of (rules_of grammar.old.rules) rule * length (nodes_at grammar.old.rules rule) ≤ index.new.spare_links) }
     ensures cells { OnOk result (grammar.new.limit ≤ length index.new.cells) }
 {
+    let copies = grammar.calls(rule) as usize;
     match copies.checked_mul(body_length(grammar, rule)) {
         Some(nodes) => {
             grammar.reserve(nodes, 0)?;

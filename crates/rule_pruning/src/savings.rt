@@ -1,5 +1,5 @@
 // How many nodes a rule saves.
-ghost use Rattle.std.specs.Prelude.{◌≡◌, ◌+◌, ◌<◌, ◌^◌, ◌∷◌, [], length, MatchBool, ⊤};
+ghost use Rattle.std.specs.Prelude.{◌≡◌, ◌+◌, ◌<◌, ◌≤◌, ◌^◌, ◌∷◌, [], length, MatchBool, ⊤};
 ghost use Rattle.slt_grammar.specs.Bodies.{real_nodes};
 ghost use Rattle.slt_grammar.specs.Digrams.{Saves};
 ghost use Rattle.slt_grammar.specs.Grammars.{body_at};
@@ -24,12 +24,19 @@ pub fn saving(grammar: &Grammar, rule: usize) -> i128
     calls * (nodes - 1) - nodes
 }
 
-// Whether a rule saves nodes.
+// Whether a rule saves nodes: with two calls a body of three nodes does, with more one of two. So three nodes of its body are read at most.
 pub(crate) fn saves(grammar: &Grammar, rule: usize) -> bool
     requires { rule + 1 < length grammar.now.rules }
     ensures { MatchBool result (Saves (rules_of grammar.now.rules) rule) (Saves (rules_of grammar.now.rules) rule → ⊥) }
 {
-    saving(grammar, rule) > 0
+    let calls = grammar.calls(rule);
+    if calls < 2 {
+        return false;
+    }
+    if calls == 2 {
+        return has_nodes::<Brand>(grammar, rule, 3, Blank::new(1));
+    }
+    has_nodes::<Brand>(grammar, rule, 2, Blank::new(1))
 }
 
 // Whether every rule but the start saves nodes.
@@ -42,6 +49,27 @@ pub(crate) fn all_save(grammar: &Grammar) -> bool
         }
     }
     true
+}
+
+// Whether a body has so many nodes, one at least, that are no parameters. It is read no further.
+fn has_nodes<L: Ledger>(grammar: &Grammar, rule: usize, least: u64, blank: Blank) -> bool
+    requires there { rule < length grammar.now.rules }
+    requires least { 0 < least }
+    requires name { blank.name ≡ L.name }
+    requires parts { blank.parts ≡ L.parts }
+    requires some { 0 < blank.parts }
+    ensures { MatchBool result (least ≤ real_nodes (body_at (rules_of grammar.now.rules) rule)) (real_nodes (body_at (rules_of grammar.now.rules) rule) < least) }
+{
+    let mut steps: Steps<L> = Steps::new(blank);
+    let mut labels = grammar.walk(rule);
+    let mut size = 0;
+    while let Some(label) = labels.next(&mut steps) {
+        size += node_count(label);
+        if size >= least {
+            return true;
+        }
+    }
+    false
 }
 
 // How many nodes a body has, with its parameters.

@@ -2,8 +2,8 @@ use Rattle.digram_index.specs.Linked.{IsIndexOf}
 use Rattle.rule_pruning.proofs.Turns.{IsPruning}
 use Rattle.rule_pruning.proofs.pruning.prune_swept.Given as goal
 
-abbrev pub invariant-loop-turn : goal.invariant-loop-turn
-invariant-loop-turn l = record {
-  pruning : IsPruning l.fn.grammar.rules l.lists.items l.grammar.rules l.rule l.turn;
+abbrev pub invariant-loop : goal.invariant-loop
+invariant-loop l = record {
+  pruning : IsPruning l.fn.grammar.rules l.grammar.rules l.rule l.counter;
   index : IsIndexOf l.grammar l.index;
 }

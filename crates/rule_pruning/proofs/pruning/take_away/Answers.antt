@@ -1,13 +1,14 @@
-use Rattle.std.proofs.Common.{ap, length, ◌∙◌, arith}
+use Rattle.std.proofs.Common.{refl, arith}
+use Rattle.slt_grammar.specs.Grammars.{calls_of}
+use Rattle.slt_grammar.specs.Keyed.{rules_of}
 use Rattle.rule_pruning.proofs.Taken.{IsTaken, taken}
 use Rattle.rule_pruning.proofs.pruning.take_away.Goals as goal
 
 is_taken : (c : goal.After-drop_linked) → IsTaken c.args.grammar.now.rules c.drop_linked.new.grammar.rules c.args.rule
 is_taken c =
     let E = rw c.in_ok-make_room.ensures.rules at c.inline_calls.ensures in
-    taken c.args.grammar.now.rules c.inline_calls.new.grammar c.limit-inlined.ensures.keyed c.args.rule (length c.as_slice-keys.result.now)
-    (record { rules = E.rules; ranks = E.ranks; uncalled = E.uncalled; before = E.before; called = E.called; kept = E.kept; values = E.values; size = E.size }) c.requires.there (ap length c.as_slice-keys.ensures ∙ c.requires.calls.many) c.requires.swept
-    c.requires.useless c.drop_linked.new.grammar.rules c.drop_linked.ensures.rules c.drop_linked.ensures.size
+    taken c.args.grammar.now.rules c.inline_calls.new.grammar c.limit-inlined.ensures.keyed c.args.rule (calls_of (rules_of c.args.grammar.now.rules) c.args.rule)
+    (record { rules = E.rules; ranks = E.ranks; uncalled = E.uncalled; before = E.before; called = E.called; values = E.values; size = E.size }) c.requires.there refl c.requires.swept c.drop_linked.new.grammar.rules c.drop_linked.ensures.rules c.drop_linked.ensures.size
 
 pub returns-clause-rules : goal.returns-clause-rules
 returns-clause-rules c = (is_taken c).rules
@@ -17,9 +18,6 @@ returns-clause-swept c = (is_taken c).swept
 
 pub returns-clause-save : goal.returns-clause-save
 returns-clause-save c = (is_taken c).save
-
-pub returns-clause-later : goal.returns-clause-later
-returns-clause-later c = (is_taken c).later
 
 pub returns-clause-size : goal.returns-clause-size
 returns-clause-size c = (is_taken c).size

@@ -1,0 +1,9 @@
+use Rattle.digram_index.specs.Linked.{IsIndexOf}
+use Rattle.rule_pruning.proofs.Dissolved.{IsWithout}
+use Rattle.rule_pruning.proofs.dissolving.dissolve.Given as goal
+
+abbrev pub invariant-loop : goal.invariant-loop
+invariant-loop l = record {
+  without : IsWithout l.fn.grammar.rules l.grammar.rules;
+  index : IsIndexOf l.grammar l.index;
+}

@@ -1,0 +1,34 @@
+use Rattle.std.proofs.Common.{◌+◌, ◌<◌, ℕ, List, length, arith}
+use Rattle.slt_grammar.specs.Keyed.{KeyedRule}
+use Rattle.slt_grammar.proofs.KeyedLemmas.{length-rules_of}
+use Rattle.rule_pruning.proofs.Taken.{IsTaken}
+use Rattle.rule_pruning.proofs.Dissolved.{dissolving-begins, dissolving-stays, dissolving-takes}
+use Rattle.rule_pruning.proofs.dissolving.dissolve_up_to.Goals as goal
+use Rattle.rule_pruning.proofs.dissolving.dissolve_up_to.Goals.{then-stays, else-stays+in_ok-take_away}
+
+pub loop-init : goal.loop-init
+loop-init c = record {
+  dissolving = dissolving-begins c.args.grammar.now.rules (omega (arith, c.rules-last.ensures.grammar.some, length-rules_of c.args.grammar.now.rules)) c.requires.swept;
+  index = c.requires.index;
+}
+
+pub loop-preserved : goal.loop-preserved
+loop-preserved c =
+    let F : List KeyedRule = c.args.grammar.now.rules in
+    let G : List KeyedRule = c.loop.grammar.rules in
+    let turn : ℕ = c.loop.counter in
+    let rule : ℕ = c.loop.rule in
+    let I = c.loop.invariant in
+    let more : turn + 1 < length F = omega (arith, c.loop-test.true, c.rules-last.ensures.value) in
+    elim c.if-stays.branch [
+      | then-stays w ↦ rw (w.grammar-is, w.index-is, w.rule-is) (record { dissolving = dissolving-stays F G rule turn I.dissolving more; index = I.index })
+      | else-stays+in_ok-take_away w ↦
+          let E = w.in_ok-take_away.ensures in
+          let T : IsTaken G w.take_away.new.grammar.rules rule = record { rules = E.rules; swept = E.swept; save = E.save; size = E.size; ranks = E.ranks } in
+          rw (w.grammar-is, w.index-is, w.rule-is) (record { dissolving = dissolving-takes F G rule turn I.dissolving more w.take_away.new.grammar.rules T E.value; index = E.index })
+    ]
+
+pub overflow_add-rule : goal.overflow_add-rule
+overflow_add-rule c =
+    let I = c.loop.invariant in
+    omega (arith, I.dissolving.left, I.dissolving.fewer, I.dissolving.within, c.rules-last.ensures.value, c.loop-test.true)

@@ -8,6 +8,7 @@ ghost use Rattle.digram_index.specs.Linked.{IsIndexOf};
 ghost use Rattle.local_repair.specs.Settling.{IsLargerAtMost, IsNoLarger};
 ghost use Rattle.slt_grammar.specs.declared.digram.Digram.{Digram};
 
+use crate::reusing::reuse_rules;
 use digram_index::{Index, build};
 use pair_replace::replace;
 use rule_pruning::prune;
@@ -30,7 +31,8 @@ pub fn settle(alloc: Global, grammar: &mut Grammar, bound: usize) -> Result<(), 
     settle_touched(alloc, grammar, &mut index, bound)
 }
 
-/// The same over an index of the grammar, which is kept.
+/// The same over an index of the grammar, which is kept. Before, terms of the start of which a node was linked since the last settling
+/// become calls of rules that are there, where they begin with their bodies.
 pub fn settle_touched(
     alloc: Global,
     grammar: &mut Grammar,
@@ -44,11 +46,14 @@ pub fn settle_touched(
     ensures ranks { greatest_rank (rules_of grammar.new.rules) ≤ max bound (greatest_rank (rules_of grammar.old.rules)) }
     ensures index { IsIndexOf grammar.new index.new }
 {
+    reuse_rules(grammar, index)?;
     let begin = weight(grammar);
     alternate(alloc, grammar, index, bound)?;
     let times = patience(grammar, begin);
     replace_twice(alloc, grammar, index, bound, times)?;
-    alternate(alloc, grammar, index, bound)
+    alternate(alloc, grammar, index, bound)?;
+    index.forget_touched();
+    Ok(())
 }
 
 // The size of a grammar and the number of its rules together, as far as a number goes.

@@ -61,7 +61,7 @@ module _ (d : Digram) where
     by_digram (inr x) = absurd (x.1 e)
 
   -- nothing weighs anything there
-  hung-other : (f i : ℕ) → ((d.upper ≡ Symbol f) → d.place ≡ i → ⊥) → (r : Option Label) → hung (is d) (Some (f, i)) r ≡ 0
+  pub hung-other : (f i : ℕ) → ((d.upper ≡ Symbol f) → d.place ≡ i → ⊥) → (r : Option Label) → hung (is d) (Some (f, i)) r ≡ 0
   hung-other f i n None = refl
   hung-other f i n (Some l) = by_digram (is-tells d (record { upper = f; place = i; lower = l })) where
     by_digram : ((is d f i l ≡ 1) × (d ≡ record { upper = Symbol f; place = i; lower = l })) ⊎ ((is d f i l ≡ 0) × (d ≢ record { upper = Symbol f; place = i; lower = l })) → is d f i l ≡ 0
@@ -69,7 +69,7 @@ module _ (d : Digram) where
     by_digram (inr x) = x.0
 
   -- the upper label weighs nothing
-  hung-upper : d.upper ≢ d.lower → (c : Above) → hung (is d) c (Some d.upper) ≡ 0
+  pub hung-upper : d.upper ≢ d.lower → (c : Above) → hung (is d) c (Some d.upper) ≡ 0
   hung-upper a None = refl
   hung-upper a (Some (f, i)) = by_digram (is-tells d (record { upper = f; place = i; lower = d.upper })) where
     by_digram : ((is d f i d.upper ≡ 1) × (d ≡ record { upper = Symbol f; place = i; lower = d.upper })) ⊎ ((is d f i d.upper ≡ 0) × (d ≢ record { upper = Symbol f; place = i; lower = d.upper })) → is d f i d.upper ≡ 0
@@ -152,7 +152,7 @@ module _ (d : Digram) where
           ∙ ap (λ (k : ℕ). opaque (is d) (top_rim k) 1 kids) (sym one)
 
   -- places where the same weighs
-  abbrev Alike : List Above → List Above → Type 0
+  abbrev pub Alike : List Above → List Above → Type 0
   Alike [] [] = Unit {0}
   Alike [] (b ∷ bs) = ⊥
   Alike (c ∷ cs) [] = ⊥
@@ -164,15 +164,9 @@ module _ (d : Digram) where
   alike-append (x ∷ xs) [] cs bs h k = absurd h
   alike-append (x ∷ xs) (y ∷ ys) cs bs h k = (h.0, alike-append xs ys cs bs h.1 k)
 
-  module _ (f : ℕ) (upper : (c : Above) → hung (is d) c (Some (Symbol f)) ≡ 0) (at : (r : Option Label) → hung (is d) (Some (f, 0)) r ≡ 0) (ranks : List ℕ) where
-    abbrev pub shown : ℕ → Rim
-    shown q = record { root = Some (Symbol f); borders = safe f (get_or ranks q 0) }
-
-    alike-safe : (n : ℕ) → Alike (safe f n) (nones n)
-    alike-safe zero = tt
-    alike-safe (suc n) = (at, alike-safe n)
-
-    same-edges : (ls : List Label) (cs bs : List Above) → Alike cs bs → all_edges (is d) shown cs ls ≡ all_edges (is d) (unknown ranks) bs ls
+  -- where nothing weighs anything above and below calls, only edges of symbols weigh
+  module _ (ranks : List ℕ) (s : ℕ → Rim) (upper : (q : ℕ) (c : Above) → hung (is d) c ((s q).root) ≡ 0) (at : (q : ℕ) → Alike ((s q).borders) (nones (get_or ranks q 0))) where
+    pub same-edges : (ls : List Label) (cs bs : List Above) → Alike cs bs → all_edges (is d) s cs ls ≡ all_edges (is d) (unknown ranks) bs ls
     same-edges [] [] [] h = refl
     same-edges [] [] (b ∷ bs) h = absurd h
     same-edges [] (c ∷ cs) [] h = absurd h
@@ -185,7 +179,15 @@ module _ (d : Digram) where
     same-edges (Symbol g ∷ ls) (c ∷ cs) (b ∷ bs) h =
         omega (arith, h.0 (Some (Symbol g)), same-edges ls (Some (g, 1) ∷ Some (g, 2) ∷ cs) (Some (g, 1) ∷ Some (g, 2) ∷ bs) (λ r. refl, (λ r. refl, h.1)))
     same-edges (Call q ∷ ls) (c ∷ cs) (b ∷ bs) h =
-        omega (arith, upper c, hung-none b, same-edges ls (safe f (get_or ranks q 0) ++ cs) (nones (get_or ranks q 0) ++ bs) (alike-append (safe f (get_or ranks q 0)) (nones (get_or ranks q 0)) cs bs (alike-safe (get_or ranks q 0)) h.1))
+        omega (arith, upper q c, hung-none b, same-edges ls ((s q).borders ++ cs) (nones (get_or ranks q 0) ++ bs) (alike-append ((s q).borders) (nones (get_or ranks q 0)) cs bs (at q) h.1))
+
+  module _ (f : ℕ) (upper : (c : Above) → hung (is d) c (Some (Symbol f)) ≡ 0) (at : (r : Option Label) → hung (is d) (Some (f, 0)) r ≡ 0) (ranks : List ℕ) where
+    abbrev shown : ℕ → Rim
+    shown q = record { root = Some (Symbol f); borders = safe f (get_or ranks q 0) }
+
+    alike-safe : (n : ℕ) → Alike (safe f n) (nones n)
+    alike-safe zero = tt
+    alike-safe (suc n) = (at, alike-safe n)
 
 -- each occurrence is a call of the first rule, or is left
 pub calls-and-left : (d : Digram) → IsSymbol d.upper → IsEnd d.lower → d.upper ≢ d.lower → (d.place ≡ 1) ⊎ (d.place ≡ 2) → (G : List Rule) → IsGrammar G → body_at G 0 ≡ digram_body (ranks_of G) d.upper (d.place - 1) d.lower
@@ -205,5 +207,6 @@ calls-and-left d (f, u) l apart p G g body =
     let w = but-weighs (is d) s 1 G g (length-safe f (get_or (ranks_of G) 0 0) ∙ rank_at-ranks_of G 0) in
     let all = ap (λ (fs : List (List Weighed → Weighed)). (get_or fs (length G - 1) (λ _. (weight_algebra (is d)).bottom) []).weight) (all-but (weight_algebra (is d)) G g.some ∙ ap (λ (first : List Weighed → Weighed). but_meanings (weight_algebra (is d)) first G) same) in
     let up = ap (λ (m : Weighed). m.weight) (up-value_at (weight_algebra (is d)) G (length G - 1) [] (sym rank)) in
-    let edges = same-edges d f (λ c. ap (λ (k : Label). hung (is d) c (Some k)) (sym u) ∙ hung-upper d apart c) (at_zero d f u apart (ranks_of G) p) (ranks_of G) (value_but G) (None ∷ []) (None ∷ []) (λ r. refl, tt) in
+    let top = λ (c : Above). ap (λ (k : Label). hung (is d) c (Some k)) (sym u) ∙ hung-upper d apart c in
+    let edges = same-edges d (ranks_of G) (shown d f top (at_zero d f u apart (ranks_of G) p) (ranks_of G)) (λ q. top) (λ q. alike-safe d f top (at_zero d f u apart (ranks_of G) p) (ranks_of G) (get_or (ranks_of G) q 0)) (value_but G) (None ∷ []) (None ∷ []) (λ r. refl, tt) in
     omega (arith, w, all, up, edges)

@@ -5,13 +5,11 @@ use Rattle.rule_arena.specs.declared.label.Label.{Label}
 use Rattle.rule_arena.specs.declared.label.Label.TheVariants.{Bottom, Symbol, Call, Param}
 use Rattle.slt_grammar.specs.Bodies.{params}
 use Rattle.slt_grammar.specs.Editing.{put}
-use Rattle.slt_grammar.proofs.Substitutions.{joined}
 use Rattle.border_repair.specs.Edges.{IsSafe, no_flags, kid_tops, kid_flags, IsOpenEdge, IsCleanEdge, Calm, Clean, IsCleanTerm, direct, all_edges}
-use Rattle.border_repair.specs.Cuts.{Cut, inner, Closed, AllClosed, Cuts}
 use Rattle.border_repair.specs.Expanding.{Expands, nothing, parameter, bottom, symbol, call}
-use Rattle.border_repair.specs.Weighing.{Scale, Above, hung, Rim, arisen}
-use Rattle.border_repair.proofs.Cleaning.{edges-append, open_edge, close-clean, all-close-clean, cut-clean, calm-direct, alone}
-use Rattle.border_repair.proofs.RimLemmas.{AreKnown, known-under}
+use Rattle.border_repair.specs.Weighing.{Scale, Above, AreKnown, hung, Rim, arisen}
+use Rattle.border_repair.proofs.Cleaning.{edges-append, open_edge, calm-direct}
+use Rattle.border_repair.proofs.RimLemmas.{known-under}
 
 module _ (e : Scale) (s : ℕ → Rim) where
   abbrev pub AreCleanTerms : List (List Label) → Type 0
@@ -66,25 +64,12 @@ module _ (e : Scale) (s : ℕ → Rim) where
       let k = clean-parts kids ts (expanded-clean ranks outside ls (kids ++ ts) x h.1) in
       (λ c. put-clean (outside q) kids (c ∷ []) (true ∷ []) (n ∙ sym h.0.1) k.0 (h.0.0 c), k.1)
 
-  -- the outside of a clean body is clean
-  pub outside-clean : (body : List Label) (k : Cut) (t : List Label) → IsCleanTerm e s body → Cuts e s body (k ∷ []) → ((c : Above) → Closed e s c k t) → IsCleanTerm e s t
-  outside-clean body k t x d z = λ c. close-clean e s c true k t (cut-clean e s body (k ∷ []) d (c ∷ []) (true ∷ []) (x c)).0 (z c)
-
-  -- also where the root is outside
-  pub root-clean : (f : ℕ) (ls : List Label) (kids : List Cut) (ts : List (List Label)) → IsCleanTerm e s (Symbol f ∷ ls) → Cuts e s ls kids → AllClosed e s (kid_tops e s (Symbol f)) kids ts → IsCleanTerm e s (Symbol f ∷ joined ts)
-  root-clean f ls kids ts x d z = λ c. (inl refl, all-close-clean e s kids (kid_tops e s (Symbol f)) (kid_flags e s (Symbol f)) ts (cut-clean e s ls kids d (kid_tops e s (Symbol f)) (kid_flags e s (Symbol f)) (x c).1) z)
-
-  open_top : (l : Label) → IsOpenEdge e s None true l
+  -- nothing weighs anything where nothing is above
+  pub open_top : (l : Label) → IsOpenEdge e s None true l
   open_top Bottom = inl refl
   open_top (Symbol f) = inl refl
   open_top (Call q) = refl
   open_top Param = tt
-
-  -- the part of a clean body is calm
-  pub part-calm : (body : List Label) (l : Label) (part args : List Label) → IsCleanTerm e s body → Cuts e s body (inner l part args ∷ []) → Calm e s (None ∷ []) (true ∷ []) (l ∷ part)
-  part-calm body l part args x d =
-      let h = (cut-clean e s body (inner l part args ∷ []) d (None ∷ []) (true ∷ []) (x None)).0 in
-      (open_top l, alone e s (IsOpenEdge e s) (kid_tops e s l) (kid_flags e s l) part h.0.1)
 
   clean-calm : (ls : List Label) (cs : List Above) (bs : List Bool) → Clean e s cs bs ls → Calm e s cs bs ls
   clean-calm [] [] [] x = tt
@@ -104,7 +89,7 @@ module _ (e : Scale) (s : ℕ → Rim) where
   abbrev pub AreShown : Type 0
   AreShown = (q : ℕ) → AreKnown (s q).borders
 
-  arisen-edges : AreShown → (ls : List Label) (cs : List Above) → arisen s e cs ls ≡ all_edges e s cs ls
+  pub arisen-edges : AreShown → (ls : List Label) (cs : List Above) → arisen s e cs ls ≡ all_edges e s cs ls
   arisen-edges h [] [] = refl
   arisen-edges h [] (c ∷ cs) = refl
   arisen-edges h (l ∷ ls) [] = refl

@@ -4,8 +4,9 @@ use Rattle.std.specs.Prelude.{Bool}
 use Rattle.rule_arena.specs.declared.label.Label.{Label}
 use Rattle.rule_arena.specs.declared.label.Label.TheVariants.{Bottom, Symbol, Call, Param}
 use Rattle.slt_grammar.proofs.Substitutions.{joined}
+use Rattle.border_repair.specs.Digrams.{IsEnd}
 use Rattle.border_repair.specs.Edges.{no_flags, kid_tops, kid_flags, IsOpenEdge, IsCleanEdge, AreEdges, Calm, Clean, tops_of, flagged, direct_at, weighs_at, direct, all_edges}
-use Rattle.border_repair.specs.Cuts.{Cut, parameter, outer, inner, top, part_of, args_of, parts_of, all_args_of, Fine, SafeParameter, AreSafeParameters, Closed, AllClosed, Cuts, cut_nothing, cut_parameter, cut_inner, cut_outer}
+use Rattle.border_repair.specs.Cuts.{Cut, parameter, outer, inner, part_of, args_of, parts_of, all_args_of, Hangs, AllHang, SafeParameter, AreSafeParameters, Closed, AllClosed}
 use Rattle.border_repair.specs.Weighing.{Scale, Above, Rim, hung}
 
 module _ (e : Scale) (s : ℕ → Rim) where
@@ -73,19 +74,7 @@ module _ (e : Scale) (s : ℕ → Rim) where
     at_label c b (Call q) x = x
     at_label c b Param x = refl
 
-  -- it hangs there: it is fine, and so is its edge
-  abbrev pub Hangs : Above → Bool → Cut → Type 0
-  Hangs c b k = Fine e s k × IsCleanEdge e s c b (top k)
-
-  abbrev pub AllHang : List Above → List Bool → List Cut → Type 0
-  AllHang [] [] [] = Unit {0}
-  AllHang [] [] (k ∷ ks) = ⊥
-  AllHang [] (b ∷ bs) ks = ⊥
-  AllHang (c ∷ cs) [] ks = ⊥
-  AllHang (c ∷ cs) (b ∷ bs) [] = ⊥
-  AllHang (c ∷ cs) (b ∷ bs) (k ∷ ks) = Hangs c b k × AllHang cs bs ks
-
-  pub hang-parts : (kids ks : List Cut) (tops cs : List Above) (fs bs : List Bool) → length kids ≡ length tops → length kids ≡ length fs → AllHang (tops ++ cs) (fs ++ bs) (kids ++ ks) → AllHang tops fs kids × AllHang cs bs ks
+  pub hang-parts : (kids ks : List Cut) (tops cs : List Above) (fs bs : List Bool) → length kids ≡ length tops → length kids ≡ length fs → AllHang e s (tops ++ cs) (fs ++ bs) (kids ++ ks) → AllHang e s tops fs kids × AllHang e s cs bs ks
   hang-parts [] ks [] cs [] bs m n h = (tt, h)
   hang-parts [] ks (a ∷ tops) cs fs bs m n h = absurd (omega arith)
   hang-parts [] ks [] cs (f ∷ fs) bs m n h = absurd (omega arith)
@@ -105,15 +94,22 @@ module _ (e : Scale) (s : ℕ → Rim) where
       → Clean e s (tops_of e s (kid_tops e s l ++ []) part) (no_flags (tops_of e s (kid_tops e s l ++ []) part)) args
   from_inner l part args x = subst (λ u. Clean e s (tops_of e s u part) (no_flags (tops_of e s u part)) args) (sym (append-nil (kid_tops e s l))) x
 
-  in_part : (c : Above) (b : Bool) (k : Cut) → Hangs c b k → SafeParameter e c k → InPart c b k
+  in_part : (c : Above) (b : Bool) (k : Cut) → Hangs e s c b k → SafeParameter e c k → InPart c b k
   in_part c b parameter h p = ((tt, tt), (inr p, tt))
-  in_part c b (outer f t) h p = ((tt, tt), (inr (h.0.0 c), alone (IsCleanEdge e s) (kid_tops e s (Symbol f)) (kid_flags e s (Symbol f)) t h.0.1))
+  in_part c b (outer l t) h p = ((tt, tt), (harmless l h.0.0 p, alone (IsCleanEdge e s) (kid_tops e s l) (kid_flags e s l) t h.0.1)) where
+    harmless : (l : Label) → IsEnd l → hung e c (Some l) ≡ 0 → IsCleanEdge e s c false l
+    harmless Bottom n z = inr z
+    harmless (Symbol f) n z = inr z
+    harmless (Call q) (inl (f, x)) z = absurd (let y : Call q ≡ Symbol f = x in cc)
+    harmless (Call q) (inr x) z = absurd (let y : Call q ≡ Bottom = x in cc)
+    harmless Param (inl (f, x)) z = absurd (let y : Param ≡ Symbol f = x in cc)
+    harmless Param (inr x) z = absurd (let y : Param ≡ Bottom = x in cc)
   in_part c b (inner Bottom part args) h p = ((h.1, alone (IsOpenEdge e s) [] [] part h.0.1), from_inner Bottom part args h.0.2)
   in_part c b (inner (Symbol f) part args) h p = ((h.1, alone (IsOpenEdge e s) (kid_tops e s (Symbol f)) (kid_flags e s (Symbol f)) part h.0.1), from_inner (Symbol f) part args h.0.2)
   in_part c b (inner (Call q) part args) h p = ((h.1, alone (IsOpenEdge e s) (kid_tops e s (Call q)) (kid_flags e s (Call q)) part h.0.1), from_inner (Call q) part args h.0.2)
   in_part c b (inner Param part args) h p = absurd (h.0.0 refl)
 
-  all_in_part : (ks : List Cut) (cs : List Above) (bs : List Bool) → AllHang cs bs ks → AreSafeParameters e cs ks
+  pub all_in_part : (ks : List Cut) (cs : List Above) (bs : List Bool) → AllHang e s cs bs ks → AreSafeParameters e cs ks
       → Calm e s cs bs (parts_of ks) × Clean e s (tops_of e s cs (parts_of ks)) (no_flags (tops_of e s cs (parts_of ks))) (all_args_of ks)
   all_in_part [] [] [] h p = (tt, tt)
   all_in_part [] [] (b ∷ bs) h p = absurd h
@@ -133,13 +129,13 @@ module _ (e : Scale) (s : ℕ → Rim) where
       )
 
   -- a closed piece hangs there too
-  pub close-clean : (c : Above) (b : Bool) (k : Cut) (t : List Label) → Hangs c b k → Closed e s c k t → Clean e s (c ∷ []) (b ∷ []) t
+  pub close-clean : (c : Above) (b : Bool) (k : Cut) (t : List Label) → Hangs e s c b k → Closed e s c k t → Clean e s (c ∷ []) (b ∷ []) t
   close-clean c b parameter t h x = subst (Clean e s (c ∷ []) (b ∷ [])) (sym x) (h.1, tt)
-  close-clean c b (outer f u) t h x = subst (Clean e s (c ∷ []) (b ∷ [])) (sym x) (h.1, alone (IsCleanEdge e s) (kid_tops e s (Symbol f)) (kid_flags e s (Symbol f)) u h.0.1)
+  close-clean c b (outer l u) t h x = subst (Clean e s (c ∷ []) (b ∷ [])) (sym x) (h.1, alone (IsCleanEdge e s) (kid_tops e s l) (kid_flags e s l) u h.0.1)
   close-clean c b (inner l part args) t h (q, z, w, x) =
       subst (Clean e s (c ∷ []) (b ∷ [])) (sym x) (z, alone (IsCleanEdge e s) ((s q).borders) (no_flags ((s q).borders)) args (subst (λ u. Clean e s u (no_flags u) args) (sym w) h.0.2))
 
-  pub all-close-clean : (ks : List Cut) (cs : List Above) (bs : List Bool) (ts : List (List Label)) → AllHang cs bs ks → AllClosed e s cs ks ts → Clean e s cs bs (joined ts)
+  pub all-close-clean : (ks : List Cut) (cs : List Above) (bs : List Bool) (ts : List (List Label)) → AllHang e s cs bs ks → AllClosed e s cs ks ts → Clean e s cs bs (joined ts)
   all-close-clean [] [] [] [] h x = tt
   all-close-clean [] [] (b ∷ bs) ts h x = absurd h
   all-close-clean [] (c ∷ cs) [] ts h x = absurd h
@@ -152,7 +148,7 @@ module _ (e : Scale) (s : ℕ → Rim) where
   all-close-clean (k ∷ ks) (c ∷ cs) (b ∷ bs) (t ∷ ts) h x =
       edges-append (IsCleanEdge e s) t (joined ts) (c ∷ []) cs (b ∷ []) bs (close-clean c b k t h.0 x.0) (all-close-clean ks cs bs ts h.1 x.1)
 
-  same-many : (l : Label) → length (kid_flags e s l) ≡ length (kid_tops e s l)
+  pub same-many : (l : Label) → length (kid_flags e s l) ≡ length (kid_tops e s l)
   same-many Bottom = refl
   same-many (Symbol f) = refl
   same-many Param = refl
@@ -160,28 +156,3 @@ module _ (e : Scale) (s : ℕ → Rim) where
     flags-many : (cs : List Above) → length (no_flags cs) ≡ length cs
     flags-many [] = refl
     flags-many (c ∷ cs) = ap suc (flags-many cs)
-
-  -- the pieces of clean labels hang where their labels hang
-  pub cut-clean : (ls : List Label) (ks : List Cut) → Cuts e s ls ks → (cs : List Above) (bs : List Bool) → Clean e s cs bs ls → AllHang cs bs ks
-  cut-clean _ _ cut_nothing [] [] x = tt
-  cut-clean _ _ cut_nothing [] (b ∷ bs) x = absurd x
-  cut-clean _ _ cut_nothing (c ∷ cs) [] x = absurd x
-  cut-clean _ _ cut_nothing (c ∷ cs) (b ∷ bs) x = absurd x
-  cut-clean _ _ (cut_parameter ls ks d) [] [] x = absurd x
-  cut-clean _ _ (cut_parameter ls ks d) [] (b ∷ bs) x = absurd x
-  cut-clean _ _ (cut_parameter ls ks d) (c ∷ cs) [] x = absurd x
-  cut-clean _ _ (cut_parameter ls ks d) (c ∷ cs) (b ∷ bs) x = ((tt, x.0), cut-clean ls ks d cs bs x.1)
-  cut-clean _ _ (cut_inner l ls kids ks n m p d) [] [] x = absurd x
-  cut-clean _ _ (cut_inner l ls kids ks n m p d) [] (b ∷ bs) x = absurd x
-  cut-clean _ _ (cut_inner l ls kids ks n m p d) (c ∷ cs) [] x = absurd x
-  cut-clean _ _ (cut_inner l ls kids ks n m p d) (c ∷ cs) (b ∷ bs) x =
-      let h = hang-parts kids ks (kid_tops e s l) cs (kid_flags e s l) bs m (m ∙ sym (same-many l)) (cut-clean ls (kids ++ ks) d (kid_tops e s l ++ cs) (kid_flags e s l ++ bs) x.1) in
-      let y = all_in_part kids (kid_tops e s l) (kid_flags e s l) h.0 p in
-      (((n, y.0, y.1), x.0), h.1)
-  cut-clean _ _ (cut_outer f ls kids ks ts n m z d) [] [] x = absurd x
-  cut-clean _ _ (cut_outer f ls kids ks ts n m z d) [] (b ∷ bs) x = absurd x
-  cut-clean _ _ (cut_outer f ls kids ks ts n m z d) (c ∷ cs) [] x = absurd x
-  cut-clean _ _ (cut_outer f ls kids ks ts n m z d) (c ∷ cs) (b ∷ bs) x =
-      let l = Symbol f in
-      let h = hang-parts kids ks (kid_tops e s l) cs (kid_flags e s l) bs m (m ∙ sym (same-many l)) (cut-clean ls (kids ++ ks) d (kid_tops e s l ++ cs) (kid_flags e s l ++ bs) x.1) in
-      (((n, all-close-clean kids (kid_tops e s l) (kid_flags e s l) ts h.0 z), x.0), h.1)

@@ -1,17 +1,19 @@
 -- Pieces that give way to terms.
-use Rattle.std.proofs.Common.{◌≡◌, ℕ, List, [], ◌∷◌, ◌++◌, length, get_or, refl, ap, sym, subst, ◌∙◌, arith, append_assoc, append-nil, true}
+use Rattle.std.proofs.Common.{◌≡◌, ℕ, List, [], ◌∷◌, ◌++◌, length, get_or, refl, ap, sym, subst, ◌∙◌, arith, append_assoc, append-nil, true, false}
 use Rattle.std.proofs.Math.Seq.{get_or-append_seam}
 use Rattle.rule_arena.specs.declared.label.Label.{Label}
 use Rattle.rule_arena.specs.declared.label.Label.TheVariants.{Call}
 use Rattle.slt_grammar.specs.Algebras.{ranks_of}
-use Rattle.slt_grammar.specs.Bodies.{params}
+use Rattle.slt_grammar.specs.Bodies.{params, IsTerm}
 use Rattle.slt_grammar.specs.Grammars.{body_at, no_rule}
 use Rattle.slt_grammar.specs.declared.rules.Rule.{Rule}
 use Rattle.slt_grammar.proofs.RuleMeanings.{rank_at-ranks_of}
 use Rattle.slt_grammar.proofs.Substitutions.{joined}
+use Rattle.border_repair.specs.Cuts.{IsCalmOver}
 use Rattle.border_repair.specs.Cutting.{HoldsFirst, Holds, CanClose, CanCloseKids, IsClosed, HoldsKids, AreClosed}
-use Rattle.border_repair.specs.Splitting.{Piece, IsPiece, ArePieces, Closes, alone, as_rule, none_closes, one_closes}
+use Rattle.border_repair.specs.Splitting.{Piece, HasFront, IsPiece, ArePieces, Closes, alone, as_rule, none_closes, one_closes}
 use Rattle.border_repair.specs.declared.cutting.Mark.{Mark}
+use Rattle.border_repair.proofs.Hanging.{calm-later, calm-more}
 
 -- the rule behind others
 pub seam : (G : List Rule) (R : Rule) (others : List Rule) → get_or ((G ++ R ∷ []) ++ others) (length G) no_rule ≡ R
@@ -37,12 +39,13 @@ module _ (rules : List Rule) (marks now : List Mark) (parts args : List Label) (
         args_are = w.args_are ∙ ap (λ z. w.front ++ z) (first.args_split ∙ ap (λ p. joined p.args ++ held.1) t.1 ∙ ap (λ z. z ++ held.1) (append-nil t.0));
         starts = first.arg;
         holds = subst (λ ps. Holds now ps held.1 w.pieces) (sym e) held.3;
+        calm = λ d h a. a;
       }
 
   -- a part that becomes a rule
-  pub closed-part : (R : Rule) (parts_now args_now : List Label) → R.body ≡ w.piece.part → R.rank ≡ params R.body → parts_now ≡ held.0 → args_now ≡ w.front ++ Call (length rules) ∷ w.behind
+  pub closed-part : (R : Rule) (parts_now args_now : List Label) → m.bare ≡ false → R.body ≡ w.piece.part → R.rank ≡ params R.body → parts_now ≡ held.0 → args_now ≡ w.front ++ Call (length rules) ∷ w.behind
       → IsClosed rules (rules ++ R ∷ []) now parts_now args_now w.front w.piece w.pieces m.args
-  closed-part R parts_now args_now b r e a = record {
+  closed-part R parts_now args_now inner b r e a = record {
     more = R ∷ [];
     grown = refl;
     term = Call (length rules) ∷ joined w.piece.args;
@@ -50,11 +53,12 @@ module _ (rules : List Rule) (marks now : List Mark) (parts args : List Label) (
         let H : List Rule = (rules ++ R ∷ []) ++ others in
         let at : get_or H (length rules) no_rule ≡ R = seam rules R others in
         as_rule w.piece (length rules) (ap (λ (S : Rule). S.body) at ∙ b) (rank_at-ranks_of H (length rules) ∙ ap (λ (S : Rule). S.rank) at ∙ r ∙ ap params b)
-        (subst (λ G. IsPiece (ranks_of G) w.piece) (sym (append_assoc rules (R ∷ []) others)) (w.is (R ∷ others)));
+        (subst (λ G. IsPiece (ranks_of G) w.piece) (sym (append_assoc rules (R ∷ []) others)) (w.is (R ∷ others))) (first.inner inner);
     behind = held.1;
     args_are = a ∙ ap (λ z. w.front ++ Call (length rules) ∷ z) first.args_split;
     starts = first.arg;
     holds = subst (λ ps. Holds now ps held.1 w.pieces) (sym e) held.3;
+    calm = λ d h a. calm-more d rules R (subst HasFront (sym b) (first.inner inner)) (λ more. subst (IsTerm (ranks_of (rules ++ R ∷ more))) (sym b) (w.is (R ∷ more)).term) (subst (IsCalmOver d rules) (sym b) h) a;
   }
 
 module _ (rules : List Rule) (marks : List Mark) (parts args : List Label) where
@@ -62,7 +66,7 @@ module _ (rules : List Rule) (marks : List Mark) (parts args : List Label) where
   pub no-kids : (many : ℕ) → many ≡ 0 → (w : HoldsKids marks parts args many) (start : ℕ) → start ≡ length args → AreClosed rules rules marks parts args w.kids w.pieces start
   no-kids many none w start s = by_kids w.kids (w.are_many ∙ none) w.holds where
     by_kids : (kids : List Piece) → length kids ≡ 0 → Holds marks parts args (kids ++ w.pieces) → AreClosed rules rules marks parts args kids w.pieces start
-    by_kids [] n h = record { more = []; grown = sym (append-nil rules); terms = []; close = λ others. none_closes; behind = args; args_are = refl; starts = s; holds = h }
+    by_kids [] n h = record { more = []; grown = sym (append-nil rules); terms = []; close = λ others. none_closes; behind = args; args_are = refl; starts = s; holds = h; calm = λ d c a. a }
     by_kids (p ∷ ps) n h = absurd (omega arith)
 
 module _ (rules : List Rule) (marks : List Mark) (parts args : List Label) (many : ℕ) (two : many ≡ 2) (w : CanCloseKids rules marks parts args many) where
@@ -121,4 +125,5 @@ module _ (rules : List Rule) (marks : List Mark) (parts args : List Label) (many
       args_are = y.args_are ∙ sym (append_assoc x.term (y.term ++ []) y.behind ∙ ap (λ z. x.term ++ (z ++ y.behind)) (append-nil y.term));
       starts = y.starts;
       holds = y.holds;
+      calm = λ d h a. y.calm d (calm-later d rules x.more mid are-two.other.part x.grown h.1.0) (x.calm d h.0 a);
     })

@@ -1,8 +1,9 @@
 -- Steps of reading a body from its end.
-use Rattle.std.proofs.Common.{◌≡◌, ℕ, suc, List, [], ◌∷◌, ◌++◌, length, map, refl, ap, sym, subst, ◌∙◌, arith, append_assoc, append-nil, false, true≢false}
+use Rattle.std.proofs.Common.{◌≡◌, ◌≢◌, ℕ, suc, List, [], ◌∷◌, ◌++◌, length, map, refl, ap, sym, subst, ◌∙◌, arith, append_assoc, append-nil, false, true≢false}
 use Rattle.rule_arena.specs.declared.label.Label.{Label}
+use Rattle.rule_arena.specs.declared.label.Label.TheVariants.{Bottom, Symbol, Call, Param}
 use Rattle.slt_grammar.proofs.Substitutions.{joined}
-use Rattle.border_repair.specs.Cutting.{Holds, HoldsKids}
+use Rattle.border_repair.specs.Cutting.{front, Holds, HoldsKids}
 use Rattle.border_repair.specs.Splitting.{Piece, grown, all_args}
 use Rattle.border_repair.specs.declared.cutting.Mark.{Mark}
 use Rattle.border_repair.proofs.Split.{joined-append}
@@ -76,15 +77,21 @@ taken-more marks parts args kids left now next m part arg before e w = by_rest t
         holds = g.3;
       }
 
+pub front-node : (l : Label) (part args : List Label) → l ≢ Param → front (l ∷ part) args ≡ l
+front-node Bottom part args n = refl
+front-node (Symbol f) part args n = refl
+front-node (Call q) part args n = refl
+front-node Param part args n = absurd (n refl)
+
 -- a node in one part with its children's parts
-pub inner-holds : (marks : List Mark) (parts args : List Label) (kids : ℕ) (now news : List Mark) (m : Mark) (label : Label) (w : HoldsKids marks parts args kids) → AreTaken marks parts args kids 0 now m.part m.args → news ≡ m ∷ now → m.bare ≡ false
+pub inner-holds : (marks : List Mark) (parts args : List Label) (kids : ℕ) (now news : List Mark) (m : Mark) (label : Label) (w : HoldsKids marks parts args kids) → AreTaken marks parts args kids 0 now m.part m.args → news ≡ m ∷ now → m.bare ≡ false → label ≢ Param → m.top ≡ label
     → Holds news (label ∷ parts) args (grown label w.kids ∷ w.pieces)
-inner-holds marks parts args kids now news m label w taken e b = by_rest t.rest t.kids_are t.many t.holds where
+inner-holds marks parts args kids now news m label w taken e b n l = by_rest t.rest t.kids_are t.many t.holds where
   t : IsTakenOff marks parts args 0 now m.part m.args w.kids w.pieces
   t = taken w
 
   by_rest : (rest : List Piece) → w.kids ≡ t.taken ++ rest → length rest ≡ 0 → Holds now t.parts_behind t.args_behind (rest ++ w.pieces) → Holds news (label ∷ parts) args (grown label w.kids ∷ w.pieces)
-  by_rest [] k n h =
+  by_rest [] k z h =
       let same : w.kids ≡ t.taken = k ∙ append-nil t.taken in
       subst (λ ms. Holds ms (label ∷ parts) args (grown label w.kids ∷ w.pieces)) (sym e) (
         t.parts_behind,
@@ -95,10 +102,12 @@ inner-holds marks parts args kids now news m label w taken e b = by_rest t.rest 
           part = t.part_is;
           arg = t.arg_is;
           alone = λ f. absurd (true≢false (sym f ∙ b));
+          inner = λ f. (label, parts_of w.kids, refl, n);
+          top = l ∙ sym (front-node label (parts_of w.kids) (joined (all_args w.kids)) n);
         },
         h,
       )
-  by_rest (p ∷ rest) k n h = absurd (omega arith)
+  by_rest (p ∷ rest) k z h = absurd (omega arith)
 
 -- where no mark is left, no child is either
 pub taken-stuck : (marks : List Mark) (parts args : List Label) (kids left part arg : ℕ) → AreTaken marks parts args kids (suc left) [] part arg → HoldsKids marks parts args kids → ⊥

@@ -1,24 +1,39 @@
 -- One more rule whose parts become rules.
-use Rattle.std.proofs.Common.{◌≡◌, ◌⊎◌, inl, inr, ℕ, ◌+◌, ◌-◌, ◌<◌, ◌≤◌, List, [], ◌∷◌, ◌++◌, length, get_or, ap, sym, subst, ◌∙◌, arith, append_assoc, append-nil, length-append}
+use Rattle.std.proofs.Common.{◌≡◌, ◌⊎◌, inl, inr, ℕ, zero, suc, ◌+◌, ◌-◌, ◌<◌, ◌≤◌, List, [], ◌∷◌, ◌++◌, length, get_or, drop, refl, ap, sym, subst, ◌∙◌, arith, append_assoc, append-nil, length-append}
 use Rattle.std.proofs.lemmas.Bool.{cases_lt}
 use Rattle.std.proofs.lemmas.List.{get_or_append_left}
 use Rattle.std.proofs.Math.Seq.{get_or-append_seam}
 use Rattle.rule_arena.specs.declared.label.Label.{Label}
+use Rattle.rule_arena.specs.declared.label.Label.TheVariants.{Bottom, Symbol, Call, Param}
 use Rattle.slt_grammar.specs.Algebras.{ranks_of}
 use Rattle.slt_grammar.specs.Bodies.{params, CallsBelow, IsTerm}
 use Rattle.slt_grammar.specs.Grammars.{IsGrammar, body_at, no_rule}
+use Rattle.slt_grammar.specs.KeyedEdits.{digram_body}
 use Rattle.slt_grammar.specs.Terms.{term_algebra}
+use Rattle.slt_grammar.specs.declared.digram.Digram.{Digram}
 use Rattle.slt_grammar.specs.declared.rules.Rule.{Rule}
 use Rattle.slt_grammar.proofs.RuleMeanings.{rank_at-ranks_of}
+use Rattle.border_repair.specs.Cuts.{IsCleanOver, IsCalmOver, AreCalm}
 use Rattle.border_repair.specs.Cutting.{IsCutOff}
-use Rattle.border_repair.specs.Expanding.{Expands, StandsIn, IsOutside, IsExposed, IsExposing, outside_at}
-use Rattle.border_repair.specs.Splitting.{whole, Closes}
+use Rattle.border_repair.specs.Digrams.{is, IsSymbol}
+use Rattle.border_repair.specs.Expanding.{Expands, StandsIn, IsOutside, IsExposed, IsExposing, AreClean, outside_at}
+use Rattle.border_repair.specs.Splitting.{whole, HasFront, Closes}
+use Rattle.border_repair.proofs.Cleaned.{HaveClean, expanded-clean, body-calm}
+use Rattle.border_repair.proofs.Hanging.{clean-later, calm-more}
 use Rattle.border_repair.proofs.Outsides.{expands-terms, expands-below, expands-params, expands-same, split-params, split-below, closed-below, calls-below-more}
 use Rattle.border_repair.proofs.ReadSteps.{closed-term}
 use Rattle.border_repair.proofs.Split.{closed-params}
+use Rattle.border_repair.proofs.Suffixes.{terms-same}
 
 pub exposing-start : (G rules : List Rule) (outsides : List (List Label)) → 0 < length rules → outsides ≡ [] → IsExposing G 0 rules outsides
 exposing-start G rules outsides s e = record { some = s; many = ap length e; each = λ others q b. absurd (omega arith) }
+
+-- the digram's rule alone
+pub first-calm : (d : Digram) (R : Rule) → IsSymbol d.upper → R.body ≡ digram_body [] d.upper (d.place - 1) d.lower → AreCalm d (R ∷ [])
+first-calm d R (f, u) b = record { fronts = at; terms = λ r o l. absurd (omega (arith, l, o)); calm = λ r o l. absurd (omega (arith, l, o)) } where
+  at : (r : ℕ) → r < 1 → HasFront (body_at (R ∷ []) r)
+  at zero l = subst HasFront (sym b) (d.upper, drop 1 (digram_body [] d.upper (d.place - 1) d.lower), refl, λ z. let y : Symbol f ≡ Param = sym u ∙ z in cc)
+  at (suc r) l = absurd (omega (arith, l))
 
 module _ (G : List Rule) (g : IsGrammar G) (k : ℕ) (h : k < length G) (rules : List Rule) (outsides : List (List Label)) (i : IsExposing G k rules outsides) where
   -- the parameters of the outsides
@@ -41,6 +56,29 @@ module _ (G : List Rule) (g : IsGrammar G) (k : ℕ) (h : k < length G) (rules :
         ap params (sym (append-nil labels)) ∙ expands-params (ranks_of G) (ranks_of rules) (length rules) (outside_at outsides) k stand (body_at G k) (labels ∷ []) x (g.each k h).earlier
         ∙ (g.each k h).linear ∙ sym (rank_at-ranks_of G k)
 
+    -- where the outsides are clean, so is the expanded body
+    pub labels-clean : (d : Digram) → AreClean d k rules outsides → IsCleanOver d rules labels
+    labels-clean d w s y = (expanded-clean (is d) s (ranks_of G) (outside_at outsides) (body_at G k) (labels ∷ []) x (have-clean (body_at G k) (g.each k h).earlier)).0 where
+      have-clean : (ls : List Label) → CallsBelow k ls → HaveClean (is d) s (ranks_of G) (outside_at outsides) ls
+      have-clean [] b = tt
+      have-clean (Bottom ∷ ls) b = have-clean ls b
+      have-clean (Symbol f ∷ ls) b = have-clean ls b
+      have-clean (Param ∷ ls) b = have-clean ls b
+      have-clean (Call q ∷ ls) b = ((w.clean q b.0 s y, ranks-known q b.0), have-clean ls b.1)
+
+    -- and the start, which has no parameter, is calm
+    pub start-calm : k + 1 ≡ length G → (d : Digram) (R : Rule) → R.body ≡ labels → AreClean d k rules outsides → AreCalm d (rules ++ R ∷ [])
+    start-calm e d R b w =
+        let none : params labels ≡ 0 = expanded-params ∙ rank_at-ranks_of G k ∙ (g.each k h).shaped.start (omega (arith, e)) in
+        calm-more d rules R (subst HasFront (sym b) (no-parameter labels expanded-term none)) (λ more. subst (IsTerm (ranks_of (rules ++ R ∷ more))) (sym b) (terms-same rules (R ∷ more) 1 labels expanded-below expanded-term)) (subst (IsCalmOver d rules) (sym b) (λ s y. body-calm (is d) s labels (labels-clean d w s y))) w.calm
+      where
+        no-parameter : (ls : List Label) → IsTerm (ranks_of rules) ls → params ls ≡ 0 → HasFront ls
+        no-parameter [] t n = absurd t
+        no-parameter (Bottom ∷ ls) t n = (Bottom, ls, refl, λ z. cc)
+        no-parameter (Symbol f ∷ ls) t n = (Symbol f, ls, refl, λ z. cc)
+        no-parameter (Call q ∷ ls) t n = (Call q, ls, refl, λ z. cc)
+        no-parameter (Param ∷ ls) t n = absurd (omega arith)
+
     -- the start's body ends the rules
     pub exposed-all : k + 1 ≡ length G → (R : Rule) → R.body ≡ labels → IsExposed G (rules ++ R ∷ []) (outside_at outsides)
     exposed-all e R b =
@@ -54,7 +92,7 @@ module _ (G : List Rule) (g : IsGrammar G) (k : ℕ) (h : k < length G) (rules :
           some = omega (arith, length-append rules (R ∷ []), i.some);
         }
 
-    module _ (news : List Rule) (outside : List Label) (c : IsCutOff rules news labels outside) where
+    module _ (d : Digram) (news : List Rule) (outside : List Label) (c : IsCutOff d rules news labels outside) where
       all : List (List Label)
       all = outsides ++ outside ∷ []
 
@@ -110,3 +148,10 @@ module _ (G : List Rule) (g : IsGrammar G) (k : ℕ) (h : k < length G) (rules :
         by_place : (others : List Rule) (q : ℕ) → q < k + 1 → (q < k) ⊎ (k ≤ q) → IsOutside G (news ++ others) (outside_at (outsides ++ outside ∷ [])) q
         by_place others q l (inl b) = old-outside others q b
         by_place others q l (inr b) = let same : k ≡ q = omega arith in subst (IsOutside G (news ++ others) (outside_at (outsides ++ outside ∷ []))) same (new-outside others)
+
+      -- the outsides stay clean, and the rules calm
+      pub clean-next : AreClean d k rules outsides → AreClean d (k + 1) news (outsides ++ outside ∷ [])
+      clean-next w = record { calm = c.calm (labels-clean d w) w.calm; clean = λ q l. by_place q l (cases_lt q k) } where
+        by_place : (q : ℕ) → q < k + 1 → (q < k) ⊎ (k ≤ q) → IsCleanOver d news (outside_at (outsides ++ outside ∷ []) q)
+        by_place q l (inl b) = subst (IsCleanOver d news) (kept q b) (clean-later d rules c.more news (outside_at outsides q) c.grown (w.clean q b))
+        by_place q l (inr b) = let same : k ≡ q = omega arith in subst (λ j. IsCleanOver d news (outside_at (outsides ++ outside ∷ []) j)) same (subst (IsCleanOver d news) (sym own) (c.clean (labels-clean d w)))

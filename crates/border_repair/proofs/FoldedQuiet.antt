@@ -1,5 +1,5 @@
 -- In a folded body no edge weighs anything but above its root.
-use Rattle.std.proofs.Common.{◌≡◌, ◌≢◌, ◌⊎◌, inl, inr, ℕ, zero, suc, ◌+◌, List, [], ◌∷◌, ◌++◌, Option, Some, None, length, refl, ap, sym, subst, ◌∙◌, arith, append_assoc, length-append, true}
+use Rattle.std.proofs.Common.{◌≡◌, ◌≢◌, ◌⊎◌, inl, inr, ℕ, zero, suc, List, [], ◌∷◌, ◌++◌, Some, None, length, refl, ap, sym, subst, ◌∙◌, arith, append_assoc, length-append, true}
 use Rattle.std.specs.Prelude.{Bool}
 use Rattle.rule_arena.specs.declared.label.Label.{Label}
 use Rattle.rule_arena.specs.declared.label.Label.TheVariants.{Bottom, Symbol, Call, Param}
@@ -10,10 +10,11 @@ use Rattle.border_repair.specs.Digrams.{is}
 use Rattle.border_repair.specs.Edges.{IsHarmless, no_flags, kid_tops, kid_flags, IsOpenEdge, Calm, weighs_at}
 use Rattle.border_repair.specs.Folding.{IsPair, Folds, nothing, parameter, kept, made, HasPairRank}
 use Rattle.border_repair.specs.ValueBut.{nones}
-use Rattle.border_repair.specs.Weighing.{Above, Rim, hung}
+use Rattle.border_repair.specs.Weighing.{Above, Rim, arisen}
+use Rattle.border_repair.proofs.Cleaned.{AreShown, arisen-edges}
 use Rattle.border_repair.proofs.Cleaning.{edges-append}
 use Rattle.border_repair.proofs.EdgeLemmas.{is-tells}
-use Rattle.border_repair.proofs.Quiet.{first_of, IsStill, Still, Quiet, AllQuiet, TopsStill, TopsOpen, AreSafe, flags-same, quiet-parts, still-joined, open-still, open-cut, safe_still}
+use Rattle.border_repair.proofs.Quiet.{first_of, IsStill, Still, Quiet, AllQuiet, TopsStill, TopsOpen, AreSafe, flags-same, quiet-parts, still-joined, open-still, open-cut, quiet-none, safe_still}
 
 module _ (d : Digram) (s : ℕ → Rim) (ranks : List ℕ) (same : (l : Label) → length (kid_tops (is d) s l) ≡ arity ranks l) where
   -- other places above terms, where nothing weighs anything
@@ -99,23 +100,39 @@ module _ (d : Digram) (s : ℕ → Rim) (ranks : List ℕ) (same : (l : Label) �
         let top : d.lower ≡ v.1.0.label = let w = v.1.0.whole in cc in
         let rest : p.below ≡ v.1.0.below = let w = v.1.0.whole in cc in
         let inside : Still (is d) s ranks same (kid_tops (is d) s d.lower) (kid_flags (is d) s d.lower) p.below =
-            subst (λ k. Still (is d) s ranks same (kid_tops (is d) s k) (kid_flags (is d) s k) p.below) (sym top) (subst (Still (is d) s ranks same (kid_tops (is d) s v.1.0.label) (kid_flags (is d) s v.1.0.label)) (sym rest) v.1.0.inside) in
+        subst (λ k. Still (is d) s ranks same (kid_tops (is d) s k) (kid_flags (is d) s k) p.below) (sym top) (subst (Still (is d) s ranks same (kid_tops (is d) s v.1.0.label) (kid_flags (is d) s v.1.0.label)) (sym rest) v.1.0.inside) in
         let A = nones (length p.before) in
         let C = nones (length p.after) in
         let a = still-joined (is d) s ranks same p.before (nones (length p.before)) (no_flags (nones (length p.before))) (length-flags (nones (length p.before))) (nones-still p.before) v.0 in
         let c = still-joined (is d) s ranks same p.after (nones (length p.after)) (no_flags (nones (length p.after))) (length-flags (nones (length p.after))) (nones-still p.after) v.1.1 in
         let b = edges-append (is d) s (IsStill (is d) s ranks same) p.below (joined p.after) (kid_tops (is d) s d.lower) (nones (length p.after)) (kid_flags (is d) s d.lower) (no_flags (nones (length p.after))) inside c in
         let all = edges-append (is d) s (IsStill (is d) s ranks same) (joined p.before) (p.below ++ joined p.after) (nones (length p.before)) (kid_tops (is d) s d.lower ++ nones (length p.after)) (no_flags (nones (length p.before)))
-            (kid_flags (is d) s d.lower ++ no_flags (nones (length p.after))) a b in
+        (kid_flags (is d) s d.lower ++ no_flags (nones (length p.after))) a b in
         let cs = A ++ (kid_tops (is d) s d.lower ++ C) in
         let fs = no_flags A ++ (kid_flags (is d) s d.lower ++ no_flags C) in
         let many : length (A ++ (kid_tops (is d) s d.lower ++ C)) ≡ length (s 0).borders = omega (
-          arith, length-append A (kid_tops (is d) s d.lower ++ C), length-append (kid_tops (is d) s d.lower) C, length-nones (length p.before), length-nones (length p.after), same d.lower, same (Call 0), pair.rank, n,
-          ap length p.kids_are, length-append p.before ((d.lower ∷ p.below) ∷ p.after),
+          arith,
+          length-append A (kid_tops (is d) s d.lower ++ C),
+          length-append (kid_tops (is d) s d.lower) C,
+          length-nones (length p.before),
+          length-nones (length p.after),
+          same d.lower,
+          same (Call 0),
+          pair.rank,
+          n,
+          ap length p.kids_are,
+          length-append p.before ((d.lower ∷ p.below) ∷ p.after),
         ) in
         let flags : length (A ++ (kid_tops (is d) s d.lower ++ C)) ≡ length (no_flags A ++ (kid_flags (is d) s d.lower ++ no_flags C)) = omega (
-          arith, length-append A (kid_tops (is d) s d.lower ++ C), length-append (kid_tops (is d) s d.lower) C, length-append (no_flags A) (kid_flags (is d) s d.lower ++ no_flags C), length-append (kid_flags (is d) s d.lower) (no_flags C),
-          length-flags A, length-flags C, same d.lower, flags-same (is d) s ranks same d.lower,
+          arith,
+          length-append A (kid_tops (is d) s d.lower ++ C),
+          length-append (kid_tops (is d) s d.lower) C,
+          length-append (no_flags A) (kid_flags (is d) s d.lower ++ no_flags C),
+          length-append (kid_flags (is d) s d.lower) (no_flags C),
+          length-flags A,
+          length-flags C,
+          same d.lower,
+          flags-same (is d) s ranks same d.lower,
         ) in
         record {
           label = Call 0;
@@ -154,3 +171,7 @@ module _ (d : Digram) (s : ℕ → Rim) (ranks : List ℕ) (same : (l : Label) �
         let u = quiet-parts (is d) s ranks same kids ts r.0 in
         let o = open-cut (is d) s ranks same kids ts (kid_tops (is d) s d.upper) cs (kid_flags (is d) s d.upper) bs (same d.upper ∙ sym n) (flags-same (is d) s ranks same d.upper ∙ sym n) r.1 in
         ((made-quiet kids p n u.0, u.1), (hx a, o.1))
+
+    -- so nothing arises in it
+    pub folded-none : AreShown (is d) s → (body folded : List Label) → Calm (is d) s (None ∷ []) (true ∷ []) body → Folds ranks 0 d body (folded ∷ []) → arisen s (is d) (None ∷ []) folded ≡ 0
+    folded-none h body folded c x = arisen-edges (is d) s h folded (None ∷ []) ∙ quiet-none (is d) s ranks same folded (folded-quiet body (folded ∷ []) x (None ∷ []) (true ∷ []) c).0.0

@@ -134,7 +134,7 @@ module _ (ranks : List ℕ) (d : Digram) (upper : d.upper ≢ Param) (lower : d.
         (AreTerms-append (arity ranks) (length p.before) (suc (length p.after)) (parameters (length p.before)) (d.lower ∷ parameters r) (parameters-terms ranks (length p.before)) lowers)
 
   -- folded labels are terms
-  folds-terms : (ls : List Label) (ts : List (List Label)) → Folds ranks 0 d ls ts → AllTerms ranks ts
+  pub folds-terms : (ls : List Label) (ts : List (List Label)) → Folds ranks 0 d ls ts → AllTerms ranks ts
   folds-terms _ _ nothing = tt
   folds-terms _ _ (parameter ls ts f) = (tt, folds-terms ls ts f)
   folds-terms _ _ (kept l ls kids ts n m no_pair f) =
@@ -166,7 +166,7 @@ module _ (ranks : List ℕ) (d : Digram) (upper : d.upper ≢ Param) (lower : d.
         let place : length p.before ≡ d.place - 1 = omega (arith, p.place) in
         let q : Piece = record { part = digram_body ranks d.upper (length p.before) d.lower; args = p.before ++ (terms (arity ranks) (arity ranks d.lower) p.below ++ p.after) } in
         let is : IsPiece ranks q = record { term = body-term kids p m t; enough = many-args kids p m t ∙ sym (body-params kids p m t); terms = args-are kids p m t } in
-        let call : Closes ranks first_body q (Call 0 ∷ joined (p.before ++ (terms (arity ranks) (arity ranks d.lower) p.below ++ p.after))) = as_rule q 0 (ap (λ k. digram_body ranks d.upper k d.lower) (sym place)) (sym (body-params kids p m t)) is in
+        let call : Closes ranks first_body q (Call 0 ∷ joined (p.before ++ (terms (arity ranks) (arity ranks d.lower) p.below ++ p.after))) = as_rule q 0 (ap (λ k. digram_body ranks d.upper k d.lower) (sym place)) (sym (body-params kids p m t)) is (d.upper, drop 1 q.part, refl, upper) in
         let w : whole q ≡ d.upper ∷ joined kids = put-pair kids p m t in
         let e : Call 0 ∷ joined (p.before ++ (terms (arity ranks) (arity ranks d.lower) p.below ++ p.after)) ≡ Call 0 ∷ (joined p.before ++ (p.below ++ joined p.after)) = ap (λ z. Call 0 ∷ z) (joined-are kids p m t) in
         ap (λ u. meanings A ranks fs args (u ++ joined ts) []) (sym e)

@@ -32,3 +32,9 @@ pub mod Cleaning
 pub mod Cleaned
 pub mod Quiet
 pub mod FoldedQuiet
+pub mod Hanging
+pub mod RuleLists
+pub mod Marks
+pub mod FoldedRims
+pub mod RimTables
+pub mod NoneLeft

@@ -6,8 +6,8 @@ use Rattle.rule_arena.specs.declared.label.Label.{Label}
 use Rattle.slt_grammar.specs.Algebras.{meanings}
 use Rattle.slt_grammar.specs.Bodies.{arity, params, CallsBelow}
 use Rattle.slt_grammar.proofs.Meanings.{meanings-whole}
-use Rattle.border_repair.specs.Weighing.{Scale, Above, hung, Weighed, weight_algebra, Rim, under, root_from, borders_from, arisen, called, rim_of, hung_all}
-use Rattle.border_repair.proofs.RimLemmas.{IsRim, IsWhole, AreKnown, known-under, have-rims, alone, arisen-under, borders-under, body-whole, borders-many, weighs}
+use Rattle.border_repair.specs.Weighing.{AreKnown, Scale, Above, hung, Weighed, weight_algebra, Rim, under, root_from, borders_from, arisen, called, rim_of, hung_all}
+use Rattle.border_repair.proofs.RimLemmas.{IsRim, IsWhole, known-under, have-rims, alone, arisen-under, borders-under, body-whole, borders-many, weighs}
 
 module _ (e : Scale) (ranks : List ℕ) (fs : List (List Weighed → Weighed)) (bodies : ℕ → List Label) (rims : ℕ → Rim) (ws : ℕ → ℕ) where
   abbrev pub F : ℕ → List Weighed → Weighed

@@ -1,14 +1,12 @@
 -- Outsides of rules: what stands in for calls, and what is left of a body that was cut.
-use Rattle.std.proofs.Common.{◌≡◌, ◌⊎◌, inl, inr, ℕ, suc, ◌+◌, ◌<◌, ◌≤◌, List, [], ◌∷◌, ◌++◌, length, map, refl, ap, sym, subst, ◌∙◌, arith, append_assoc, append-nil}
-use Rattle.std.proofs.lemmas.Bool.{cases_lt}
-use Rattle.std.proofs.lemmas.List.{get_or_past}
+use Rattle.std.proofs.Common.{◌≡◌, ℕ, suc, ◌+◌, ◌<◌, ◌≤◌, List, [], ◌∷◌, ◌++◌, length, map, refl, ap, sym, subst, ◌∙◌, arith, append_assoc, append-nil}
 use Rattle.rule_arena.specs.declared.label.Label.{Label}
 use Rattle.rule_arena.specs.declared.label.Label.TheVariants.{Bottom, Symbol, Call, Param}
 use Rattle.rule_arena.proofs.PreorderLemmas.{AreTerms-append}
 use Rattle.slt_grammar.specs.Algebras.{ranks_of}
-use Rattle.slt_grammar.specs.Bodies.{arity, params, CallsBelow, IsTerm}
+use Rattle.slt_grammar.specs.Bodies.{arity, params, CallsBelow}
 use Rattle.slt_grammar.specs.Editing.{put}
-use Rattle.slt_grammar.specs.Grammars.{body_at, no_rule}
+use Rattle.slt_grammar.specs.Grammars.{body_at}
 use Rattle.slt_grammar.specs.Terms.{term_algebra}
 use Rattle.slt_grammar.specs.declared.rules.Rule.{Rule}
 use Rattle.slt_grammar.proofs.Meanings.{params-append}
@@ -17,6 +15,7 @@ use Rattle.border_repair.specs.Expanding.{Expands, nothing, parameter, bottom, s
 use Rattle.border_repair.specs.Splitting.{Piece, whole, all_args, bare, grown, IsPiece, ArePieces, Closes, alone, as_rule, AllClose, none_closes, one_closes, Splits, inner, outer}
 use Rattle.border_repair.specs.Splitting as splitting
 use Rattle.border_repair.proofs.Split.{joined-append, closed-params, put-front, put-kids, wholes, wholes-append}
+use Rattle.border_repair.proofs.RuleLists.{called-there}
 use Rattle.border_repair.proofs.Suffixes.{other-calls}
 
 calls-append : (k : ℕ) (xs ys : List Label) → CallsBelow k xs → CallsBelow k ys → CallsBelow k (xs ++ ys)
@@ -137,17 +136,6 @@ module _ (H : List Rule) where
       ap (λ z. params (z ++ wholes ps)) (append-nil (l ∷ joined ts))
       ∙ params-same l (joined ts ++ wholes ps) ls (params-append (joined ts) (wholes ps) ∙ ap (λ k. k + params (wholes ps)) (closed-all-params kids ts c) ∙ sym (params-append (wholes kids) (wholes ps)) ∙ ap params (sym (wholes-append kids ps)) ∙ split-params ls (kids ++ ps) s)
 
-  -- the terms of pieces call rules that are there
-  called-there : (p : Piece) (q : ℕ) → IsPiece ranks p → body_at H q ≡ p.part → q < length H
-  called-there p q is e = by_place (cases_lt q (length H)) where
-    none : (ls : List Label) → ls ≡ [] → IsTerm ranks ls → ⊥
-    none [] z t = t
-    none (l ∷ ls) z t = cc
-
-    by_place : (q < length H) ⊎ (length H ≤ q) → q < length H
-    by_place (inl l) = l
-    by_place (inr l) = absurd (none p.part (sym e ∙ ap (λ (R : Rule). R.body) (get_or_past H q no_rule l)) is.term)
-
   abbrev HaveBelow : List Piece → Type 0
   HaveBelow [] = Unit {0}
   HaveBelow (p ∷ ps) = AllBelow (length H) p.args × HaveBelow ps
@@ -166,7 +154,7 @@ module _ (H : List Rule) where
 
   pub closed-below : (p : Piece) (t : List Label) → Closes ranks (body_at H) p t → AllBelow (length H) p.args → CallsBelow (length H) t
   closed-below _ _ (alone t) a = a.0
-  closed-below _ _ (as_rule p q b r is) a = (called-there p q is b, below-joined (length H) p.args a)
+  closed-below _ _ (as_rule p q b r is front) a = (called-there H p q is b, below-joined (length H) p.args a)
 
   closed-all-below : (ps : List Piece) (ts : List (List Label)) → AllClose ranks (body_at H) ps ts → HaveBelow ps → CallsBelow (length H) (joined ts)
   closed-all-below _ _ none_closes a = tt

@@ -1,13 +1,13 @@
 -- Terms below whose roots no edge weighs anything.
-use Rattle.std.proofs.Common.{◌≡◌, ◌≢◌, ◌⊎◌, inl, inr, ℕ, zero, suc, ◌+◌, List, [], ◌∷◌, ◌++◌, Option, Some, None, length, refl, ap, sym, subst, ◌∙◌, arith, append_assoc, append-nil, length-append, true, false}
+use Rattle.std.proofs.Common.{◌≡◌, inl, inr, ℕ, zero, suc, ◌+◌, List, [], ◌∷◌, ◌++◌, Some, None, length, refl, ap, sym, subst, ◌∙◌, arith, append_assoc, append-nil, length-append, true, false}
 use Rattle.std.specs.Prelude.{Bool}
 use Rattle.rule_arena.specs.Preorder.{AreTerms}
 use Rattle.rule_arena.specs.declared.label.Label.{Label}
 use Rattle.rule_arena.specs.declared.label.Label.TheVariants.{Bottom, Symbol, Call, Param}
 use Rattle.slt_grammar.specs.Bodies.{arity}
 use Rattle.slt_grammar.proofs.Substitutions.{joined, AllTerms}
-use Rattle.border_repair.specs.Edges.{IsSafe, IsHarmless, no_flags, kid_tops, kid_flags, IsOpenEdge, AreEdges, Calm, flagged, direct_at, weighs_at, all_edges}
-use Rattle.border_repair.specs.Weighing.{Scale, Above, Rim, hung}
+use Rattle.border_repair.specs.Edges.{IsSafe, no_flags, kid_tops, kid_flags, IsOpenEdge, AreEdges, direct_at, weighs_at, all_edges}
+use Rattle.border_repair.specs.Weighing.{Scale, Above, Rim}
 use Rattle.border_repair.proofs.Cleaning.{edges-append, alone}
 
 -- the label at the root of a term
@@ -44,7 +44,7 @@ module _ (e : Scale) (s : ℕ → Rim) (ranks : List ℕ) (same : (l : Label) �
       let y = subst (λ u. Still u (kid_flags e s l ++ (fs ++ bs)) (xs ++ ys)) (sym (append_assoc (kid_tops e s l) tops cs)) x.1 in
       let z = subst (λ u. Still ((kid_tops e s l ++ tops) ++ cs) u (xs ++ ys)) (sym (append_assoc (kid_flags e s l) fs bs)) y in
       let r = still-cut (arity ranks l + n) xs ys (kid_tops e s l ++ tops) cs (kid_flags e s l ++ fs) bs t
-        (omega (arith, length-append (kid_tops e s l) tops, same l)) (omega (arith, length-append (kid_flags e s l) fs, flags-same l)) z in
+      (omega (arith, length-append (kid_tops e s l) tops, same l)) (omega (arith, length-append (kid_flags e s l) fs, flags-same l)) z in
       ((x.0, r.0), r.1)
 
   -- a term that is still below its root
@@ -81,8 +81,8 @@ module _ (e : Scale) (s : ℕ → Rim) (ranks : List ℕ) (same : (l : Label) �
   still-joined (t ∷ ts) (c ∷ cs) [] l h q = absurd (omega arith)
   still-joined (t ∷ ts) (c ∷ cs) (b ∷ bs) l h q =
       edges-append e s IsStill t (joined ts) (c ∷ []) cs (b ∷ []) bs
-        (subst (Still (c ∷ []) (b ∷ [])) (sym q.0.whole) (ap (weighs_at e s c) (sym (ap first_of q.0.whole)) ∙ h.0, alone e s IsStill (kid_tops e s q.0.label) (kid_flags e s q.0.label) q.0.below q.0.inside))
-        (still-joined ts cs bs (omega arith) h.1 q.1)
+      (subst (Still (c ∷ []) (b ∷ [])) (sym q.0.whole) (ap (weighs_at e s c) (sym (ap first_of q.0.whole)) ∙ h.0, alone e s IsStill (kid_tops e s q.0.label) (kid_flags e s q.0.label) q.0.below q.0.inside))
+      (still-joined ts cs bs (omega arith) h.1 q.1)
 
   -- from still terms each is quiet
   quiet-terms : (ts : List (List Label)) (cs : List Above) (bs : List Bool) → AllTerms ranks ts → length cs ≡ length ts → length bs ≡ length ts → Still cs bs (joined ts) → AllQuiet ts
@@ -92,9 +92,10 @@ module _ (e : Scale) (s : ℕ → Rim) (ranks : List ℕ) (same : (l : Label) �
   quiet-terms ([] ∷ ts) (c ∷ cs) (b ∷ bs) t m k x = absurd t.0
   quiet-terms ((l ∷ u) ∷ ts) (c ∷ cs) (b ∷ bs) t m k x =
       let r = still-cut 1 (l ∷ u) (joined ts) (c ∷ []) cs (b ∷ []) bs t.0 refl refl x in
-      let y = subst (λ v. Still v (kid_flags e s l ++ []) u) (append-nil (kid_tops e s l)) r.0.1 in
-      (record { label = l; below = u; whole = refl; inside = subst (λ v. Still (kid_tops e s l) v u) (append-nil (kid_flags e s l)) y },
-       quiet-terms ts cs bs t.1 (omega arith) (omega arith) r.1)
+      let y = subst (λ v. Still v (kid_flags e s l ++ []) u) (append-nil (kid_tops e s l)) r.0.1 in (
+        record { label = l; below = u; whole = refl; inside = subst (λ v. Still (kid_tops e s l) v u) (append-nil (kid_flags e s l)) y },
+        quiet-terms ts cs bs t.1 (omega arith) (omega arith) r.1,
+      )
 
   -- an open edge of no direct weight weighs nothing
   open_still : (c : Above) (b : Bool) (l : Label) → IsOpenEdge e s c b l → direct_at e s c b l ≡ 0 → weighs_at e s c l ≡ 0
@@ -166,9 +167,8 @@ module _ (e : Scale) (s : ℕ → Rim) (ranks : List ℕ) (same : (l : Label) �
   pub quiet-none : (t : List Label) → Quiet t → all_edges e s (None ∷ []) t ≡ 0
   quiet-none t q =
       still-none t (None ∷ []) (true ∷ []) (subst (Still (None ∷ []) (true ∷ [])) (sym q.whole) (at_root q.label, alone e s IsStill (kid_tops e s q.label) (kid_flags e s q.label) q.below q.inside)) where
-    at_root : (l : Label) → weighs_at e s None l ≡ 0
-    at_root Bottom = refl
-    at_root (Symbol f) = refl
-    at_root (Call q) = refl
-    at_root Param = refl
-
+        at_root : (l : Label) → weighs_at e s None l ≡ 0
+        at_root Bottom = refl
+        at_root (Symbol f) = refl
+        at_root (Call q) = refl
+        at_root Param = refl

@@ -11,7 +11,7 @@ use Rattle.slt_grammar.specs.declared.rules.Rule.{Rule}
 use Rattle.slt_grammar.proofs.RuleMeanings.{rank_at-ranks_of, memo-at}
 use Rattle.slt_grammar.proofs.Carrying.{up-value_at}
 use Rattle.std.proofs.lemmas.Bool.{cases_lt}
-use Rattle.border_repair.specs.Weighing.{weight, Scale, Above, hung, Weighed, weight_algebra, Rim, under, first_of, root_from, borders_from, arisen, called, rim_of, hung_all, AreRims}
+use Rattle.border_repair.specs.Weighing.{weight, Scale, Above, hung, Weighed, weight_algebra, Rim, under, AreKnown, first_of, root_from, borders_from, arisen, called, rim_of, hung_all, AreRims}
 
 -- a rule's meaning weighs what its rim says, under whatever is above it
 pub record IsRim (e : Scale) (n : ℕ) (F : List Weighed → Weighed) (rim : Rim) (w : ℕ) : Type 0 where
@@ -94,12 +94,6 @@ under-twice c b [] = refl
 under-twice c None (None ∷ xs) = ap (λ z. c ∷ z) (under-twice c None xs)
 under-twice c (Some a) (None ∷ xs) = ap (λ z. Some a ∷ z) (under-twice c (Some a) xs)
 under-twice c b (Some a ∷ xs) = ap (λ z. Some a ∷ z) (under-twice c b xs)
-
--- what is above is known everywhere
-abbrev pub AreKnown : List Above → Type 0
-AreKnown [] = Unit {0}
-AreKnown (None ∷ bs) = ⊥
-AreKnown (Some a ∷ bs) = AreKnown bs
 
 pub known-under : (c : Above) (bs : List Above) → AreKnown bs → under c bs ≡ bs
 known-under c [] k = refl

@@ -89,11 +89,11 @@ module _ {S : Type 0} (A : Algebra S) (ranks : List ℕ) (fs : List (List S → 
   -- a closed piece means what it is
   pub closed-means : Mean → (p : Piece) (t : List Label) → Closes ranks bodies p t → (args rest : List S) → meanings A ranks fs args t rest ≡ meanings A ranks fs args (whole p) rest
   closed-means mean _ _ (alone t) args rest = ap (λ z. meanings A ranks fs args z rest) (sym (append-nil t))
-  closed-means mean _ _ (as_rule p q b r is) args rest = call-means mean p q b r is args rest
+  closed-means mean _ _ (as_rule p q b r is front) args rest = call-means mean p q b r is args rest
 
   pub closed-params : (p : Piece) (t : List Label) → Closes ranks bodies p t → params t ≡ params (whole p)
   closed-params _ _ (alone t) = ap params (sym (append-nil t))
-  closed-params _ _ (as_rule p q b r is) = sym (params-put p.part p.args is.enough)
+  closed-params _ _ (as_rule p q b r is front) = sym (params-put p.part p.args is.enough)
 
   all-closed : Mean → (ps : List Piece) (ts : List (List Label)) → AllClose ranks bodies ps ts → (args : List S) (ys : List Label) → meanings A ranks fs args (joined ts ++ ys) [] ≡ meanings A ranks fs args (wholes ps ++ ys) []
   all-closed mean _ _ none_closes args ys = refl

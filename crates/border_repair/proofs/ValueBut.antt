@@ -13,10 +13,10 @@ use Rattle.slt_grammar.proofs.RuleMeanings.{rank_at-ranks_of, meanings-earlier, 
 use Rattle.slt_grammar.proofs.Substitutions.{joined}
 use Rattle.border_repair.specs.Edges.{all_edges}
 use Rattle.border_repair.specs.ValueBut.{label_algebra, but_meanings, value_but, adds_before}
-use Rattle.border_repair.specs.Weighing.{Scale, Weighed, weight_algebra, Rim, under, arisen, called, rim_of}
+use Rattle.border_repair.specs.Weighing.{AreKnown, Scale, Weighed, weight_algebra, Rim, under, arisen, called, rim_of}
 use Rattle.border_repair.proofs.But.{Weighs, AllWeigh, CallsWeigh, opaque-weighs, meanings-weigh, hung-term, used-adds}
 use Rattle.border_repair.proofs.Opaque.{opaque, opaque-told, Told, HasBody, all-told}
-use Rattle.border_repair.proofs.RimLemmas.{IsRim, AreKnown, hung_all-none}
+use Rattle.border_repair.proofs.RimLemmas.{IsRim, hung_all-none}
 use Rattle.border_repair.proofs.UseLemmas.{sum-one}
 
 -- a rule behind others means what its body means
@@ -167,3 +167,11 @@ module _ (e : Scale) (s : ℕ → Rim) (each : ℕ) (G : List Rule) (g : IsGramm
       ∙ omega (arith, t.means None [] (sym rank), hung_all-none e (under None (rims last).borders))
       ∙ sym (sum-one (length G) last ws l)
       ∙ used-adds ws own lists (length G) adds (length G) (λ q. if eqb last q then 1 else 0) (omega arith)
+
+  nothing-added : (n : ℕ) (used : ℕ → ℕ) → ((k : ℕ) → k < n → own k ≡ 0) → adds_before own lists n used ≡ 0
+  nothing-added zero used h = refl
+  nothing-added (suc n) used h = omega (arith, ap (λ m. used n * m) (h n (omega arith)), nothing-added n (λ q. used q + used n * calls_in q (lists n)) (λ k l. h k (omega (arith, l))))
+
+  -- where nothing arises in any rule, no edge is left
+  pub none-left : ((k : ℕ) → k < length G → own k ≡ 0) → all_edges e s (None ∷ []) (value_but G) ≡ 0
+  none-left h = omega (arith, but-arises, nothing-added (length G) (λ q. if eqb (length G - 1) q then 1 else 0) h)

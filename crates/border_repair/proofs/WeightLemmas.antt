@@ -26,7 +26,7 @@ called-same k a b h (Call q ∷ ls) d = omega (arith, h q d.0, called-same k a b
 
 module _ (e : Scale) (G : List Rule) (rims : ℕ → Rim) where
   -- what the first rules weigh
-  abbrev weights_of : ℕ → ℕ → ℕ
+  abbrev pub weights_of : ℕ → ℕ → ℕ
   weights_of zero r = 0
   weights_of (suc k) r = if eqb r k then arisen rims e (None ∷ []) (body_at G k) + called (weights_of k) (body_at G k) else weights_of k r
 
@@ -49,7 +49,7 @@ module _ (e : Scale) (G : List Rule) (rims : ℕ → Rim) where
     by_place (inl x) ih = let same : suc n ≡ k = omega arith in ap (λ j. weights_of j r) same
     by_place (inr x) ih = stays n r (omega arith) ∙ ih x
 
-  weights-are : IsGrammar G → AreWeights e G rims (weights_of (length G))
+  pub weights-are : IsGrammar G → AreWeights e G rims (weights_of (length G))
   weights-are g r l = later (length G) (suc r) r (omega arith) (omega arith) ∙ own r
       ∙ ap (λ n. arisen rims e (None ∷ []) (body_at G r) + n) (called-same r (weights_of r) (weights_of (length G)) (λ q b. sym (later (length G) r q b (omega arith))) (body_at G r) (g.each r l).earlier)
 

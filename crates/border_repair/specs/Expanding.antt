@@ -8,7 +8,9 @@ use Rattle.slt_grammar.specs.Editing.{put}
 use Rattle.slt_grammar.specs.Grammars.{body_at}
 use Rattle.slt_grammar.specs.Segments.{segment}
 use Rattle.slt_grammar.specs.Tours.{Stop}
+use Rattle.slt_grammar.specs.declared.digram.Digram.{Digram}
 use Rattle.slt_grammar.specs.declared.rules.Rule.{Rule}
+use Rattle.border_repair.specs.Cuts.{IsCleanOver, AreCalm}
 use Rattle.border_repair.specs.Splitting.{Piece, Closes, Splits}
 
 -- the labels, from the end on, with each call replaced by the outside of its rule over the call's arguments
@@ -62,3 +64,8 @@ pub record IsExposing (G : List Rule) (k : ℕ) (rules : List Rule) (outsides : 
   pub some : 0 < length rules
   pub many : length outsides ≡ k
   pub each : (others : List Rule) (q : ℕ) → q < k → IsOutside G (rules ++ others) (outside_at outsides) q
+
+-- the rules so far are calm, and the outsides are clean by their rims
+pub record AreClean (d : Digram) (k : ℕ) (rules : List Rule) (outsides : List (List Label)) : Type 0 where
+  pub calm : AreCalm d rules
+  pub clean : (q : ℕ) → q < k → IsCleanOver d rules (outside_at outsides q)

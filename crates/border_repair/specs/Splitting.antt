@@ -23,6 +23,10 @@ all_args (p ∷ ps) = p.args ++ all_args ps
 abbrev pub bare : List Label → Piece
 bare t = record { part = Param ∷ []; args = t ∷ [] }
 
+-- labels begin with a node
+abbrev pub HasFront : List Label → Type 0
+HasFront ls = (l : Label) × (rest : List Label) × (ls ≡ l ∷ rest) × (l ≢ Param)
+
 -- a node over pieces, in one part with theirs
 abbrev pub grown : Label → List Piece → Piece
 grown l kids = record { part = l ∷ joined (map (λ p. p.part) kids); args = all_args kids }
@@ -41,7 +45,7 @@ module _ (ranks : List ℕ) (bodies : ℕ → List Label) where
   -- the term in place of a piece: what it is alone, or a call of the rule whose body is its part
   pub data Closes : Piece → List Label → Type 0 where
     alone : (t : List Label) → Closes (bare t) t
-    as_rule : (p : Piece) (q : ℕ) → bodies q ≡ p.part → get_or ranks q 0 ≡ params p.part → IsPiece ranks p → Closes p (Call q ∷ joined p.args)
+    as_rule : (p : Piece) (q : ℕ) → bodies q ≡ p.part → get_or ranks q 0 ≡ params p.part → IsPiece ranks p → HasFront p.part → Closes p (Call q ∷ joined p.args)
 
   pub data AllClose : List Piece → List (List Label) → Type 0 where
     none_closes : AllClose [] []

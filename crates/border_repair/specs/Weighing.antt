@@ -47,6 +47,12 @@ under c [] = []
 under c (None ∷ bs) = c ∷ under c bs
 under c (Some a ∷ bs) = Some a ∷ under c bs
 
+-- what is above is known everywhere
+abbrev pub AreKnown : List Above → Type 0
+AreKnown [] = Unit {0}
+AreKnown (None ∷ bs) = ⊥
+AreKnown (Some a ∷ bs) = AreKnown bs
+
 abbrev pub first_of : Option Label → Option Label → Option Label
 first_of None l = l
 first_of (Some k) l = Some k

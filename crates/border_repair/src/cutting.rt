@@ -1,5 +1,5 @@
 // Bodies that are cut into parts, which become rules, and the nodes outside of them.
-ghost use Rattle.std.specs.Prelude.{◌≡◌, ◌≢◌, ◌+◌, ◌-◌, ◌<◌, ◌≤◌, ◌++◌, ◌∷◌, [], ℕ, List, length, suc, false, reverse, drop, slice_get, OnOk, IfOk, IsTrue};
+ghost use Rattle.std.specs.Prelude.{◌≡◌, ◌≢◌, ◌⊎◌, ◌+◌, ◌-◌, ◌<◌, ◌≤◌, ◌++◌, ◌∷◌, [], ℕ, List, length, suc, true, false, reverse, drop, slice_get, OnOk, IfOk, IsTrue, IsFalse};
 ghost use Rattle.rule_arena.specs.Preorder.{AreTerms};
 ghost use Rattle.rule_arena.specs.declared.label.Label.{Label};
 ghost use Rattle.rule_arena.specs.declared.label.Label.TheVariants.{Param};
@@ -9,7 +9,7 @@ ghost use Rattle.slt_grammar.specs.Grammars.{body_at};
 ghost use Rattle.slt_grammar.specs.declared.rules.Rule.{Rule};
 ghost use Rattle.border_repair.specs.Digrams.{IsEnd};
 ghost use Rattle.border_repair.specs.declared.cutting.Mark.{Mark};
-ghost use Rattle.border_repair.specs.Cutting.{AreClosed, CanClose, CanCloseKids, CanRead, Holds, HoldsKids, IsClosed, IsCutOff, IsRead, IsReadOn};
+ghost use Rattle.border_repair.specs.Cutting.{AreClosed, CanClose, CanCloseKids, CanRead, HasParameterAt, Holds, HoldsKids, IsClosed, IsCutOff, IsRead, IsReadOn};
 ghost use Rattle.border_repair.specs.Sizes.{AreOff, IsCutSmall, IsReadSmall, free};
 ghost use Rattle.border_repair.specs.Splitting.{grown};
 
@@ -55,12 +55,13 @@ impl Cutter {
         digram: Digram,
         rules: &mut RuleList,
     ) -> Result<Body, AllocError>
+        requires apart { digram.upper ≢ digram.lower }
         requires upper { IsEnd digram.upper }
         requires lower { IsEnd digram.lower }
         requires term { IsTerm (ranks_of rules.old) body.now }
         requires below { CallsBelow (length rules.old) body.now }
         requires place { digram.place ≤ arity [] digram.upper }
-        ensures cut { IfOk result (IsCutOff rules.old rules.new body.now) }
+        ensures cut { IfOk result (IsCutOff digram rules.old rules.new body.now) }
         ensures small { IfOk result (IsCutSmall rules.old rules.new body.now) }
     {
         self.marks.clear();
@@ -87,13 +88,14 @@ fn read(
     digram: Digram,
     rules: &mut RuleList,
 ) -> Result<(), AllocError>
+    requires apart { digram.upper ≢ digram.lower }
     requires upper { IsEnd digram.upper }
     requires lower { IsEnd digram.lower }
     requires below { CallsBelow (length rules.old) (label ∷ []) }
-    requires can { CanRead rules.old (reverse cutter.old.marks.items) (reverse cutter.old.parts.items) (reverse cutter.old.args.items) label }
+    requires can { CanRead digram rules.old (reverse cutter.old.marks.items) (reverse cutter.old.parts.items) (reverse cutter.old.args.items) label }
     requires place { digram.place ≤ arity [] digram.upper }
-    ensures read { OnOk result ((w : CanRead rules.old (reverse cutter.old.marks.items) (reverse cutter.old.parts.items) (reverse cutter.old.args.items) label)
-        → IsReadOn rules.old rules.new (reverse cutter.new.marks.items) (reverse cutter.new.parts.items) (reverse cutter.new.args.items) (label ∷ w.labels)) }
+    ensures read { OnOk result ((w : CanRead digram rules.old (reverse cutter.old.marks.items) (reverse cutter.old.parts.items) (reverse cutter.old.args.items) label)
+        → IsReadOn digram root rules.old rules.new (reverse cutter.new.marks.items) (reverse cutter.new.parts.items) (reverse cutter.new.args.items) (label ∷ w.labels)) }
     ensures small { OnOk result (IsReadSmall root label rules.old rules.new cutter.old.marks.items cutter.new.marks.items cutter.old.parts.items cutter.new.parts.items cutter.old.args.items cutter.new.args.items) }
 {
     if let Label::Param = label {
@@ -135,7 +137,7 @@ fn close_kids(
 
 // A parameter, or a node outside whose children were closed.
 fn add_outer(cutter: &mut Cutter, label: Label, args: usize) -> Result<(), AllocError>
-    ensures marks { OnOk result ((m : Mark) × (reverse cutter.new.marks.items ≡ m ∷ reverse cutter.old.marks.items) × (m.part ≡ length cutter.old.parts.items) × (m.args ≡ args) × (m.top ≡ label)) }
+    ensures marks { OnOk result ((m : Mark) × (reverse cutter.new.marks.items ≡ m ∷ reverse cutter.old.marks.items) × (m.part ≡ length cutter.old.parts.items) × (m.args ≡ args) × (m.top ≡ label) × (m.bare ≡ true)) }
     ensures parts { OnOk result (reverse cutter.new.parts.items ≡ Param ∷ reverse cutter.old.parts.items) }
     ensures args { OnOk result (reverse cutter.new.args.items ≡ label ∷ reverse cutter.old.args.items) }
 {
@@ -153,9 +155,10 @@ fn add_outer(cutter: &mut Cutter, label: Label, args: usize) -> Result<(), Alloc
 
 // A node in one part with its children's parts.
 fn add_inner(cutter: &mut Cutter, label: Label, kids: usize) -> Result<(), AllocError>
+    requires { label ≢ Param }
     ensures held { OnOk result ((w : HoldsKids (reverse cutter.old.marks.items) (reverse cutter.old.parts.items) (reverse cutter.old.args.items) kids)
         → Holds (reverse cutter.new.marks.items) (reverse cutter.new.parts.items) (reverse cutter.new.args.items) (grown label w.kids ∷ w.pieces)) }
-    ensures small { OnOk result (label ≢ Param → IsReadSmall false label [] [] cutter.old.marks.items cutter.new.marks.items cutter.old.parts.items cutter.new.parts.items cutter.old.args.items cutter.new.args.items) }
+    ensures small { OnOk result (IsReadSmall false label [] [] cutter.old.marks.items cutter.new.marks.items cutter.old.parts.items cutter.new.parts.items cutter.old.args.items cutter.new.args.items) }
 {
     let mut mark = Mark {
         part: cutter.parts.len(),
@@ -212,6 +215,9 @@ fn is_exposed(marks: &[Mark], label: Label, root: bool, digram: Digram) -> bool
     requires lower { IsEnd digram.lower }
     ensures end { IsTrue result → IsEnd label }
     ensures upper { IsTrue result → root ≡ false → label ≡ digram.upper }
+    ensures exposed { IsTrue result → ((label ≡ digram.upper) × HasParameterAt (reverse marks.now) digram.place) ⊎ ((root ≡ true) × (label ≡ digram.lower)) }
+    ensures root { IsFalse result → root ≡ true → label ≢ digram.lower }
+    ensures kept { IsFalse result → label ≡ digram.upper → HasParameterAt (reverse marks.now) digram.place → ⊥ }
     ensures parameter { IsTrue result → root ≡ false → suc (free (drop digram.place (reverse marks.now))) ≤ free (reverse marks.now) }
 {
     if root && label == digram.lower {
@@ -225,7 +231,9 @@ fn is_exposed(marks: &[Mark], label: Label, root: bool, digram: Digram) -> bool
 
 // Whether a child, from 1 on, of the node that comes next is a parameter.
 fn is_parameter(marks: &[Mark], place: usize) -> bool
-    ensures { IsTrue result → suc (free (drop place (reverse marks.now))) ≤ free (reverse marks.now) }
+    ensures free { IsTrue result → suc (free (drop place (reverse marks.now))) ≤ free (reverse marks.now) }
+    ensures there { IsTrue result → HasParameterAt (reverse marks.now) place }
+    ensures none { IsFalse result → HasParameterAt (reverse marks.now) place → ⊥ }
 {
     let Some(at) = marks.len().checked_sub(place) else {
         return false;

@@ -7,8 +7,9 @@ ghost use Rattle.slt_grammar.specs.Grammars.{body_at, rank_at, size, value, IsGr
 ghost use Rattle.slt_grammar.specs.Keyed.{rules_of};
 ghost use Rattle.slt_grammar.specs.KeyedEdits.{digram_body};
 ghost use Rattle.slt_grammar.specs.declared.rules.Rule.{Rule};
+ghost use Rattle.border_repair.specs.Cuts.{AreCalm};
 ghost use Rattle.border_repair.specs.Digrams.{IsEnd, IsSymbol, occurrences, rank_of};
-ghost use Rattle.border_repair.specs.Expanding.{IsExposed, IsExposing, outside_at};
+ghost use Rattle.border_repair.specs.Expanding.{AreClean, IsExposed, IsExposing, outside_at};
 ghost use Rattle.border_repair.specs.Sizes.{AreSmall};
 ghost use Rattle.border_repair.specs.ValueBut.{pairs_in, value_but};
 
@@ -23,17 +24,21 @@ use std::sync::ledger::{Blank, Ledger};
 
 /// Replaces a digram everywhere in a swept grammar's value, across the borders of rules too, and answers the rule whose calls stand for it.
 ///
-/// The digram's upper label is a symbol, the lower one another symbol or bottom, and it occurs in the value. The rule is the first one. No
+/// The digram's upper label is a symbol, the lower one another symbol or bottom, and it occurs in the value. The rule is the first one. With
+/// all other calls replaced no occurrence is left, and its calls are as many as the occurrences were. No
 /// call is unfolded: nodes become 32 times as many at most, and two more. It fails
 /// where memory is refused, where there would be more than 2^32 nodes, and where a rule isn't called; then the grammar is as it was.
 pub fn across(alloc: Global, grammar: &mut Grammar, digram: Digram) -> Result<usize, AllocError>
     requires upper { IsSymbol digram.upper }
     requires lower { IsEnd digram.lower }
     requires there { 0 < occurrences digram (rules_of grammar.old.rules) }
+    requires apart { digram.upper ≢ digram.lower }
     ensures value { OnOk result (value (rules_of grammar.new.rules) ≡ value (rules_of grammar.old.rules)) }
     ensures rule { IfOk result (λ x. body_at (rules_of grammar.new.rules) x ≡ digram_body (ranks_of (rules_of grammar.new.rules)) digram.upper (digram.place - 1) digram.lower) }
     ensures swept { OnOk result (IsSwept (rules_of grammar.new.rules)) }
-    ensures counted { IfOk result (λ x. digram.upper ≢ digram.lower → calls_in x (value_but (rules_of grammar.new.rules)) + pairs_in digram (ranks_of (rules_of grammar.new.rules)) (value_but (rules_of grammar.new.rules)) ≡ occurrences digram (rules_of grammar.old.rules)) }
+    ensures first { IfOk result (λ x. x ≡ 0) }
+    ensures left { IfOk result (λ x. pairs_in digram (ranks_of (rules_of grammar.new.rules)) (value_but (rules_of grammar.new.rules)) ≡ 0) }
+    ensures calls { IfOk result (λ x. calls_in x (value_but (rules_of grammar.new.rules)) ≡ occurrences digram (rules_of grammar.old.rules)) }
     ensures size { OnOk result (size (rules_of grammar.new.rules) ≤ 32 * size (rules_of grammar.old.rules) + 2) }
     ensures refused { OnErr result (grammar.new ≡ grammar.old) }
 {
@@ -47,10 +52,12 @@ fn replaced(alloc: Global, grammar: &Grammar, digram: Digram) -> Result<Grammar,
     requires upper { IsSymbol digram.upper }
     requires lower { IsEnd digram.lower }
     requires there { 0 < occurrences digram (rules_of grammar.now.rules) }
+    requires apart { digram.upper ≢ digram.lower }
     ensures value { IfOk result (λ made. value (rules_of made.rules) ≡ value (rules_of grammar.now.rules)) }
     ensures rule { IfOk result (λ made. body_at (rules_of made.rules) 0 ≡ digram_body (ranks_of (rules_of made.rules)) digram.upper (digram.place - 1) digram.lower) }
     ensures swept { IfOk result (λ made. IsSwept (rules_of made.rules)) }
-    ensures counted { IfOk result (λ made. digram.upper ≢ digram.lower → calls_in 0 (value_but (rules_of made.rules)) + pairs_in digram (ranks_of (rules_of made.rules)) (value_but (rules_of made.rules)) ≡ occurrences digram (rules_of grammar.now.rules)) }
+    ensures left { IfOk result (λ made. pairs_in digram (ranks_of (rules_of made.rules)) (value_but (rules_of made.rules)) ≡ 0) }
+    ensures calls { IfOk result (λ made. calls_in 0 (value_but (rules_of made.rules)) ≡ occurrences digram (rules_of grammar.now.rules)) }
     ensures size { IfOk result (λ made. size (rules_of made.rules) ≤ 28 * size (rules_of grammar.now.rules) + 2) }
 {
     // The call tells that the rules are a grammar.
@@ -65,12 +72,14 @@ fn replaced(alloc: Global, grammar: &Grammar, digram: Digram) -> Result<Grammar,
 
 // Rules for the same value in which each occurrence of the digram stands in one body. The first one is the digram's, and isn't called.
 fn expose(alloc: Global, grammar: &Grammar, digram: Digram) -> Result<RuleList, AllocError>
+    requires apart { digram.upper ≢ digram.lower }
     requires upper { IsSymbol digram.upper }
     requires lower { IsEnd digram.lower }
     requires place { (digram.place ≡ 1) ⊎ (digram.place ≡ 2) }
     ensures exposed { IfOk result (λ rules. (outside : ℕ → List Label) × IsExposed (rules_of grammar.now.rules) rules outside) }
     ensures body { IfOk result (λ rules. body_at rules 0 ≡ digram_body [] digram.upper (digram.place - 1) digram.lower) }
     ensures rank { IfOk result (λ rules. rank_at rules 0 ≡ rank_of digram) }
+    ensures calm { IfOk result (AreCalm digram) }
     ensures size { IfOk result (λ rules. size rules ≤ 28 * size (rules_of grammar.now.rules) + 2) }
 {
     let mut rules = RuleList::new(alloc);
@@ -103,13 +112,16 @@ fn add_exposed<L: Ledger>(
     requires name { blank.name ≡ L.name }
     requires parts { blank.parts ≡ L.parts }
     requires some { 0 < blank.parts }
+    requires apart { digram.upper ≢ digram.lower }
     requires upper { IsEnd digram.upper }
     requires lower { IsEnd digram.lower }
     requires none { outsides.old.items ≡ [] }
     requires first { 0 < length rules.old }
+    requires calm { AreCalm digram rules.old }
     requires place { digram.place ≤ arity [] digram.upper }
     ensures exposed { OnOk result ((outside : ℕ → List Label) × IsExposed (rules_of grammar.now.rules) rules.new outside) }
     ensures grown { OnOk result ((more : List Rule) × (rules.new ≡ rules.old ++ more)) }
+    ensures calm { OnOk result (AreCalm digram rules.new) }
     ensures size { OnOk result (size rules.new ≤ size rules.old + 28 * size (rules_of grammar.now.rules)) }
 {
     let mut steps: Steps<L> = Steps::new(blank);
@@ -147,14 +159,17 @@ fn add_outside<L: Ledger>(
 ) -> Result<(), AllocError>
     requires there { rule < length grammar.now.rules }
     requires grammar { IsGrammar (rules_of grammar.now.rules) }
+    requires apart { digram.upper ≢ digram.lower }
     requires upper { IsEnd digram.upper }
     requires lower { IsEnd digram.lower }
     requires exposing { IsExposing (rules_of grammar.now.rules) rule rules.old outsides.old.items }
     requires place { digram.place ≤ arity [] digram.upper }
     requires small { AreSmall outsides.old.items }
+    requires clean { AreClean digram rule rules.old outsides.old.items }
     ensures exposing { OnOk result (IsExposing (rules_of grammar.now.rules) (rule + 1) rules.new outsides.new.items) }
     ensures grown { OnOk result ((more : List Rule) × (rules.new ≡ rules.old ++ more)) }
     ensures small { OnOk result (AreSmall outsides.new.items) }
+    ensures clean { OnOk result (AreClean digram (rule + 1) rules.new outsides.new.items) }
     ensures size { OnOk result (size rules.new ≤ size rules.old + 28 * real_nodes (body_at (rules_of grammar.now.rules) rule)) }
 {
     expand(grammar, outsides.as_slice(), rule, labels, steps)?;

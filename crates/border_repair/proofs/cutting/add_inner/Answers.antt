@@ -58,13 +58,14 @@ returns-clause-held c w =
     let A = reverse o.args.items in
     let taken = subst (λ n. AreTaken M P A c.args.kids n (reverse c.kids.cutter.marks.items) c.kids.mark.part c.kids.mark.args) end i.taken in
     let h = inner-holds M P A c.args.kids (reverse c.kids.cutter.marks.items) (reverse c.push.new.self.items) c.kids.mark c.args.label w taken
-    (ap reverse c.in_ok-push.ensures.items ∙ stack-push c.kids.cutter.marks.items c.kids.mark) i.inner in
+    (ap reverse c.in_ok-push.ensures.items ∙ stack-push c.kids.cutter.marks.items c.kids.mark) i.inner c.requires i.top in
     let parts = ap reverse c.in_ok-push-2.ensures.items ∙ stack-push c.kids.cutter.parts.items c.args.label ∙ ap (λ z. c.args.label ∷ reverse z) i.parts in
     subst (λ ps. Holds (reverse c.push.new.self.items) ps (reverse c.kids.cutter.args.items) (grown c.args.label w.kids ∷ w.pieces)) (sym parts)
     (subst (λ xs. Holds (reverse c.push.new.self.items) (c.args.label ∷ P) xs (grown c.args.label w.kids ∷ w.pieces)) (ap reverse (sym i.args)) h)
 
 pub returns-clause-small : goal.returns-clause-small
-returns-clause-small c n =
+returns-clause-small c =
+    let n = c.requires in
     let i = c.kids.invariant in
     let marks = ap free (ap reverse c.in_ok-push.ensures.items ∙ stack-push c.kids.cutter.marks.items c.kids.mark) in
     let top = ap (λ (l : Label). params (l ∷ [])) i.top in

@@ -34,7 +34,7 @@ returns-clause-closed c w =
     let parts = ap reverse c.truncate-2.ensures.items ∙ stack-take o.parts.items w.piece.part h.0 m.part f.parts_split f.part in
     let args = ap reverse c.in_ok-insert.ensures.items ∙ stack-insert o.args.items w.front w.behind c.args.end _ w.args_are w.ends ∙ ap (λ (G : List Rule). w.front ++ Call (length G) ∷ w.behind) c.as_slice-rule.ensures in
     subst (λ (G : List Rule). IsClosed c.args.rules.now G now (reverse c.truncate-2.new.self.items) (reverse c.insert.new.self.items) w.front w.piece w.pieces m.args) (sym c.in_ok-push.ensures.ok)
-    (closed-part c.args.rules.now (reverse o.marks.items) now (reverse o.parts.items) (reverse o.args.items) c.args.end m w popped R (reverse c.truncate-2.new.self.items) (reverse c.insert.new.self.items)
+    (closed-part c.args.rules.now (reverse o.marks.items) now (reverse o.parts.items) (reverse o.args.items) c.args.end m w popped R (reverse c.truncate-2.new.self.items) (reverse c.insert.new.self.items) (search rules)
     body (search rules) parts args)
 
 pub insert-requires : goal.insert-requires

@@ -1,10 +1,10 @@
-use Rattle.std.proofs.Common.{rules, refl, ◌≤◌, suc, drop, arith, ◌∷◌, [], List, reverse, ap, sym, subst, ◌∙◌}
+use Rattle.std.proofs.Common.{rules, ◌≡◌, ◌⊎◌, true, refl, ◌≤◌, suc, drop, arith, ◌∷◌, [], List, reverse, ap, sym, subst, ◌∙◌}
 use Rattle.std.proofs.lemmas.List.{length-reverse}
 use Rattle.rule_arena.specs.declared.label.Label.{Label}
 use Rattle.slt_grammar.specs.Algebras.{ranks_of}
 use Rattle.slt_grammar.specs.Bodies.{arity, params, real_nodes}
 use Rattle.slt_grammar.specs.declared.rules.Rule.{Rule}
-use Rattle.border_repair.specs.Cutting.{IsReadOn}
+use Rattle.border_repair.specs.Cutting.{HasParameterAt, IsReadOn}
 use Rattle.border_repair.specs.Digrams.{IsEnd}
 use Rattle.border_repair.specs.Sizes.{free}
 use Rattle.border_repair.specs.declared.cutting.Mark.{Mark}
@@ -16,16 +16,16 @@ pub close_kids-requires-clause-kids : goal.close_kids-requires-clause-kids
 close_kids-requires-clause-kids c =
     let o = c.args.cutter.now in
     let end : IsEnd c.args.label = search rules in
-    can_close c.args.rules.now (reverse o.marks.items) (reverse o.parts.items) (reverse o.args.items) c.args.label c.requires.can (arity [] c.args.label) (end-arity (ranks_of c.args.rules.now) [] c.args.label end)
+    can_close c.args.digram c.args.rules.now (reverse o.marks.items) (reverse o.parts.items) (reverse o.args.items) c.args.label c.requires.can (arity [] c.args.label) (end-arity (ranks_of c.args.rules.now) [] c.args.label end)
 
 pub returns-in-Param-clause-read : goal.returns-in-Param-clause-read
 returns-in-Param-clause-read c w =
     let o = c.args.cutter.now in
     let k = c.add_outer.new.cutter in
     let e = c.in_ok-add_outer.ensures in
-    subst (λ (l : Label). IsReadOn c.args.rules.now c.args.rules.now (reverse k.marks.items) (reverse k.parts.items) (reverse k.args.items) (l ∷ w.labels)) (sym c.in-Param.is)
-    (read-parameter c.args.rules.now (reverse o.marks.items) (reverse o.parts.items) (reverse o.args.items) w.labels w.read e.marks.0 (reverse k.marks.items) (reverse k.parts.items) (reverse k.args.items)
-    e.marks.1 (e.marks.2 ∙ sym (length-reverse o.parts.items)) (e.marks.3 ∙ c.len-start.ensures ∙ o.args.ok.0 ∙ sym (length-reverse o.args.items)) e.parts (e.args ∙ ap (λ (l : Label). l ∷ reverse o.args.items) c.in-Param.is))
+    subst (λ (l : Label). IsReadOn c.args.digram c.args.root c.args.rules.now c.args.rules.now (reverse k.marks.items) (reverse k.parts.items) (reverse k.args.items) (l ∷ w.labels)) (sym c.in-Param.is)
+    (read-parameter c.args.digram c.args.root c.args.rules.now (reverse o.marks.items) (reverse o.parts.items) (reverse o.args.items) w.labels w.read e.marks.0 (reverse k.marks.items) (reverse k.parts.items) (reverse k.args.items)
+    e.marks.1 (e.marks.2 ∙ sym (length-reverse o.parts.items)) (e.marks.3 ∙ c.len-start.ensures ∙ o.args.ok.0 ∙ sym (length-reverse o.args.items)) (e.marks.4 ∙ c.in-Param.is) e.marks.5 e.parts (e.args ∙ ap (λ (l : Label). l ∷ reverse o.args.items) c.in-Param.is))
 
 pub returns-then-is_exposed-clause-read : goal.returns-then-is_exposed-clause-read
 returns-then-is_exposed-clause-read c w =
@@ -34,17 +34,19 @@ returns-then-is_exposed-clause-read c w =
     let k = c.add_outer-then-is_exposed.new.cutter in
     let e = c.in_ok-add_outer-2.ensures in
     let end : IsEnd c.args.label = search rules in
-    let x = c.in_ok-start.ensures.closed (can_close c.args.rules.now (reverse o.marks.items) (reverse o.parts.items) (reverse o.args.items) c.args.label w (arity [] c.args.label) (end-arity (ranks_of c.args.rules.now) [] c.args.label end)) in
-    read-outer c.args.rules.now (reverse o.marks.items) (reverse o.parts.items) (reverse o.args.items) c.args.label w c.requires.below c.close_kids.new.rules (reverse j.marks.items) (reverse j.parts.items) (reverse j.args.items) c.in_ok-start.start x
-    e.marks.0 (reverse k.marks.items) (reverse k.parts.items) (reverse k.args.items) c.in_default.not-Param e.marks.1 (e.marks.2 ∙ sym (length-reverse j.parts.items)) e.marks.3 e.parts e.args
+    let x = c.in_ok-start.ensures.closed (can_close c.args.digram c.args.rules.now (reverse o.marks.items) (reverse o.parts.items) (reverse o.args.items) c.args.label w (arity [] c.args.label) (end-arity (ranks_of c.args.rules.now) [] c.args.label end)) in
+    let exposed = subst (λ (ms : List Mark). ((c.args.label ≡ c.args.digram.upper) × HasParameterAt (reverse ms) c.args.digram.place) ⊎ ((c.args.root ≡ true) × (c.args.label ≡ c.args.digram.lower))) c.as_slice.ensures.value (c.if-is_exposed.ensures.exposed refl) in
+    read-outer c.args.digram c.args.rules.now (reverse o.marks.items) (reverse o.parts.items) (reverse o.args.items) c.args.label w c.requires.apart c.args.root c.requires.below c.close_kids.new.rules (reverse j.marks.items) (reverse j.parts.items) (reverse j.args.items) c.in_ok-start.start x
+    e.marks.0 (reverse k.marks.items) (reverse k.parts.items) (reverse k.args.items) end exposed c.in_default.not-Param e.marks.1 (e.marks.2 ∙ sym (length-reverse j.parts.items)) e.marks.3 e.marks.4 e.marks.5 e.parts e.args
 
 pub returns-clause-read : goal.returns-clause-read
 returns-clause-read c w =
     let o = c.args.cutter.now in
     let k = c.add_inner.new.cutter in
     let many = c.arity_of-kids.ensures ∙ ap (λ (G : List Rule). arity (ranks_of G) c.args.label) c.as_slice-2.ensures in
-    let held = kids_held c.args.rules.now (reverse o.marks.items) (reverse o.parts.items) (reverse o.args.items) c.args.label w c.arity_of-kids.result (sym many) in
-    read-inner c.args.rules.now (reverse o.marks.items) (reverse o.parts.items) (reverse o.args.items) c.args.label w c.requires.below (reverse k.marks.items) (reverse k.parts.items) (reverse k.args.items) c.in_default.not-Param
+    let held = kids_held c.args.digram c.args.rules.now (reverse o.marks.items) (reverse o.parts.items) (reverse o.args.items) c.args.label w c.arity_of-kids.result (sym many) in
+    let kept = subst (λ (ms : List Mark). c.args.label ≡ c.args.digram.upper → HasParameterAt (reverse ms) c.args.digram.place → ⊥) c.as_slice.ensures.value (c.if-is_exposed.ensures.kept refl) in
+    read-inner c.args.digram c.args.rules.now (reverse o.marks.items) (reverse o.parts.items) (reverse o.args.items) c.args.label w c.requires.apart c.args.root c.requires.below (reverse k.marks.items) (reverse k.parts.items) (reverse k.args.items) c.in_default.not-Param (c.if-is_exposed.ensures.root refl) kept
     (c.in_ok-add_inner.ensures.held held)
 
 pub returns-in-Param-clause-small : goal.returns-in-Param-clause-small

@@ -6,10 +6,11 @@ use Rattle.slt_grammar.specs.Bodies.{params, real_nodes}
 use Rattle.slt_grammar.specs.Grammars.{body_at, size}
 use Rattle.slt_grammar.specs.Keyed.{rules_of}
 use Rattle.slt_grammar.specs.declared.rules.Rule.{Rule}
+use Rattle.border_repair.specs.Cuts.{AreCalm}
 use Rattle.border_repair.specs.Expanding.{IsExposed, Expands, outside_at}
 use Rattle.border_repair.specs.Sizes.{AreSmall}
 use Rattle.border_repair.proofs.SizeLemmas.{no-outsides, size-more, size-take, size-push, expands-few, real-append}
-use Rattle.border_repair.proofs.ExposeSteps.{exposing-start, ranks-known, exposed-all}
+use Rattle.border_repair.proofs.ExposeSteps.{exposing-start, ranks-known, exposed-all, start-calm}
 use Rattle.border_repair.proofs.replacing.add_exposed.Goals as goal
 
 pub expand-requires-clause-ranks : goal.expand-requires-clause-ranks
@@ -24,6 +25,7 @@ expand-requires-clause-ranks g c q b =
 
 pub rules-init : goal.rules-init
 rules-init g c = record {
+  clean = record { calm = c.requires.calm; clean = λ q b. absurd (omega arith) };
   exposing = exposing-start (rules_of c.args.grammar.now.rules) c.args.rules.now c.args.outsides.now.items c.requires.first c.requires.none;
   small = subst (λ (os : List (List Label)). AreSmall os) (sym c.requires.none) no-outsides;
   few = omega arith;
@@ -40,6 +42,7 @@ rules-preserved g c =
     let h : c.rules.rule < length G = omega (arith, c.rules-start.ensures.value) in
     record {
       exposing = e.exposing;
+      clean = e.clean;
       small = e.small;
       few = omega (arith, e.size, c.rules.invariant.few, size-more G c.rules.rule h);
       grown = (i.0 ++ e.grown.0, e.grown.1 ∙ ap (λ (G : List Rule). G ++ e.grown.0) i.1 ∙ append_assoc c.args.rules.now i.0 e.grown.0);
@@ -64,6 +67,23 @@ returns-clause-exposed g c =
     let R : Rule = record { rank = 0; body = c.in_ok-copied.field-0 } in
     let e = exposed-all G c.rules-start.ensures.grammar c.rules.rule h c.rules.rules c.rules.outsides.items c.rules.invariant.exposing c.expand.new.labels.items y last R (c.in_ok-copied.ensures ∙ c.as_slice-2.ensures.value) in
     (outside_at c.rules.outsides.items, subst (λ H. IsExposed G H (outside_at c.rules.outsides.items)) (sym c.in_ok-push.ensures.ok) e)
+
+pub returns-clause-calm : goal.returns-clause-calm
+returns-clause-calm g c =
+    let G = rules_of c.args.grammar.now.rules in
+    let many : length G ≡ length c.args.grammar.now.rules = length-map c.args.grammar.now.rules _ in
+    let l = c.rules-start.ensures.grammar.some in
+    let end : c.rules-start.result - 1 ≡ c.rules.rule = omega arith in
+    let h : c.rules.rule < length G = omega (arith, c.rules-start.ensures.value) in
+    let last : c.rules.rule + 1 ≡ length G = omega (arith, c.rules-start.ensures.value) in
+    let x = subst (λ (os : List (List Label)). Expands (ranks_of G) (outside_at os) (body_at G (c.rules-start.result - 1)) (c.expand.new.labels.items ∷ [])) c.as_slice.ensures.value c.in_ok-expand.ensures in
+    let y = subst (λ n. Expands (ranks_of G) (outside_at c.rules.outsides.items) (body_at G n) (c.expand.new.labels.items ∷ [])) end x in
+    let R : Rule = record { rank = 0; body = c.in_ok-copied.field-0 } in
+    subst (AreCalm c.args.digram) (sym c.in_ok-push.ensures.ok)
+    (start-calm G c.rules-start.ensures.grammar c.rules.rule h c.rules.rules c.rules.outsides.items c.rules.invariant.exposing c.expand.new.labels.items y last c.args.digram R (c.in_ok-copied.ensures ∙ c.as_slice-2.ensures.value) c.rules.invariant.clean)
+
+pub add_outside-requires-clause-clean : goal.add_outside-requires-clause-clean
+add_outside-requires-clause-clean g c = c.rules.invariant.clean
 
 pub add_outside-requires-clause-small : goal.add_outside-requires-clause-small
 add_outside-requires-clause-small g c = c.rules.invariant.small

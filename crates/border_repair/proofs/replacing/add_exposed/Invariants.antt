@@ -2,13 +2,14 @@ use Rattle.std.proofs.Common.{◌≡◌, ◌≤◌, ◌+◌, ◌*◌, take, ◌+
 use Rattle.slt_grammar.specs.Grammars.{size}
 use Rattle.slt_grammar.specs.Keyed.{rules_of}
 use Rattle.slt_grammar.specs.declared.rules.Rule.{Rule}
-use Rattle.border_repair.specs.Expanding.{IsExposing}
+use Rattle.border_repair.specs.Expanding.{IsExposing, AreClean}
 use Rattle.border_repair.specs.Sizes.{AreSmall}
 use Rattle.border_repair.proofs.replacing.add_exposed.Given as goal
 
 abbrev pub invariant-rules : goal.invariant-rules
 invariant-rules g l = record {
   exposing : IsExposing (rules_of l.grammar.rules) l.rule l.rules l.outsides.items;
+  clean : AreClean l.digram l.rule l.rules l.outsides.items;
   small : AreSmall l.outsides.items;
   few : size l.rules ≤ size l.initial.rules + 28 * size (take l.rule (rules_of l.grammar.rules));
   grown : (more : List Rule) × (l.rules ≡ l.initial.rules ++ more);

@@ -8,8 +8,8 @@ use Rattle.slt_grammar.specs.Keyed.{rules_of}
 use Rattle.slt_grammar.proofs.RuleMeanings.{rank_at-ranks_of}
 use Rattle.border_repair.specs.Sizes.{AreSmall}
 use Rattle.border_repair.specs.Cutting.{IsCutOff}
-use Rattle.border_repair.specs.Expanding.{IsExposing, Expands, outside_at}
-use Rattle.border_repair.proofs.ExposeSteps.{ranks-known, expanded-term, expanded-below, expanded-params, exposing-next}
+use Rattle.border_repair.specs.Expanding.{IsExposing, AreClean, Expands, outside_at}
+use Rattle.border_repair.proofs.ExposeSteps.{ranks-known, expanded-term, expanded-below, expanded-params, exposing-next, clean-next}
 use Rattle.border_repair.proofs.SizeLemmas.{small-push, expands-few, real-append}
 use Rattle.border_repair.proofs.replacing.add_outside.Goals as goal
 
@@ -42,9 +42,19 @@ returns-clause-exposing g c =
     let many : length G ≡ length c.args.grammar.now.rules = length-map c.args.grammar.now.rules _ in
     let h : c.args.rule < length G = omega (arith, c.requires.there) in
     let x = subst (λ (os : List (List Label)). Expands (ranks_of G) (outside_at os) (body_at G c.args.rule) (c.expand.new.labels.items ∷ [])) c.as_slice.ensures.value c.in_ok-expand.ensures in
-    let cut = subst (λ (ls : List Label). IsCutOff c.args.rules.now c.cut.new.rules ls c.in_ok-outside.outside) c.as_slice-2.ensures.value c.in_ok-outside.ensures.cut in
+    let cut = subst (λ (ls : List Label). IsCutOff c.args.digram c.args.rules.now c.cut.new.rules ls c.in_ok-outside.outside) c.as_slice-2.ensures.value c.in_ok-outside.ensures.cut in
     subst (λ (os : List (List Label)). IsExposing G (c.args.rule + 1) c.cut.new.rules os) (sym c.in_ok-push.ensures.items)
-    (exposing-next G c.requires.grammar c.args.rule h c.args.rules.now c.args.outsides.now.items c.requires.exposing c.expand.new.labels.items x c.cut.new.rules c.in_ok-outside.outside cut)
+    (exposing-next G c.requires.grammar c.args.rule h c.args.rules.now c.args.outsides.now.items c.requires.exposing c.expand.new.labels.items x c.args.digram c.cut.new.rules c.in_ok-outside.outside cut)
+
+pub returns-clause-clean : goal.returns-clause-clean
+returns-clause-clean g c =
+    let G = rules_of c.args.grammar.now.rules in
+    let many : length G ≡ length c.args.grammar.now.rules = length-map c.args.grammar.now.rules _ in
+    let h : c.args.rule < length G = omega (arith, c.requires.there) in
+    let x = subst (λ (os : List (List Label)). Expands (ranks_of G) (outside_at os) (body_at G c.args.rule) (c.expand.new.labels.items ∷ [])) c.as_slice.ensures.value c.in_ok-expand.ensures in
+    let cut = subst (λ (ls : List Label). IsCutOff c.args.digram c.args.rules.now c.cut.new.rules ls c.in_ok-outside.outside) c.as_slice-2.ensures.value c.in_ok-outside.ensures.cut in
+    subst (λ (os : List (List Label)). AreClean c.args.digram (c.args.rule + 1) c.cut.new.rules os) (sym c.in_ok-push.ensures.items)
+    (clean-next G c.requires.grammar c.args.rule h c.args.rules.now c.args.outsides.now.items c.requires.exposing c.expand.new.labels.items x c.args.digram c.cut.new.rules c.in_ok-outside.outside cut c.requires.clean)
 
 pub returns-clause-grown : goal.returns-clause-grown
 returns-clause-grown g c = let cut = c.in_ok-outside.ensures.cut in (cut.more, cut.grown)

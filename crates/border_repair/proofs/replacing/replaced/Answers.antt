@@ -1,4 +1,4 @@
-use Rattle.std.proofs.Common.{◌≡◌, ◌+◌, arith, ◌-◌, List, [], ap, sym, subst, ◌∙◌}
+use Rattle.std.proofs.Common.{◌≡◌, arith, ◌-◌, List, [], ap, sym, subst, ◌∙◌}
 use Rattle.slt_grammar.specs.Algebras.{ranks_of}
 use Rattle.slt_grammar.specs.Grammars.{body_at, size, value}
 use Rattle.slt_grammar.specs.Keyed.{rules_of}
@@ -10,6 +10,7 @@ use Rattle.border_repair.specs.Digrams.{is, occurrences}
 use Rattle.border_repair.specs.ValueBut.{pairs_in, value_but}
 use Rattle.border_repair.specs.Weighing.{weight_algebra}
 use Rattle.border_repair.proofs.CallsLeft.{calls-and-left}
+use Rattle.border_repair.proofs.NoneLeft.{none-left-over}
 use Rattle.border_repair.specs.Folding.{AreFolded}
 use Rattle.border_repair.proofs.KeptValues.{occurs-placed, pair-ranked, placed-below, pair-same, kept-value, kept-pair}
 use Rattle.border_repair.proofs.replacing.replaced.Goals as goal
@@ -43,8 +44,21 @@ returns-in-Ok-clause-rule g =
 pub returns-in-Ok-clause-size : goal.returns-in-Ok-clause-size
 returns-in-Ok-clause-size g = omega (arith, ap size g.in-Ok.ensures.rules, g.in_ok-folded.ensures.size, ap size g.as_slice.ensures, g.in_ok-exposed.ensures.size)
 
-pub returns-in-Ok-clause-counted : goal.returns-in-Ok-clause-counted
-returns-in-Ok-clause-counted g apart =
+pub returns-in-Ok-clause-left : goal.returns-in-Ok-clause-left
+returns-in-Ok-clause-left g =
+    let d = g.args.digram in
+    let x = g.in_ok-exposed.ensures in
+    let G = rules_of g.args.grammar.now.rules in
+    let H = g.in_ok-exposed.exposed in
+    let K = g.in_ok-folded.folded in
+    let f = subst (λ (rs : List Rule). AreFolded d rs g.in_ok-folded.folded) g.as_slice.ensures g.in_ok-folded.ensures.folded in
+    let pair = kept-pair d g.requires.upper g.requires.lower (rules_of g.args.grammar.now.rules) H K g.rules-rules.ensures.grammar g.in-Ok.ensures.grammar x.exposed.0 x.exposed.1
+    (pair-ranked H d g.requires.upper g.requires.lower x.rank) (x.body ∙ pair-same [] (ranks_of H) d g.requires.upper g.requires.lower) f in
+    subst (λ (rs : List Rule). pairs_in d (ranks_of rs) (value_but rs) ≡ 0) (sym g.in-Ok.ensures.rules)
+    (none-left-over d g.requires.upper g.requires.lower g.requires.apart (occurs-placed d (rules_of g.args.grammar.now.rules) g.requires.there) H K g.in-Ok.ensures.grammar f x.calm (pair-ranked H d g.requires.upper g.requires.lower x.rank) pair)
+
+pub returns-in-Ok-clause-calls : goal.returns-in-Ok-clause-calls
+returns-in-Ok-clause-calls g =
     let d = g.args.digram in
     let x = g.in_ok-exposed.ensures in
     let G = rules_of g.args.grammar.now.rules in
@@ -55,6 +69,7 @@ returns-in-Ok-clause-counted g apart =
     (pair-ranked H d g.requires.upper g.requires.lower x.rank) (x.body ∙ pair-same [] (ranks_of H) d g.requires.upper g.requires.lower) f in
     let pair = kept-pair d g.requires.upper g.requires.lower (rules_of g.args.grammar.now.rules) H K g.rules-rules.ensures.grammar g.in-Ok.ensures.grammar x.exposed.0 x.exposed.1
     (pair-ranked H d g.requires.upper g.requires.lower x.rank) (x.body ∙ pair-same [] (ranks_of H) d g.requires.upper g.requires.lower) f in
-    let law = calls-and-left d g.requires.upper g.requires.lower apart (occurs-placed d (rules_of g.args.grammar.now.rules) g.requires.there) K g.in-Ok.ensures.grammar pair in
-    subst (λ (rs : List Rule). calls_in 0 (value_but rs) + pairs_in d (ranks_of rs) (value_but rs) ≡ occurrences d (rules_of g.args.grammar.now.rules)) (sym g.in-Ok.ensures.rules)
-    (law ∙ ap (λ t. (up (weight_algebra (is d)) t []).weight) value_kept)
+    let law = calls-and-left d g.requires.upper g.requires.lower g.requires.apart (occurs-placed d (rules_of g.args.grammar.now.rules) g.requires.there) K g.in-Ok.ensures.grammar pair in
+    let none = none-left-over d g.requires.upper g.requires.lower g.requires.apart (occurs-placed d (rules_of g.args.grammar.now.rules) g.requires.there) H K g.in-Ok.ensures.grammar f x.calm (pair-ranked H d g.requires.upper g.requires.lower x.rank) pair in
+    subst (λ (rs : List Rule). calls_in 0 (value_but rs) ≡ occurrences d (rules_of g.args.grammar.now.rules)) (sym g.in-Ok.ensures.rules)
+    (omega (arith, law, none, ap (λ t. (up (weight_algebra (is d)) t []).weight) value_kept))

@@ -16,7 +16,7 @@ labels-init c =
     let marks = ap (λ (ms : List Mark). free (reverse ms)) c.clear.ensures.items in
     let args = ap real_nodes c.clear-3.ensures.items in
     record {
-      reading = reading-start c.args.rules.now c.args.body.now (reverse c.clear.new.self.items) (reverse c.clear-2.new.self.items) (reverse c.clear-3.new.self.items) (ap reverse c.clear.ensures.items) (ap reverse c.clear-2.ensures.items) (ap reverse c.clear-3.ensures.items);
+      reading = reading-start c.args.digram c.args.rules.now c.args.body.now (reverse c.clear.new.self.items) (reverse c.clear-2.new.self.items) (reverse c.clear-3.new.self.items) (ap reverse c.clear.ensures.items) (ap reverse c.clear-2.ensures.items) (ap reverse c.clear-3.ensures.items);
       parts = omega (arith, ap real_nodes c.clear-2.ensures.items);
       any = omega (arith, marks, args);
       others = λ l. omega (arith, marks, args);
@@ -28,8 +28,8 @@ read-requires-clause-below c =
     let body = c.args.body.now in
     let more : c.labels.left ≡ (c.labels.left - 1) + 1 = omega arith in
     let in_body : c.labels.left - 1 < length body = omega (arith, c.labels.invariant.reading.within) in
-    let r = subst (λ n. IsReading c.args.rules.now body n c.labels.rules (reverse k.marks.items) (reverse k.parts.items) (reverse k.args.items)) more c.labels.invariant.reading in
-    call-below c.args.rules.now body c.requires.term c.requires.below (c.labels.left - 1) c.labels.rules (reverse k.marks.items) (reverse k.parts.items) (reverse k.args.items) r (get_or body (c.labels.left - 1) Bottom)
+    let r = subst (λ n. IsReading c.args.digram c.args.rules.now body n c.labels.rules (reverse k.marks.items) (reverse k.parts.items) (reverse k.args.items)) more c.labels.invariant.reading in
+    call-below c.args.digram c.args.rules.now body c.requires.term c.requires.below (c.labels.left - 1) c.labels.rules (reverse k.marks.items) (reverse k.parts.items) (reverse k.args.items) r (get_or body (c.labels.left - 1) Bottom)
     (get_or_default body (c.labels.left - 1) (get_or body (c.labels.left - 1) Bottom) Bottom in_body)
 
 pub read-requires-clause-can : goal.read-requires-clause-can
@@ -38,8 +38,8 @@ read-requires-clause-can c =
     let body = c.args.body.now in
     let more : c.labels.left ≡ (c.labels.left - 1) + 1 = omega arith in
     let in_body : c.labels.left - 1 < length body = omega (arith, c.labels.invariant.reading.within) in
-    let r = subst (λ n. IsReading c.args.rules.now body n c.labels.rules (reverse k.marks.items) (reverse k.parts.items) (reverse k.args.items)) more c.labels.invariant.reading in
-    can-read c.args.rules.now body c.requires.term c.requires.below (c.labels.left - 1) c.labels.rules (reverse k.marks.items) (reverse k.parts.items) (reverse k.args.items) r (get_or body (c.labels.left - 1) Bottom)
+    let r = subst (λ n. IsReading c.args.digram c.args.rules.now body n c.labels.rules (reverse k.marks.items) (reverse k.parts.items) (reverse k.args.items)) more c.labels.invariant.reading in
+    can-read c.args.digram c.args.rules.now body c.requires.term c.requires.below (c.labels.left - 1) c.labels.rules (reverse k.marks.items) (reverse k.parts.items) (reverse k.args.items) r (get_or body (c.labels.left - 1) Bottom)
     (get_or_default body (c.labels.left - 1) (get_or body (c.labels.left - 1) Bottom) Bottom in_body)
 
 pub labels-preserved : goal.labels-preserved
@@ -50,9 +50,9 @@ labels-preserved c =
     let label = get_or body (c.labels.left - 1) Bottom in
     let more : c.labels.left ≡ (c.labels.left - 1) + 1 = omega arith in
     let in_body : c.labels.left - 1 < length body = omega (arith, c.labels.invariant.reading.within) in
-    let r = subst (λ n. IsReading c.args.rules.now body n c.labels.rules (reverse k.marks.items) (reverse k.parts.items) (reverse k.args.items)) more c.labels.invariant.reading in
+    let r = subst (λ n. IsReading c.args.digram c.args.rules.now body n c.labels.rules (reverse k.marks.items) (reverse k.parts.items) (reverse k.args.items)) more c.labels.invariant.reading in
     let here = get_or_default body (c.labels.left - 1) label Bottom in_body in
-    let can = can-read c.args.rules.now body c.requires.term c.requires.below (c.labels.left - 1) c.labels.rules (reverse k.marks.items) (reverse k.parts.items) (reverse k.args.items) r label here in
+    let can = can-read c.args.digram c.args.rules.now body c.requires.term c.requires.below (c.labels.left - 1) c.labels.rules (reverse k.marks.items) (reverse k.parts.items) (reverse k.args.items) r label here in
     let next : drop (c.labels.left - 1) body ≡ label ∷ drop ((c.labels.left - 1) + 1) body = drop-at body (c.labels.left - 1) label in_body here in
     let rest = drop ((c.labels.left - 1) + 1) body in
     let real = ap real_nodes next ∙ real-append (label ∷ []) (drop ((c.labels.left - 1) + 1) body) in
@@ -65,7 +65,7 @@ labels-preserved c =
       parts = omega (arith, z.ruled, i.parts, real, ap real_nodes same);
       any = omega (arith, z.any, o, par, ap params same);
       others = λ l. omega (arith, z.others (not-zero (c.labels.left - 1) l), o, par, ap params same);
-      reading = reading-next c.args.rules.now body c.requires.term c.requires.below (c.labels.left - 1) c.labels.rules (reverse k.marks.items) (reverse k.parts.items) (reverse k.args.items) r label here
+      reading = reading-next c.args.digram c.args.rules.now body c.requires.term c.requires.below (c.labels.left - 1) c.labels.rules (reverse k.marks.items) (reverse k.parts.items) (reverse k.args.items) r label here
           c.read.new.rules (reverse j.marks.items) (reverse j.parts.items) (reverse j.args.items) (c.in_ok-read.ensures.read can);
     }
 
@@ -74,8 +74,8 @@ close-requires c =
     let k = c.labels.self in
     let body = c.args.body.now in
     let end : c.labels.left ≡ 0 = omega arith in
-    let r = subst (λ n. IsReading c.args.rules.now body n c.labels.rules (reverse k.marks.items) (reverse k.parts.items) (reverse k.args.items)) end c.labels.invariant.reading in
-    can-finish c.args.rules.now body c.requires.term c.requires.below c.labels.rules (reverse k.marks.items) (reverse k.parts.items) (reverse k.args.items) r c.len-end.result (c.len-end.ensures ∙ k.args.ok.0 ∙ sym (length-reverse k.args.items))
+    let r = subst (λ n. IsReading c.args.digram c.args.rules.now body n c.labels.rules (reverse k.marks.items) (reverse k.parts.items) (reverse k.args.items)) end c.labels.invariant.reading in
+    can-finish c.args.digram c.args.rules.now body c.requires.term c.requires.below c.labels.rules (reverse k.marks.items) (reverse k.parts.items) (reverse k.args.items) r c.len-end.result (c.len-end.ensures ∙ k.args.ok.0 ∙ sym (length-reverse k.args.items))
 
 pub returns-clause-cut : goal.returns-clause-cut
 returns-clause-cut c =
@@ -83,11 +83,11 @@ returns-clause-cut c =
     let j = c.close.new.cutter in
     let body = c.args.body.now in
     let end : c.labels.left ≡ 0 = omega arith in
-    let r = subst (λ n. IsReading c.args.rules.now body n c.labels.rules (reverse k.marks.items) (reverse k.parts.items) (reverse k.args.items)) end c.labels.invariant.reading in
-    let can = can-finish c.args.rules.now body c.requires.term c.requires.below c.labels.rules (reverse k.marks.items) (reverse k.parts.items) (reverse k.args.items) r c.len-end.result (c.len-end.ensures ∙ k.args.ok.0 ∙ sym (length-reverse k.args.items)) in
+    let r = subst (λ n. IsReading c.args.digram c.args.rules.now body n c.labels.rules (reverse k.marks.items) (reverse k.parts.items) (reverse k.args.items)) end c.labels.invariant.reading in
+    let can = can-finish c.args.digram c.args.rules.now body c.requires.term c.requires.below c.labels.rules (reverse k.marks.items) (reverse k.parts.items) (reverse k.args.items) r c.len-end.result (c.len-end.ensures ∙ k.args.ok.0 ∙ sym (length-reverse k.args.items)) in
     let x = c.in_ok-close.ensures.closed can in
-    let f = finished c.args.rules.now body c.requires.term c.requires.below c.labels.rules (reverse k.marks.items) (reverse k.parts.items) (reverse k.args.items) r c.close.new.rules (reverse j.marks.items) (reverse j.parts.items) (reverse j.args.items) c.in_ok-close.field-0 x in
-    subst (λ (o : List Label). IsCutOff c.args.rules.now c.close.new.rules body o) (sym (c.in_ok-outside.ensures ∙ ap reverse c.as_slice.ensures.value)) f
+    let f = finished c.args.digram c.args.rules.now body c.requires.term c.requires.below c.labels.rules (reverse k.marks.items) (reverse k.parts.items) (reverse k.args.items) r c.close.new.rules (reverse j.marks.items) (reverse j.parts.items) (reverse j.args.items) c.in_ok-close.field-0 x in
+    subst (λ (o : List Label). IsCutOff c.args.digram c.args.rules.now c.close.new.rules body o) (sym (c.in_ok-outside.ensures ∙ ap reverse c.as_slice.ensures.value)) f
 
 pub returns-clause-small : goal.returns-clause-small
 returns-clause-small c =

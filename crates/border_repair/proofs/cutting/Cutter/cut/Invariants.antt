@@ -7,7 +7,7 @@ use Rattle.border_repair.proofs.cutting.Cutter.cut.Given as goal
 
 abbrev pub invariant-labels : goal.invariant-labels
 invariant-labels l = record {
-  reading : IsReading l.initial.rules l.body l.left l.rules (reverse l.self.marks.items) (reverse l.self.parts.items) (reverse l.self.args.items);
+  reading : IsReading l.digram l.initial.rules l.body l.left l.rules (reverse l.self.marks.items) (reverse l.self.parts.items) (reverse l.self.args.items);
   parts : size l.rules + real_nodes l.self.parts.items ≤ size l.initial.rules + real_nodes (drop l.left l.body);
   any : real_nodes l.self.args.items + 3 * free (reverse l.self.marks.items) ≤ 3 * params (drop l.left l.body) + 3;
   others : 0 < l.left → real_nodes l.self.args.items + 3 * free (reverse l.self.marks.items) ≤ 3 * params (drop l.left l.body);

@@ -27,6 +27,7 @@ use Rattle.preorder_address.specs.declared.descent.Wanted.{Wanted}
 use Rattle.preorder_address.specs.declared.numbering.Numbering.{Numbering}
 use Rattle.preorder_address.specs.declared.numbering.Numbering.TheVariants.{Nodes}
 use Rattle.value_cursor.specs.Cursors.{BeginsAtNode, IsInside as InsideCursor, left_at, left_of}
+use Rattle.value_cursor.specs.Kept.{AreKept, again_of, labels_of}
 use Rattle.value_cursor.specs.Stops.{AreStops, IsAtStop, behind, segment_left, stops_of}
 use Rattle.value_cursor.specs.declared.cursor.Cursor.{Cursor}
 use Rattle.value_cursor.proofs.CallLemmas.{behind-snoc, lowest, lowest-snoc, stops-few, stops-snoc}
@@ -271,13 +272,16 @@ module _ (g : Keyed) (k : IsKeyed g) (number : ℕ) where
       }
 
   -- the last stop, with the calls around it, is a cursor before the node
-  module _ (d : Descent) (calls : List RuleStop) (capacity : ℕ) (i : Descends g.rules number d calls capacity) (none : d.next ≡ None) (c : Cursor) (popped : calls ≡ c.calls.items ++ option_to_list c.here) (fewer : c.here ≡ None → calls ≡ []) (zero_open : c.opened ≡ 0) where
+  module _ (d : Descent) (calls : List RuleStop) (capacity : ℕ) (i : Descends g.rules number d calls capacity) (none : d.next ≡ None) (c : Cursor) (popped : calls ≡ c.calls.items ++ option_to_list c.here) (fewer : c.here ≡ None → calls ≡ []) (zero_open : c.opened ≡ 0) (fresh : again_of c.kept ≡ []) where
     way-end : IsOnWay g.rules number calls None
     way-end = subst (λ (o : Option Wanted). IsOnWay g.rules number calls o) none i.way
 
     -- what is left of it
     begun : IsOpening (left_of g.rules c) × Remains g.rules number (left_of g.rules c)
-    begun = by_here c.here refl
+    begun =
+        let e : left_at g.rules c.here c.calls.items ≡ left_of g.rules c = ap (λ ts. labels_of ts ++ left_at g.rules c.here c.calls.items) (sym fresh) in
+        let b = by_here c.here refl in
+        (subst IsOpening e b.0, subst (Remains g.rules number) e b.1)
       where
         by_here : (o : Option RuleStop) → c.here ≡ o → IsOpening (left_at g.rules c.here c.calls.items) × Remains g.rules number (left_at g.rules c.here c.calls.items)
         by_here None e = let t : [] ≡ way-end.0 ++ way-end.1 ∷ [] = sym (fewer e) ∙ way-end.2 in absurd (no_end way-end.0 way-end.1 t)
@@ -304,11 +308,10 @@ module _ (g : Keyed) (k : IsKeyed g) (number : ℕ) where
           none_open = zero_open;
         }
 
-    pub inside-now : sum_by node_weight (whole_value g.rules) < 2 ^ 64 → length g.rules ≤ vec_capacity c.calls → InsideCursor g.rules c
-    inside-now small room =
+    pub inside-now : sum_by node_weight (whole_value g.rules) < 2 ^ 64 → length g.rules ≤ vec_capacity c.calls → AreKept g.rules c.kept → InsideCursor g.rules c
+    inside-now small room kept =
         let b = begun in
         record {
-          stops = subst (AreStops g.rules (length g.rules)) popped i.stops;
-          room = room;
+          standing = record { stops = subst (AreStops g.rules (length g.rules)) popped i.stops; room = room; kept = kept };
           few = omega (arith, small, zero_open, ap (sum_by node_weight) b.1.split, sum_by-append node_weight b.1.before (left_of g.rules c));
         }

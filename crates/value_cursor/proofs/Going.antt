@@ -47,6 +47,14 @@ module _ (g : Keyed) (k : IsKeyed g) (calls : List RuleStop) (s : RuleStop) (a :
     call-left : segment_left g.rules (stops_of g.rules s) ≡ segment s.walk.part (preorder (rules_of g.rules) q) ++ segment_left g.rules (drop 1 (stops_of g.rules s))
     call-left = left-call g k s (last-below g k calls s a) (last-at g k calls s a) x item q call
 
+    -- the segment was told otherwise
+    pub again-left : (told rest : List Label) → told ≡ segment s.walk.part (preorder (rules_of g.rules) q) → rest ≡ segment_left g.rules (drop 1 (stops_of g.rules s)) ++ behind g.rules calls []
+        → told ++ rest ≡ left_at g.rules (Some s) calls
+    again-left told rest e f =
+        let first = segment s.walk.part (preorder (rules_of g.rules) q) in
+        ap (λ ls. ls ++ rest) e ∙ ap (λ ls. first ++ ls) f ∙ sym (append_assoc first (segment_left g.rules (drop 1 (stops_of g.rules s))) (behind g.rules calls []))
+        ∙ ap (λ ls. ls ++ behind g.rules calls []) (sym call-left)
+
     -- nothing is left of a segment without labels
     pub passed-left : segment s.walk.part (preorder (rules_of g.rules) q) ≡ [] → left_at g.rules (Some s) calls ≡ segment_left g.rules (drop 1 (stops_of g.rules s)) ++ behind g.rules calls []
     passed-left e =

@@ -1,6 +1,6 @@
 -- Leaving a rule for the call that led there.
 use Rattle.std.proofs.Common.{◌≡◌, ℕ, ◌-◌, ◌<◌, ◌≤◌, List, [], ◌∷◌, ◌++◌, length, drop, ap, sym, ◌∙◌, arith, subst, true, false, Some, length-drop}
-use Rattle.std.specs.Prelude.{slice_get, vec_capacity}
+use Rattle.std.specs.Prelude.{slice_get}
 use Rattle.rule_arena.specs.Terms.{Node}
 use Rattle.rule_arena.specs.declared.label.Label.{Label}
 use Rattle.rule_arena.specs.declared.label.Label.TheVariants.{Call, Param}
@@ -13,18 +13,15 @@ use Rattle.preorder_address.specs.declared.descent.RuleStop.{RuleStop}
 use Rattle.value_cursor.specs.Cursors.{left_at}
 use Rattle.value_cursor.specs.Stops.{AreStops, IsAtStop, IsSilent, behind, segment_left, stops_of}
 use Rattle.value_cursor.specs.Work.{work_at, work_behind, work_in}
-use Rattle.value_cursor.specs.declared.cursor.Cursor.{Cursor}
 use Rattle.value_cursor.proofs.CallLemmas.{behind-snoc, stops-few, stops-front, stops-last, stops-snoc}
 use Rattle.value_cursor.proofs.StopSteps.{at, left-param, left-silent, rest-is, stop-next, stops-fewer}
 use Rattle.value_cursor.proofs.Working.{work_behind-snoc, work-fewer}
 
 -- some calls were left, and there was no stop behind them
-pub record Leaves (G : List KeyedRule) (first now : Cursor) : Type 0 where
-  pub stops : AreStops G (length G) now.calls.items
-  pub left : behind G first.calls.items [] ≡ behind G now.calls.items []
-  pub work : work_behind G now.calls.items ≤ work_behind G first.calls.items
-  pub room : vec_capacity now.calls ≡ vec_capacity first.calls
-  pub opened : now.opened ≡ first.opened
+pub record Leaves (G : List KeyedRule) (first now : List RuleStop) : Type 0 where
+  pub stops : AreStops G (length G) now
+  pub left : behind G first [] ≡ behind G now []
+  pub work : work_behind G now ≤ work_behind G first
 
 -- the last of some stops, with the calls that lead there
 module _ (g : Keyed) (k : IsKeyed g) (calls : List RuleStop) (s : RuleStop) (a : AreStops g.rules (length g.rules) (calls ++ s ∷ [])) where
@@ -120,15 +117,12 @@ module _ (g : Keyed) (k : IsKeyed g) (calls : List RuleStop) (s : RuleStop) (a :
   pub front-work : work_behind g.rules calls ≤ work_behind g.rules (calls ++ s ∷ [])
   front-work = omega (arith, work_behind-snoc g.rules calls s)
 
-pub leaves-more : (g : Keyed) (k : IsKeyed g) (first now later : Cursor) (s : RuleStop) → now.calls.items ≡ later.calls.items ++ s ∷ [] → vec_capacity later.calls ≡ vec_capacity now.calls → later.opened ≡ now.opened → Leaves g.rules first now → (walk : TourWalk)
+pub leaves-more : (g : Keyed) (k : IsKeyed g) (first now later : List RuleStop) (s : RuleStop) → now ≡ later ++ s ∷ [] → Leaves g.rules first now → (walk : TourWalk)
     → ((r : ℕ) (here : Stop Node) (left : List (Stop Node)) → StandsBefore g.rules r s.walk (here ∷ left) → StandsNext false g.rules r walk left) → Leaves g.rules first later
-leaves-more g k first now later s e room opened i walk n =
-    let calls = later.calls.items in
+leaves-more g k first now later s e i walk n =
     let a = subst (λ (ss : List RuleStop). AreStops g.rules (length g.rules) ss) e i.stops in
     record {
-      stops = stops-front g.rules (length g.rules) calls s a;
-      left = i.left ∙ ap (λ (ss : List RuleStop). behind g.rules ss []) e ∙ none-behind g k calls s a walk n;
-      work = omega (arith, front-work g k calls s a, ap (work_behind g.rules) e, i.work);
-      room = room ∙ i.room;
-      opened = opened ∙ i.opened;
+      stops = stops-front g.rules (length g.rules) later s a;
+      left = i.left ∙ ap (λ (ss : List RuleStop). behind g.rules ss []) e ∙ none-behind g k later s a walk n;
+      work = omega (arith, front-work g k later s a, ap (work_behind g.rules) e, i.work);
     }

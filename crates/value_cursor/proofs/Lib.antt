@@ -6,6 +6,7 @@ pub mod Leaving
 pub mod FirstRule
 pub mod SegmentStarts
 pub mod Going
+pub mod Keeping
 pub mod Telling
 pub mod Beginning
 pub mod Subtrees

@@ -1,5 +1,6 @@
 pub mod Stops
 pub mod Tokens
+pub mod Kept
 pub mod Cursors
 pub mod Work
 pub mod Laws

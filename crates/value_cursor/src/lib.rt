@@ -1,13 +1,14 @@
 //! The tokens of a subtree in document order, over the rules of a grammar and without unfolding them.
 //!
 //! `Cursor::new` goes down to a node by its number, and `Cursor::next` gives one `Token` after another. A cursor keeps one stop for
-//! each rule of the chain of calls in which it stands, so its memory depends on the number of rules alone, and all of it is taken in
-//! `new`. `laws` says that the tokens are those of the tree for which the grammar stands. `most_open` says how many nodes are open at
+//! each rule of the chain of calls in which it stands, and the tokens of short segments, which it tells again without reading nodes. Its
+//! memory depends on the number of rules alone, and all of it is taken in `new`. `laws` says that the tokens are those of the tree for which the grammar stands. `most_open` says how many nodes are open at
 //! once, for whoever keeps something of each of them.
 #![tactic(auto)]
 
 mod cursor;
 mod entering;
+mod kept;
 mod laws;
 mod rises;
 

@@ -1,7 +1,8 @@
 // A sink with a count of the bytes sent to it.
-ghost use Rattle.std.specs.Prelude.{◌≡◌, ◌++◌, OnOk, OnErr};
+ghost use Rattle.std.specs.Prelude.{◌≡◌, ◌++◌, false, [], ◌∷◌, OnOk, OnErr};
 ghost use Rattle.std.specs.List.{flat_map};
 ghost use Rattle.xml_nodes.specs.Escapes.{escaped, IsEscape, IsSplit};
+ghost use Rattle.xml_nodes.specs.Saved.{text_byte, value_byte};
 ghost use Rattle.xml_nodes.specs.Sending.{Sends, seen};
 
 use tree_outside::{ByteCount, Failed, Sink};
@@ -60,6 +61,11 @@ impl<'a, K: Sink> Output<'a, K> {
     pub(crate) fn send(&mut self, bytes: &[u8]) -> Result<(), Failed>
         ensures { Sends (seen K.Sink self.old) (seen K.Sink self.new) result bytes.now }
     {
+        // The read tells that the count is below 2^128.
+        let _count = self.count.get();
+        if bytes.is_empty() {
+            return Ok(());
+        }
         self.count.add(bytes.len());
         self.sink.write(bytes)
     }
@@ -102,15 +108,30 @@ impl<'a, K: Sink> Output<'a, K> {
 fn split_at_escape(bytes: &[u8], quoted: bool) -> Option<(&[u8], &'static [u8], &[u8])>
     ensures { IsSplit quoted bytes.now result }
 {
-    for place in 0..bytes.len() {
-        if let Some(escape) = escape_of(bytes[place], quoted) {
-            return Some((&bytes[..place], escape, &bytes[place + 1..]));
+    for (place, byte) in bytes.iter().enumerate() {
+        if may_have_escape(*byte) {
+            if let Some(escape) = escape_of(*byte, quoted) {
+                return Some((&bytes[..place], escape, &bytes[place + 1..]));
+            }
         }
     }
     None
 }
 
-// What stands in place of a byte, where it may not stand for itself.
+// Whether a byte has an escape in a text or in a quoted value: few have, and this is quickly told.
+fn may_have_escape(byte: u8) -> bool
+    ensures text { result ≡ false → text_byte byte ≡ byte ∷ [] }
+    ensures value { result ≡ false → value_byte byte ≡ byte ∷ [] }
+{
+    match byte {
+        b'>' | b'<' | b'&' | b'"' => true,
+        _ => byte < b' ',
+    }
+}
+
+// What stands in place of a byte, where it may not stand for itself. Few bytes get here, and the search for them is shorter without it.
+#[cold]
+#[inline(never)]
 fn escape_of(byte: u8, quoted: bool) -> Option<&'static [u8]>
     ensures { IsEscape quoted byte result }
 {

@@ -19,7 +19,7 @@ pub loop-stop-init : goal.loop-stop-init
 loop-stop-init g c =
     descends-start c.args.grammar.now c.limit-limit.ensures.keyed c.args.number c.args.counts.now c.requires c.in-Some.descent c.in-Some.ensures.descent
     (c.in-Some.ensures.leads c.args.grammar.now c.limit-limit.ensures.keyed c.requires).inside c.in_ok-calls.calls.items (vec_capacity c.in_ok-calls.calls) c.in_ok-calls.ensures.items
-    (omega (arith, c.in_ok-calls.ensures.capacity, c.rules.ensures.value))
+    (omega (arith, c.in_ok-calls.ensures.capacity, c.rules-rules.ensures.value))
 
 pub loop-stop-preserved : goal.loop-stop-preserved
 loop-stop-preserved g c =
@@ -31,10 +31,10 @@ returns-clause-inside g c =
     let G = c.args.grammar.now in
     let n = length-rules_of G.rules in
     let small = c.requires.1.numbers.small Nodes (length G.rules - 1) (omega (arith, n, c.limit-limit.ensures.keyed.grammar.some)) in
-    let now : Cursor = record { here = c.pop-here.result; calls = c.pop-here.new.self; opened = 0 } in
-    inside-now G c.limit-limit.ensures.keyed c.args.number c.loop-stop.descent c.loop-stop.calls.items (vec_capacity c.loop-stop.calls) c.loop-stop.invariant c.in_default-next_stop.ensures.through.0 now c.pop-here.ensures.items (λ (e : c.pop-here.result ≡ None). let z = rw e at c.pop-here.ensures.cases in nil_from_length c.loop-stop.calls.items (sym c.loop-stop.calls.ok.0 ∙ z.0)) refl small (omega (arith, c.loop-stop.invariant.room, c.pop-here.ensures.capacity))
+    let now : Cursor = record { here = c.pop-here.result; calls = c.pop-here.new.self; opened = 0; kept = c.in_ok-kept.kept } in
+    inside-now G c.limit-limit.ensures.keyed c.args.number c.loop-stop.descent c.loop-stop.calls.items (vec_capacity c.loop-stop.calls) c.loop-stop.invariant c.in_default-next_stop.ensures.through.0 now c.pop-here.ensures.items (λ (e : c.pop-here.result ≡ None). let z = rw e at c.pop-here.ensures.cases in nil_from_length c.loop-stop.calls.items (sym c.loop-stop.calls.ok.0 ∙ z.0)) refl c.in_ok-kept.ensures.again small (omega (arith, c.loop-stop.invariant.room, c.pop-here.ensures.capacity)) (c.in_ok-kept.ensures.kept G.rules (omega (arith, c.rules-rules.ensures.value)))
 
 pub returns-clause-begins : goal.returns-clause-begins
 returns-clause-begins g c =
-    let now : Cursor = record { here = c.pop-here.result; calls = c.pop-here.new.self; opened = 0 } in
-    begins c.args.grammar.now c.limit-limit.ensures.keyed c.args.number c.loop-stop.descent c.loop-stop.calls.items (vec_capacity c.loop-stop.calls) c.loop-stop.invariant c.in_default-next_stop.ensures.through.0 now c.pop-here.ensures.items (λ (e : c.pop-here.result ≡ None). let z = rw e at c.pop-here.ensures.cases in nil_from_length c.loop-stop.calls.items (sym c.loop-stop.calls.ok.0 ∙ z.0)) refl
+    let now : Cursor = record { here = c.pop-here.result; calls = c.pop-here.new.self; opened = 0; kept = c.in_ok-kept.kept } in
+    begins c.args.grammar.now c.limit-limit.ensures.keyed c.args.number c.loop-stop.descent c.loop-stop.calls.items (vec_capacity c.loop-stop.calls) c.loop-stop.invariant c.in_default-next_stop.ensures.through.0 now c.pop-here.ensures.items (λ (e : c.pop-here.result ≡ None). let z = rw e at c.pop-here.ensures.cases in nil_from_length c.loop-stop.calls.items (sym c.loop-stop.calls.ok.0 ∙ z.0)) refl c.in_ok-kept.ensures.again

@@ -16,8 +16,9 @@ ghost use Rattle.store_core.specs.Worlds.{AreLawfulParts, unedited, with_rules, 
 
 use crate::answer::Answer;
 use crate::loaded::Loaded;
+use crate::refreshing::refresh;
 use digram_index::{Index, build};
-use local_repair::settle_touched;
+use local_repair::{settle, settle_touched};
 use slt_grammar::Grammar;
 use std::alloc::{AllocError, Global};
 use tree_updates::Store;
@@ -74,9 +75,26 @@ pub(crate) fn hold(loaded: &mut Loaded, settled: Settled) -> Result<(usize, u64)
     Ok((rules, size))
 }
 
-/// Settles the grammar of a store where it stands, for this rank, at most 8. Where there is no memory for that, the store is one for the same
+/// Settles the grammar of a store where it stands, for this rank, at most 8, and a copy of it deeply where it is worn. Where there is no memory for that, the store is one for the same
 /// document all the same, under a grammar that isn't larger.
 pub(crate) fn settle_store(alloc: Global, store: &mut Store, rank: usize) -> Result<(), AllocError>
+    requires rank { rank ≤ 8 }
+    requires store { (t : Tree) × IsStoreFor store.old t }
+    ensures settled { OnOk result (IsSettled (rules_of store.new.grammar.rules) rank) }
+    ensures store { (t : Tree) → IsStoreFor store.old t → IsStoreFor store.new t }
+    ensures grammar { IsGrammar (rules_of store.new.grammar.rules) }
+    ensures names { store.new.names ≡ store.old.names }
+    ensures size { size (rules_of store.new.grammar.rules) ≤ size (rules_of store.old.grammar.rules) }
+    ensures marks { HasMarks store.new }
+{
+    settle_in_place(alloc, store, rank)?;
+    refresh(alloc, store, rank);
+    Ok(())
+}
+
+// Settles the grammar of a store where it stands, for this rank. Where there is no memory for that, the store is one for the same document all
+// the same, under a grammar that isn't larger.
+fn settle_in_place(alloc: Global, store: &mut Store, rank: usize) -> Result<(), AllocError>
     requires rank { rank ≤ 8 }
     requires store { (t : Tree) × IsStoreFor store.old t }
     ensures settled { OnOk result (IsSettled (rules_of store.new.grammar.rules) rank) }
@@ -132,7 +150,7 @@ pub(crate) fn settle_whole(
     ensures ranks { IfOk result (λ s. greatest_rank (rules_of s.grammar.rules) ≤ max rank (greatest_rank (rules_of grammar.rules))) }
     ensures index { IfOk result (λ s. IsIndexOf s.grammar s.index) }
 {
-    let mut index = build(alloc, &grammar)?;
-    settle_touched(alloc, &mut grammar, &mut index, rank)?;
+    settle(alloc, &mut grammar, rank)?;
+    let index = build(alloc, &grammar)?;
     Ok(Settled { grammar, index })
 }

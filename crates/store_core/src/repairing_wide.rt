@@ -2,6 +2,7 @@
 ghost use Rattle.std.specs.Prelude.{◌≡◌, ◌≤◌, ◌<◌, ◌^◌, ℕ, Option, Some, IfOk, IfSome, OnOk, OnErr};
 ghost use Rattle.tree_outside.specs.Files.{Told};
 ghost use Rattle.slt_grammar.specs.Automata.{nodes_in};
+ghost use Rattle.slt_grammar.specs.Digrams.{IsSettled};
 ghost use Rattle.slt_grammar.specs.Grammars.{value, IsSwept};
 ghost use Rattle.slt_grammar.specs.Keyed.{rules_of};
 ghost use Rattle.digram_index.specs.Linked.{IsIndexOf};
@@ -86,12 +87,27 @@ fn settled_across(
     let Some(digram) = digram else {
         return Ok(plain);
     };
-    let mut copy = grammar.copy()?;
-    across(alloc, &mut copy, digram)?;
-    let wide = settle_whole(alloc, copy, rank)?;
+    let wide = settled_with_rule(alloc, grammar.copy()?, digram, rank)?;
     if wide.grammar.size() < plain.grammar.size() {
         Ok(wide)
     } else {
         Ok(plain)
     }
+}
+
+// A grammar, settled for this rank after a digram became a rule.
+fn settled_with_rule(
+    alloc: Global,
+    mut grammar: Grammar,
+    digram: Digram,
+    rank: usize,
+) -> Result<Settled, AllocError>
+    requires rank { rank ≤ 8 }
+    requires digram { IsCandidate rank digram × (0 < occurrences digram (rules_of grammar.rules)) }
+    ensures settled { IfOk result (λ s. IsSettled (rules_of s.grammar.rules) rank) }
+    ensures value { IfOk result (λ s. value (rules_of s.grammar.rules) ≡ value (rules_of grammar.rules)) }
+    ensures index { IfOk result (λ s. IsIndexOf s.grammar s.index) }
+{
+    across(alloc, &mut grammar, digram)?;
+    settle_whole(alloc, grammar, rank)
 }

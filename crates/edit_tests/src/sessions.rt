@@ -113,6 +113,39 @@ fn a_session_counts_its_edits(rt: HostRuntime) -> Result<(), Fail> {
     Ok(())
 }
 
+// One record in four elements of different names, so that its rule is called four times and nothing else repeats.
+const RECORDS: &[u8] =
+    b"<r><p><a><b/><c/></a></p><q><a><b/><c/></a></q><s><a><b/><c/></a></s><t><a><b/><c/></a></t></r>";
+
+// How many rules and nodes of rules a session has of them.
+fn weight_of(subject: &Subject) -> Option<(usize, u64)> {
+    let held = subject.holding()?;
+    Some((held.rules, held.size))
+}
+
+// The same before a record gets another name, and once it has its name again.
+fn weights_renamed_and_back(alloc: Global, number: u64) -> Result<[Option<(usize, u64)>; 2], Fail> {
+    let mut subject = Subject::loaded(alloc, RECORDS, 1)?;
+    let before = weight_of(&subject);
+    for name in [b"z", b"a"] {
+        subject.print(alloc, Command::Rename { number, name })?;
+    }
+    Ok([before, weight_of(&subject)])
+}
+
+// The record is written out for the other name, and behind it called again.
+#[test]
+fn a_name_that_is_given_back_leaves_the_grammar_as_it_was(rt: HostRuntime) -> Result<(), Fail> {
+    for record in 0..4_u64 {
+        let [before, behind] = weights_renamed_and_back(rt.alloc(), 4 * record + 3)?;
+        assert!(rt;
+            before.is_some() && before == behind,
+            "record {record}: {before:?} {behind:?}"
+        );
+    }
+    Ok(())
+}
+
 // An `r` with 2^40 elements, in 42 rules of 88 nodes: rule 0 is `a(bottom, y1)`, and each further one but the start calls the one before it
 // twice.
 fn doubled_40_times(alloc: Global) -> Result<Vec<u8>, AllocError> {

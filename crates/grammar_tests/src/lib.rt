@@ -6,6 +6,10 @@
 #[cfg(test)]
 mod arena;
 #[cfg(test)]
+mod borders;
+#[cfg(test)]
+mod calls_again;
+#[cfg(test)]
 mod counts;
 #[cfg(test)]
 mod descents;

@@ -145,7 +145,7 @@ IsOnWay G number calls (Some wanted) =
     × ((before left : List Label) → preorder (rules_of G) wanted.rule ≡ before ++ left → IsOpening left → sum_by node_weight before ≡ wanted.number → Remains G number (segment 0 left ++ behind G calls []))
 
 module _ (g : Keyed) (k : IsKeyed g) where
-  params-last : params (whole_value g.rules) ≡ 0
+  pub params-last : params (whole_value g.rules) ≡ 0
   params-last =
       let n = length-rules_of g.rules in
       let h : length g.rules - 1 < length (rules_of g.rules) = omega (arith, n, k.grammar.some) in

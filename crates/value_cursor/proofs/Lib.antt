@@ -12,3 +12,5 @@ pub mod Beginning
 pub mod Subtrees
 pub mod RiseLemmas
 pub mod RuleRises
+pub mod Searching
+pub mod CursorRises

@@ -56,7 +56,7 @@ front (x ∷ xs) ys o c m f (suc n) =
       front xs ys (o + node_weight x) (c + close_weight x) m (λ k. omega (arith, f (suc k), sum_by-cons node_weight x (take k (xs ++ ys)), sum_by-cons close_weight x (take k (xs ++ ys)))) n,
     )
 
-back : (xs ys : List Label) (o c m : ℕ) → ((k : ℕ) → o + opens (take k (xs ++ ys)) ≤ c + closes (take k (xs ++ ys)) + m) → (n : ℕ) → o + opens xs + opens (take n ys) ≤ c + closes xs + closes (take n ys) + m
+pub back : (xs ys : List Label) (o c m : ℕ) → ((k : ℕ) → o + opens (take k (xs ++ ys)) ≤ c + closes (take k (xs ++ ys)) + m) → (n : ℕ) → o + opens xs + opens (take n ys) ≤ c + closes xs + closes (take n ys) + m
 back [] ys o c m f n = omega (arith, f n)
 back (x ∷ xs) ys o c m f n =
     omega (

@@ -1,9 +1,10 @@
 -- What is left of a rule's tour from a stop on, and of the rules around it.
 use Rattle.std.specs.Prelude.{◌≡◌, ℕ, zero, ◌-◌, ◌<◌, List, [], ◌∷◌, ◌++◌, drop, slice_get, Some, Bool, ◌==◌, ◌&&◌, if◌then◌else◌}
-use Rattle.rule_arena.specs.Terms.{Node}
+use Rattle.rule_arena.specs.Terms.{Node, parent_in}
 use Rattle.rule_arena.specs.declared.key.Key.{Key}
 use Rattle.rule_arena.specs.declared.label.Label.{Label}
 use Rattle.rule_arena.specs.declared.label.Label.TheVariants.{Bottom, Symbol, Param}
+use Rattle.rule_arena.specs.declared.item.Site.{Site}
 use Rattle.slt_grammar.specs.Keyed.{KeyedRule, key_at, nodes_at, rules_of}
 use Rattle.slt_grammar.specs.Segments.{node_tour, part_of, segment, spread}
 use Rattle.slt_grammar.specs.Tours.{Stop}
@@ -30,6 +31,11 @@ IsAtStop G s = StandsBefore G s.rule s.walk (stops_of G s)
 -- the stop's node has this label
 abbrev pub IsLabelOf : List KeyedRule → RuleStop → Label → Type 0
 IsLabelOf G s l = (r p : ℕ) → key_at G r p ≡ Some s.walk.key → (n : ℕ) × (slice_get (nodes_at G r) p ≡ Some (record { key = s.walk.key; label = l; kids = n }))
+
+-- and this is what stands there
+pub record IsSiteOf (G : List KeyedRule) (s : RuleStop) (site : Site) : Type 0 where
+  pub node : (r p : ℕ) → key_at G r p ≡ Some s.walk.key → slice_get (nodes_at G r) p ≡ Some (record { key = s.walk.key; label = site.label; kids = site.arity })
+  pub parent : (r p : ℕ) → key_at G r p ≡ Some s.walk.key → parent_in (nodes_at G r) p ≡ site.parent
 
 -- what stops stand for up to the next parameter
 abbrev pub segment_left : List KeyedRule → List (Stop Node) → List Label

@@ -1,4 +1,4 @@
--- How much a cursor still has to do at most.
+-- How much a cursor or a search still has to do at most.
 use Rattle.std.specs.Prelude.{ℕ, ◌+◌, ◌*◌, ◌-◌, ◌^◌, List, [], ◌∷◌, Option, Some, None, length}
 use Rattle.slt_grammar.specs.Grammars.{whole}
 use Rattle.slt_grammar.specs.Keyed.{KeyedRule, rules_of}

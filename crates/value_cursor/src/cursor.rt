@@ -1,18 +1,21 @@
 // A cursor over a subtree's tokens.
-ghost use Rattle.std.specs.Prelude.{◌≡◌, ◌↔◌, ◌<◌, ◌≤◌, ◌-◌, ◌++◌, List, [], ◌∷◌, drop, length, sum_by, vec_capacity, Some, None, IsSome, IfNone, IfSome, IfOk, nat_lt, if◌then◌else◌};
+ghost use Rattle.std.specs.Prelude.{◌≡◌, ◌↔◌, ℕ, ◌<◌, ◌≤◌, ◌-◌, ◌++◌, List, [], ◌∷◌, drop, length, sum_by, vec_capacity, Some, None, IsSome, IfNone, IfSome, IfOk, nat_lt, if◌then◌else◌};
 ghost use Rattle.std.specs.Option.{option_to_list};
+ghost use Rattle.plain_tree.specs.declared.kind.Kind.{Kind};
 ghost use Rattle.slt_grammar.specs.Grammars.{value};
 ghost use Rattle.slt_grammar.specs.Keyed.{IsKeyed, KeyedRule, rules_of};
 ghost use Rattle.slt_grammar.specs.Segments.{listed};
 ghost use Rattle.segment_counts.specs.Weights.{node_weight};
 ghost use Rattle.preorder_address.specs.Numberings.{AreCountsOf};
 ghost use Rattle.value_cursor.specs.Cursors.{BeginsAtNode, Given, IsInside, IsStanding, found, left_at, left_of, tokens_of};
+ghost use Rattle.value_cursor.specs.Finders.{StandsAtNode};
 ghost use Rattle.value_cursor.specs.Kept.{AreKept, GivenLeft, again_of, label_of, labels_of};
 ghost use Rattle.value_cursor.specs.Tokens.{tokens};
 ghost use Rattle.value_cursor.specs.Stops.{AreStops, IsSilent, IsLabelOf, behind, segment_left, stops_of};
 ghost use Rattle.value_cursor.specs.Work.{work_at};
 
 use crate::entering::segment_start;
+use crate::finder::Finder;
 use crate::kept::KeptSegments;
 use preorder_address::{RuleStop, locate};
 use read_steps::Steps;
@@ -76,6 +79,22 @@ impl Cursor {
             opened: 0,
             kept,
         }))
+    }
+
+    /// Gives the tokens of the node at which the search stands from now on, whatever it gave before. It takes no memory.
+    pub fn begin(&mut self, finder: &Finder)
+        requires { (names : List (Kind × List ℕ)) × (G : List KeyedRule) × (number : ℕ) × IsInside G self.old × StandsAtNode names G number finder.now }
+        ensures inside { (names : List (Kind × List ℕ)) (G : List KeyedRule) (number : ℕ) → IsInside G self.old → StandsAtNode names G number finder.now → IsInside G self.new }
+        ensures begins { (names : List (Kind × List ℕ)) (G : List KeyedRule) (number : ℕ) → StandsAtNode names G number finder.now → BeginsAtNode G number self.new }
+    {
+        self.here = Some(finder.here);
+        self.calls.clear();
+        // There is room for a stop of each rule.
+        self.calls
+            .extend_from_slice(finder.calls.as_slice())
+            .unwrap();
+        self.opened = 0;
+        self.kept.forget();
     }
 
     /// The next token, and None where all were given. It takes no memory.
@@ -216,7 +235,7 @@ pub(crate) fn go_on<L: Ledger>(
 }
 
 // Goes from a call to the first stop of the called rule's segment, or past the call where there is none.
-fn enter<L: Ledger>(
+pub(crate) fn enter<L: Ledger>(
     here: &mut RuleStop,
     calls: &mut Vec<RuleStop>,
     grammar: &Grammar,
@@ -269,7 +288,7 @@ pub(crate) fn pass<L: Ledger>(
 }
 
 // Goes past a stop of the first rule. It calls none, so that its stops behind children give nothing.
-fn skip<L: Ledger>(
+pub(crate) fn skip<L: Ledger>(
     here: &mut RuleStop,
     calls: &mut Vec<RuleStop>,
     grammar: &Grammar,
@@ -291,7 +310,7 @@ fn skip<L: Ledger>(
 }
 
 // Goes past the call that led to the innermost rule, and answers whether there is a stop then.
-fn leave<L: Ledger>(
+pub(crate) fn leave<L: Ledger>(
     here: &mut RuleStop,
     calls: &mut Vec<RuleStop>,
     grammar: &Grammar,

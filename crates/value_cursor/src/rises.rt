@@ -6,6 +6,8 @@ ghost use Rattle.slt_grammar.specs.Keyed.{IsKeyed, rules_of};
 ghost use Rattle.slt_grammar.specs.Segments.{listed, part_of, preorder, segment};
 ghost use Rattle.slt_grammar.specs.declared.rules.Rule.{Rule};
 ghost use Rattle.preorder_address.specs.Numberings.{AreCountsOf};
+ghost use Rattle.value_cursor.specs.Cursors.{BeginsAtNode, left_of};
+ghost use Rattle.value_cursor.specs.declared.cursor.Cursor.{Cursor};
 ghost use Rattle.value_cursor.specs.Rises.{AreRises, IsOf, IsRise, Passes, RisesAtMost, risen};
 
 use read_steps::Steps;
@@ -36,7 +38,7 @@ pub(crate) struct Rising {
 }
 
 /// How many nodes are open at once at most while a cursor gives the tokens of the whole value: the least number that is enough. It is
-/// enough for any other node too. One pass over the rules; it fails only where memory is refused.
+/// enough for the tokens of any other node too. One pass over the rules; it fails only where memory is refused.
 pub fn most_open<L: Ledger>(
     alloc: Global,
     grammar: &Grammar,
@@ -46,6 +48,7 @@ pub fn most_open<L: Ledger>(
     requires { AreCountsOf (rules_of grammar.now.rules) counts.now }
     ensures bound { IfOk result (λ most. RisesAtMost most (listed (value (rules_of grammar.now.rules)) [])) }
     ensures least { IfOk result (λ most. (m : ℕ) → RisesAtMost m (listed (value (rules_of grammar.now.rules)) []) → most ≤ m) }
+    ensures cursors { IfOk result (λ most. (number : ℕ) (cursor : Cursor) → BeginsAtNode grammar.now.rules number cursor → RisesAtMost most (left_of grammar.now.rules cursor)) }
 {
     // The call tells what is true of every grammar.
     let _limit = grammar.limit();

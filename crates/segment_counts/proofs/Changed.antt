@@ -10,7 +10,7 @@ use Rattle.plain_tree.specs.declared.kind.Kind.{Kind}
 use Rattle.rule_arena.specs.declared.label.Label.{Label}
 use Rattle.rule_arena.specs.declared.label.Label.TheVariants.{Bottom, Symbol, Param}
 use Rattle.slt_grammar.specs.Bodies.{params}
-use Rattle.slt_grammar.specs.Grammars.{value, value_at}
+use Rattle.slt_grammar.specs.Grammars.{IsGrammar, value, value_at}
 use Rattle.slt_grammar.specs.Segments.{listed, preorder, segment}
 use Rattle.slt_grammar.specs.declared.rules.Rule.{Rule}
 use Rattle.slt_grammar.specs.Terms.{Term, Leaf, Node, Hole}
@@ -26,7 +26,7 @@ use Rattle.slt_grammar.proofs.TourLemmas.{segment-others}
 use Rattle.segment_counts.proofs.Cuts.{padded}
 use Rattle.segment_counts.proofs.Numbers.{all-listed, texts-few}
 use Rattle.segment_counts.proofs.Rows.{length-row}
-use Rattle.segment_counts.proofs.Telling.{segment-whole}
+use Rattle.segment_counts.proofs.Telling.{closed-value, segment-whole, total-told}
 
 nodes-behind : (t : Term) (k : List Label) → sum_by node_weight (listed t k) ≡ sum_by node_weight (listed t []) + sum_by node_weight k
 nodes-behind Leaf k = omega (arith, sum_by-cons node_weight Bottom k)
@@ -216,6 +216,43 @@ module _ (names : List (Kind × List ℕ)) where
   recounted rule G C D R a h e n l f b =
       let there : get_or D.rows rule no_row ≡ R = ap (λ (X : List (List Weights)). get_or X rule no_row) e ∙ get_or-set_same C.rows rule R no_row (omega (arith, h, a.room)) in
       counted-with rule G D (but-set rule G G C D a (same-values rule G) R e n l) (subst (λ (S : List Weights). IsRowOf names (value_at G rule) S) (sym there) (few-row (value_at G rule) R f b))
+
+-- all rules but the last were counted, and the last one's value is that of the start whose row was there
+module _ (names : List (Kind × List ℕ)) (G H : List Rule) (C : CountTable) (a : AreCounts names G C) (g : IsGrammar G) (same : value H ≡ value G) where
+  start-is : (m : Measure) → weight_by m (start_weights C) ≡ sum_by (weigh names m) (listed (value H) [])
+  start-is m = total-told names G C a g m ∙ ap (λ (t : Term). sum_by (weigh names m) (listed t [])) (sym same)
+
+  start-small : (m : Measure) → sum_by (weigh names m) (listed (value H) []) < 2 ^ 64
+  start-small m = subst (λ (t : Term). sum_by (weigh names m) (listed t []) < 2 ^ 64) (sym same) (a.numbers.small m (length G - 1) (omega (arith, g.some)))
+
+  closed : params (listed (value H) []) ≡ 0
+  closed = ap (λ (t : Term). params (listed t [])) same ∙ closed-value G g
+
+  pub few-kept : sum_by node_weight (listed (value H) []) < 2 ^ 63
+  few-kept = omega (arith, start-small All, all-is (value H) closed)
+
+  start-row : IsRowOf names (value H) (start_weights C ∷ [])
+  start-row =
+      closed-row names (value H) (start_weights C) closed (start-is Nodes) (start-is Texts) (omega (arith, start-is Nodes, start-is All, all-is (value H) closed)) (λ m. omega (arith, start-is m, start-small m))
+
+  pub start-kept : (last : ℕ) (D E : CountTable) → last + 1 ≡ length H → AreCountsBelow names last H D.rows → D.rules ≡ last → length H ≤ length D.rows → E.rows ≡ set D.rows D.rules (start_weights C ∷ []) → E.rules ≡ D.rules + 1 → AreCounts names H E
+  start-kept last D E h b n l e f = counted-rows names H E (omega (arith, f, n, h)) (omega (arith, l, ap length there, length-row D.rows last R)) (λ q k. by_place q k (cases_lt q last))
+    where
+      R : List Weights
+      R = start_weights C ∷ []
+
+      there : E.rows ≡ set D.rows last R
+      there = e ∙ ap (λ k. set D.rows k R) n
+
+      by_place : (q : ℕ) → q < length H → (q < last) ⊎ (last ≤ q) → IsRowOf names (value_at H q) (get_or E.rows q no_row)
+      by_place q k (inl d) =
+          let r : get_or D.rows q no_row ≡ get_or E.rows q no_row = sym (get_or-set_other D.rows last q R no_row (omega (arith, d))) ∙ ap (λ (X : List (List Weights)). get_or X q no_row) (sym there) in
+          subst (λ (X : List Weights). IsRowOf names (value_at H q) X) r (record { each = λ m i. b.each m q i d; small = λ m. b.small m q d })
+      by_place q k (inr d) =
+          let z : last ≡ q = omega (arith, d, k) in
+          let r : R ≡ get_or E.rows last no_row = sym (get_or-set_same D.rows last R no_row (omega (arith, l, h))) ∙ ap (λ (X : List (List Weights)). get_or X last no_row) (sym there) in
+          let v : length H - 1 ≡ last = omega (arith, h) in
+          subst (λ (j : ℕ). IsRowOf names (value_at H j) (get_or E.rows j no_row)) z (subst (λ (X : List Weights). IsRowOf names (value_at H last) X) r (subst (λ (j : ℕ). IsRowOf names (value_at H j) R) v start-row))
 
 pub raised-small : (w : Weights) (nodes texts : ℕ) → w.nodes + nodes < 2 ^ 64 → w.texts + texts < 2 ^ 64 → w.all + 2 * nodes < 2 ^ 64 → (m : Measure) → weight_by m (raised w nodes texts) < 2 ^ 64
 raised-small w nodes texts h k l Nodes = h

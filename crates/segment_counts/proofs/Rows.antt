@@ -6,7 +6,7 @@ use Rattle.plain_tree.specs.declared.kind.Kind.{Kind}
 use Rattle.slt_grammar.specs.Grammars.{IsGrammar, IsSwept}
 use Rattle.slt_grammar.specs.Segments.{preorder}
 use Rattle.slt_grammar.specs.declared.rules.Rule.{Rule}
-use Rattle.segment_counts.specs.Counting.{AreCounts, AreCountsBelow, no_row, no_weights, told, weight_by}
+use Rattle.segment_counts.specs.Counting.{AreCounts, AreCountsBelow, CountTable, no_row, no_weights, told, weight_by}
 use Rattle.segment_counts.specs.Weights.{weigh, count, node_weight}
 use Rattle.segment_counts.specs.declared.counts.Measure.{Measure}
 use Rattle.segment_counts.specs.declared.counts.Measure.TheVariants.{Nodes, Texts, All}
@@ -30,16 +30,11 @@ length-row [] k R = refl
 length-row (S ∷ C) zero R = refl
 length-row (S ∷ C) (suc k) R = ap suc (length-row C k R)
 
--- the rules before k are counted, and each has few nodes
-pub record Counted (names : List (Kind × List ℕ)) (G : List Rule) (room k : ℕ) (C : List (List Weights)) : Type 0 where
-  pub counts : AreCountsBelow names k G C
-  pub few : (q : ℕ) → q < k → sum_by node_weight (preorder G q) < 2 ^ 63
-  pub room_is : length C ≡ room
+pub below-none : (names : List (Kind × List ℕ)) (G : List Rule) (C : List (List Weights)) → AreCountsBelow names 0 G C
+below-none names G C = record { each = λ m q i h. absurd (omega arith); small = λ m q h. absurd (omega arith) }
 
-pub counted-none : (names : List (Kind × List ℕ)) (G : List Rule) (C : List (List Weights)) → Counted names G (length C) 0 C
-counted-none names G C = record { counts = record { each = λ m q i h. absurd (omega arith); small = λ m q h. absurd (omega arith) }; few = λ q h. absurd (omega arith); room_is = refl }
-
-module _ (names : List (Kind × List ℕ)) (G : List Rule) (room k : ℕ) (C : List (List Weights)) (c : Counted names G room k C) (h : k < room) (R : List Weights)
+-- the rules before k are counted, and the row of rule k is put in
+module _ (names : List (Kind × List ℕ)) (G : List Rule) (k : ℕ) (C : List (List Weights)) (c : AreCountsBelow names k G C) (h : k < length C) (R : List Weights)
     (row : (m : Measure) (i : ℕ) → weight_by m (get_or R i no_weights) ≡ count (weigh names m) G k i) (few : sum_by node_weight (preorder G k) < 2 ^ 63) where
   small-new : (m : Measure) → sum_by (weigh names m) (preorder G k) < 2 ^ 64
   small-new Nodes = omega arith
@@ -47,34 +42,22 @@ module _ (names : List (Kind × List ℕ)) (G : List Rule) (room k : ℕ) (C : L
   small-new All = omega (arith, all-few G k)
 
   told-new : (m : Measure) (i : ℕ) → told m (set C k R) k i ≡ count (weigh names m) G k i
-  told-new m i = ap (λ (S : List Weights). weight_by m (get_or S i no_weights)) (row-new C k R (omega (arith, c.room_is))) ∙ row m i
+  told-new m i = ap (λ (S : List Weights). weight_by m (get_or S i no_weights)) (row-new C k R h) ∙ row m i
 
   each : (m : Measure) (q i : ℕ) → (q < k) ⊎ (k ≤ q) → q < suc k → told m (set C k R) q i ≡ count (weigh names m) G q i
-  each m q i (inl l) d = ap (λ (S : List Weights). weight_by m (get_or S i no_weights)) (row-set C k q R l) ∙ c.counts.each m q i l
+  each m q i (inl l) d = ap (λ (S : List Weights). weight_by m (get_or S i no_weights)) (row-set C k q R l) ∙ c.each m q i l
   each m q i (inr e) d = let z : q ≡ k = omega arith in subst (λ (j : ℕ). told m (set C k R) j i ≡ count (weigh names m) G j i) (sym z) (told-new m i)
 
   small_at : (m : Measure) (q : ℕ) → (q < k) ⊎ (k ≤ q) → q < suc k → sum_by (weigh names m) (preorder G q) < 2 ^ 64
-  small_at m q (inl l) d = c.counts.small m q l
+  small_at m q (inl l) d = c.small m q l
   small_at m q (inr e) d = let z : q ≡ k = omega arith in subst (λ (j : ℕ). sum_by (weigh names m) (preorder G j) < 2 ^ 64) (sym z) (small-new m)
 
-  few_at : (q : ℕ) → (q < k) ⊎ (k ≤ q) → q < suc k → sum_by node_weight (preorder G q) < 2 ^ 63
-  few_at q (inl l) d = c.few q l
-  few_at q (inr e) d = let z : q ≡ k = omega arith in subst (λ (j : ℕ). sum_by node_weight (preorder G j) < 2 ^ 63) (sym z) few
-
-  pub counted-set : Counted names G room (suc k) (set C k R)
-  counted-set = record {
-    counts = record { each = λ m q i l. each m q i (cases_lt q k) l; small = λ m q l. small_at m q (cases_lt q k) l };
-    few = λ q l. few_at q (cases_lt q k) l;
-    room_is = length-row C k R ∙ c.room_is;
-  }
+  pub below-more : AreCountsBelow names (suc k) G (set C k R)
+  below-more = record { each = λ m q i l. each m q i (cases_lt q k) l; small = λ m q l. small_at m q (cases_lt q k) l }
 
 -- all rules were counted
-pub counted-all : (names : List (Kind × List ℕ)) (G : List Rule) (room k n : ℕ) (C : List (List Weights)) → Counted names G room k C → length G ≤ k → length G ≤ room → n ≡ length G → AreCounts names G (record { rows = C; rules = n })
-counted-all names G room k n C c h f e = record {
-  rules = e;
-  room = omega (arith, f, c.room_is);
-  numbers = record { each = λ m q i l. c.counts.each m q i (omega arith); small = λ m q l. c.counts.small m q (omega arith) };
-}
+pub counted-all : (names : List (Kind × List ℕ)) (G : List Rule) (k : ℕ) (C : CountTable) → k ≡ length G → AreCountsBelow names k G C.rows → C.rules ≡ k → k ≤ length C.rows → AreCounts names G C
+counted-all names G k C e a n f = record { rules = n ∙ e; room = omega (arith, e, f); numbers = subst (λ j. AreCountsBelow names j G C.rows) e a }
 
 -- a rule with too many nodes makes the value have too many
 pub too-many-whole : (G : List Rule) → IsGrammar G → IsSwept G → (q : ℕ) → q < length G → 2 ^ 63 ≤ sum_by node_weight (preorder G q) → 2 ^ 63 ≤ sum_by node_weight (preorder G (length G - 1))

@@ -36,9 +36,15 @@ told_before-is names k G C a m q (suc i) h =
 pub segment-whole : (ls : List Label) → params ls ≡ 0 → segment 0 ls ≡ ls
 segment-whole ls e = ap (segment 0) (sym (append-nil ls)) ∙ segment-first ls [] e ∙ append-nil ls
 
+-- the start has no parameters
+pub closed-value : (G : List Rule) → IsGrammar G → params (listed (value G) []) ≡ 0
+closed-value G g =
+    let r : ℕ = length G - 1 in
+    let h : r < length G = omega (arith, g.some) in
+    omega (arith, params-preorder G r g h, (g.each r h).shaped.start (omega (arith, g.some)))
+
 pub total-told : (names : List (Kind × List ℕ)) (G : List Rule) (C : CountTable) → AreCounts names G C → IsGrammar G → (m : Measure) → told m C.rows (C.rules - 1) 0 ≡ sum_by (weigh names m) (listed (value G) [])
 total-told names G C a g m =
     let r : ℕ = length G - 1 in
     let h : r < length G = omega (arith, g.some) in
-    let z : params (preorder G r) ≡ 0 = omega (arith, params-preorder G r g h, (g.each r h).shaped.start (omega (arith, g.some))) in
-    ap (λ n. told m C.rows (n - 1) 0) a.rules ∙ a.numbers.each m r 0 h ∙ ap (sum_by (weigh names m)) (segment-whole (preorder G r) z)
+    ap (λ n. told m C.rows (n - 1) 0) a.rules ∙ a.numbers.each m r 0 h ∙ ap (sum_by (weigh names m)) (segment-whole (preorder G r) (closed-value G g))

@@ -1,6 +1,7 @@
 // Counting along the tours of the bodies.
-ghost use Rattle.std.specs.Prelude.{◌≡◌, ◌<◌, ◌≤◌, ◌*◌, ◌^◌, ℕ, [], length, get_or, set, sum_by, IfOk, IfSome, IfNone, Err, OnErr, OnOk, IsOk, true, false};
-ghost use Rattle.slt_grammar.specs.Grammars.{IsSwept, value};
+ghost use Rattle.std.specs.Prelude.{◌≡◌, ◌<◌, ◌≤◌, ◌*◌, ◌-◌, ◌^◌, ℕ, List, [], length, get_or, set, sum_by, IfOk, IfSome, IfNone, Err, OnErr, OnOk, IsOk, true, false};
+ghost use Rattle.slt_grammar.specs.Grammars.{IsGrammar, IsSwept, value};
+ghost use Rattle.slt_grammar.specs.declared.rules.Rule.{Rule};
 ghost use Rattle.slt_grammar.specs.Keyed.{IsKeyed, rules_of};
 ghost use Rattle.slt_grammar.specs.Segments.{listed, preorder};
 ghost use Rattle.segment_counts.specs.Changes.{AreCountsBut};
@@ -44,30 +45,31 @@ impl Counts {
     {
         let mut counts = Counts::empty(alloc);
         let rules = grammar.rules();
-        if counts.reserve(rules).is_err() {
+        let Ok(()) = counts.reserve(rules) else {
             return Err(CountError::Memory);
-        }
-        if count_all::<Brand>(grammar, names, &mut counts, Blank::new(1)) {
+        };
+        if count_first::<Brand>(grammar, names, &mut counts, rules, Blank::new(1)) {
             Ok(counts)
         } else {
             Err(CountError::TooMany)
         }
     }
 
-    /// Makes the counts those of another grammar, for whose rules there is room and whose value is within the limit of `new`. It takes
-    /// no memory, and the room stays.
+    /// Makes the counts those of another grammar, for whose rules there is room and whose value is that of the grammar that was counted. So
+    /// the start's row stays. It takes no memory, and the room stays.
     pub fn update(&mut self, grammar: &Grammar, names: &Names)
         requires swept { IsSwept (rules_of grammar.now.rules) }
         requires room { length grammar.now.rules ≤ length self.old.rows }
-        requires few { sum_by node_weight (listed (value (rules_of grammar.now.rules)) []) < 2 ^ 63 }
+        requires same { (G : List Rule) × IsGrammar G × AreCounts names.now G self.old × (value (rules_of grammar.now.rules) ≡ value G) }
         ensures counts { AreCounts names.now (rules_of grammar.now.rules) self.new }
         ensures room { length self.new.rows ≡ length self.old.rows }
     {
-        // The call tells that the rules are a grammar.
-        let _rules = grammar.rules();
-        if !count_all::<Brand>(grammar, names, self, Blank::new(1)) {
+        let start = self.at(self.rules() - 1, 0);
+        let before = grammar.rules() - 1;
+        if !count_first::<Brand>(grammar, names, self, before, Blank::new(1)) {
             unreachable!()
         }
+        self.push(&[start]);
     }
 
     /// Counts the row of one rule from its body, where those of the others are counted. Its value is within the limit of `new`. It takes
@@ -112,21 +114,27 @@ fn recount<L: Ledger>(
     counts.set_row(rule, tallies.row());
 }
 
-// Counts all rules on a counter of its own, and answers false where a value has too many nodes.
-fn count_all<L: Ledger>(grammar: &Grammar, names: &Names, counts: &mut Counts, blank: Blank) -> bool
-    requires room { length grammar.now.rules ≤ length counts.old.rows }
+// Counts the first so many rules on a counter of its own, and answers false where the value of one has too many nodes.
+fn count_first<L: Ledger>(
+    grammar: &Grammar,
+    names: &Names,
+    counts: &mut Counts,
+    rules: usize,
+    blank: Blank,
+) -> bool
+    requires within { rules ≤ length grammar.now.rules }
+    requires room { rules ≤ length counts.old.rows }
     requires name { blank.name ≡ L.name }
     requires parts { blank.parts ≡ L.parts }
     requires some { 0 < blank.parts }
-    ensures counts { result ≡ true → AreCounts names.now (rules_of grammar.now.rules) counts.new }
-    ensures few { result ≡ true → (q : ℕ) → q < length grammar.now.rules → sum_by node_weight (preorder (rules_of grammar.now.rules) q) < 2 ^ 63 }
-    ensures many { result ≡ false → (q : ℕ) × (q < length grammar.now.rules) × (2 ^ 63 ≤ sum_by node_weight (preorder (rules_of grammar.now.rules) q)) }
+    ensures counts { result ≡ true → AreCountsBelow names.now rules (rules_of grammar.now.rules) counts.new.rows }
+    ensures rules { result ≡ true → counts.new.rules ≡ rules }
+    ensures many { result ≡ false → (q : ℕ) × (q < rules) × (2 ^ 63 ≤ sum_by node_weight (preorder (rules_of grammar.now.rules) q)) }
     ensures room { length counts.new.rows ≡ length counts.old.rows }
 {
     let mut steps: Steps<L> = Steps::new(blank);
     // The call tells what is true of every grammar.
     let _limit = grammar.limit();
-    let rules = grammar.rules();
     counts.clear();
     for rule in 0..rules {
         match tally_rule(grammar, names, counts, rule, &mut steps) {

@@ -157,16 +157,23 @@ impl Counts {
         Ok(())
     }
 
-    /// The number of a rule's segment by a measure, and 0 where there is no such segment.
-    pub fn get(&self, measure: Measure, rule: usize, segment: usize) -> u64
-        ensures { result ≡ told measure self.now.rows rule segment }
+    /// What a rule's segment weighs, and nothing where there is no such segment.
+    pub fn at(&self, rule: usize, segment: usize) -> Weights
+        ensures { result ≡ get_or (get_or self.now.rows rule no_row) segment no_weights }
     {
-        let weights = segment_at(
+        segment_at(
             self.segments.as_slice(),
             self.ends.as_slice(),
             rule,
             segment,
-        );
+        )
+    }
+
+    /// The number of a rule's segment by a measure, and 0 where there is no such segment.
+    pub fn get(&self, measure: Measure, rule: usize, segment: usize) -> u64
+        ensures { result ≡ told measure self.now.rows rule segment }
+    {
+        let weights = self.at(rule, segment);
         match measure {
             Measure::Nodes => weights.nodes,
             Measure::Texts => weights.texts,
@@ -192,11 +199,7 @@ impl Counts {
             → weight_by m result ≡ sum_by (weigh names.now m) (part_of G label part) }
     {
         match (label, part) {
-            (Label::Call(rule), _) => Weights {
-                nodes: self.nodes(rule, part),
-                texts: self.texts(rule, part),
-                all: self.all(rule, part),
-            },
+            (Label::Call(rule), _) => self.at(rule, part),
             (Label::Symbol(symbol), 0) => Weights {
                 nodes: 1,
                 texts: texts_of(names, symbol),
@@ -298,10 +301,11 @@ impl Counts {
         ensures counts { (names : List (Kind × List ℕ)) (G H : List Rule) → AreCounts names G self.old → HaveOtherValues (length G - 1) G H → HasMore names (value G) (value H) nodes texts → AreCounts names H self.new }
     {
         let start = self.rules() - 1;
+        let weights = self.at(start, 0);
         let row = [Weights {
-            nodes: self.nodes(start, 0) + nodes,
-            texts: self.texts(start, 0) + texts,
-            all: self.all(start, 0) + 2 * nodes,
+            nodes: weights.nodes + nodes,
+            texts: weights.texts + texts,
+            all: weights.all + 2 * nodes,
         }];
         self.set_row(start, &row);
     }
@@ -317,10 +321,11 @@ impl Counts {
         ensures counts { (names : List (Kind × List ℕ)) (G H : List Rule) → AreCounts names G self.old → HaveOtherValues (length G - 1) G H → HasMore names (value H) (value G) nodes texts → AreCounts names H self.new }
     {
         let start = self.rules() - 1;
+        let weights = self.at(start, 0);
         let row = [Weights {
-            nodes: self.nodes(start, 0) - nodes,
-            texts: self.texts(start, 0) - texts,
-            all: self.all(start, 0) - 2 * nodes,
+            nodes: weights.nodes - nodes,
+            texts: weights.texts - texts,
+            all: weights.all - 2 * nodes,
         }];
         self.set_row(start, &row);
     }

@@ -8,7 +8,7 @@ ghost use Rattle.digram_index.specs.Linked.{IsIndexOf};
 ghost use Rattle.tree_updates.specs.Stores.{HasMarks, IsStoreFor};
 ghost use Rattle.store_core.specs.Repairing.{SettlesTo};
 
-use crate::repairing::Settled;
+use crate::repairing::{Settled, take_over};
 use digram_index::build;
 use local_repair::settle_deeply;
 use slt_grammar::Grammar;
@@ -38,7 +38,8 @@ pub(crate) fn refresh(alloc: Global, store: &mut Store, rank: usize)
     let Ok(settled) = settled_anew(alloc, &store.grammar, rank) else {
         return;
     };
-    take_over(store, settled);
+    // Where there is no memory for its counts, the old one stays.
+    let _ = take_over(store, settled);
 }
 
 // How many rules may come and go until a grammar is worn.
@@ -76,31 +77,4 @@ fn smaller_copy(alloc: Global, grammar: &Grammar, rank: usize) -> Result<Grammar
     }
     let same = grammar.copy()?;
     Ok(same)
-}
-
-// Puts a grammar that stands for the same in the place of a store's. Where there is no memory for its counts, the old one stays.
-fn take_over(store: &mut Store, settled: Settled)
-    requires store { (t : Tree) × IsStoreFor store.old t }
-    requires same { value (rules_of settled.grammar.rules) ≡ value (rules_of store.old.grammar.rules) }
-    requires swept { IsSwept (rules_of settled.grammar.rules) }
-    requires index { IsIndexOf settled.grammar settled.index }
-    requires marks { HasMarks store.old }
-    ensures store { (t : Tree) → IsStoreFor store.old t → IsStoreFor store.new t }
-    ensures names { store.new.names ≡ store.old.names }
-    ensures marks { HasMarks store.new }
-    ensures settled { (rank : ℕ) → IsSettled (rules_of store.old.grammar.rules) rank → IsSettled (rules_of settled.grammar.rules) rank → IsSettled (rules_of store.new.grammar.rules) rank }
-    ensures size { size (rules_of settled.grammar.rules) ≤ size (rules_of store.old.grammar.rules) → size (rules_of store.new.grammar.rules) ≤ size (rules_of store.old.grammar.rules) }
-    ensures grammar { IsGrammar (rules_of store.new.grammar.rules) }
-{
-    let Settled { grammar, index } = settled;
-    // The calls tell what is true of every grammar.
-    let _before = store.grammar.rules();
-    let rules = grammar.rules();
-    let Ok(()) = store.counts.reserve(rules) else {
-        return;
-    };
-    store.counts.update(&grammar, &store.names);
-    store.grammar = grammar;
-    store.index = index;
-    store.marks.clear();
 }

@@ -62,17 +62,33 @@ pub(crate) fn hold(loaded: &mut Loaded, settled: Settled) -> Result<(usize, u64)
     ensures told { IfOk result (λ told. (told.0 ≡ length (rules_of settled.grammar.rules)) × (told.1 ≡ size (rules_of settled.grammar.rules))) }
     ensures refused { OnErr result (held_of loaded.new ≡ held_of loaded.old) }
 {
+    let rules = settled.grammar.rules();
+    let size = settled.grammar.size();
+    take_over(&mut loaded.store, settled)?;
+    loaded.edits = 0;
+    Ok((rules, size))
+}
+
+// Puts a grammar that stands for the same in the place of a store's. It is refused only for want of memory, and what the store holds then stays.
+pub(crate) fn take_over(store: &mut Store, settled: Settled) -> Result<(), AllocError>
+    requires counted { IsCounted store.old }
+    requires same { value (rules_of settled.grammar.rules) ≡ value (rules_of store.old.grammar.rules) }
+    requires swept { IsSwept (rules_of settled.grammar.rules) }
+    requires index { IsIndexOf settled.grammar settled.index }
+    ensures counted { IsCounted store.new }
+    ensures grammar { IsGrammar (rules_of store.new.grammar.rules) }
+    ensures replaced { OnOk result (parts_of store.new ≡ with_rules (parts_of store.old) (rules_of settled.grammar.rules)) }
+    ensures refused { OnErr result (parts_of store.new ≡ parts_of store.old) }
+{
     let Settled { grammar, index } = settled;
-    let rules = grammar.rules();
-    let size = grammar.size();
-    let store = &mut loaded.store;
-    store.counts.reserve(rules)?;
+    // The call tells what is true of every grammar.
+    let _before = store.grammar.rules();
+    store.counts.reserve(grammar.rules())?;
     store.counts.update(&grammar, &store.names);
     store.grammar = grammar;
     store.index = index;
     store.marks.clear();
-    loaded.edits = 0;
-    Ok((rules, size))
+    Ok(())
 }
 
 /// Settles the grammar of a store where it stands, for this rank, at most 8, and a copy of it deeply where it is worn. Where there is no memory for that, the store is one for the same
@@ -130,7 +146,11 @@ pub(crate) struct Settled {
 }
 
 // A copy of the grammar, settled for this rank.
-fn settled_copy(alloc: Global, grammar: &Grammar, rank: usize) -> Result<Settled, AllocError>
+pub(crate) fn settled_copy(
+    alloc: Global,
+    grammar: &Grammar,
+    rank: usize,
+) -> Result<Settled, AllocError>
     requires { rank ≤ 8 }
     ensures settles { IfOk result (λ s. SettlesTo rank (rules_of grammar.now.rules) (rules_of s.grammar.rules)) }
     ensures ranks { IfOk result (λ s. greatest_rank (rules_of s.grammar.rules) ≤ max rank (greatest_rank (rules_of grammar.now.rules))) }

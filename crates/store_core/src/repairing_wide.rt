@@ -15,7 +15,7 @@ ghost use Rattle.store_core.specs.Worlds.{AreLawfulParts, world};
 
 use crate::answer::Answer;
 use crate::loaded::Loaded;
-use crate::repairing::{Settled, hold, settle_whole};
+use crate::repairing::{Settled, hold, settle_whole, settled_copy};
 use border_repair::{Weights, across};
 use slt_grammar::{Digram, Grammar};
 use std::alloc::{AllocError, Global};
@@ -79,35 +79,53 @@ fn settled_across(
 ) -> Result<Settled, AllocError>
     requires rank { rank ≤ 8 }
     requires digram { IfSome digram (λ d. IsCandidate rank d × (0 < occurrences d (rules_of grammar.now.rules))) }
-    requires few { nodes_in (value (rules_of grammar.now.rules)) < 2 ^ 63 }
     ensures settles { IfOk result (λ s. SettlesTo rank (rules_of grammar.now.rules) (rules_of s.grammar.rules)) }
     ensures index { IfOk result (λ s. IsIndexOf s.grammar s.index) }
 {
-    let plain = settle_whole(alloc, grammar.copy()?, rank)?;
+    let mut settled = settled_copy(alloc, grammar, rank)?;
     let Some(digram) = digram else {
-        return Ok(plain);
+        return Ok(settled);
     };
-    let wide = settled_with_rule(alloc, grammar.copy()?, digram, rank)?;
-    if wide.grammar.size() < plain.grammar.size() {
-        Ok(wide)
-    } else {
-        Ok(plain)
-    }
+    improve(alloc, &mut settled, grammar, digram, rank)?;
+    Ok(settled)
 }
 
-// A grammar, settled for this rank after a digram became a rule.
+// Puts a copy of the grammar, settled after a digram became a rule, in the place of one that is settled, where it has fewer nodes.
+fn improve(
+    alloc: Global,
+    settled: &mut Settled,
+    grammar: &Grammar,
+    digram: Digram,
+    rank: usize,
+) -> Result<(), AllocError>
+    requires rank { rank ≤ 8 }
+    requires digram { IsCandidate rank digram × (0 < occurrences digram (rules_of grammar.now.rules)) }
+    requires settles { SettlesTo rank (rules_of grammar.now.rules) (rules_of settled.old.grammar.rules) }
+    requires index { IsIndexOf settled.old.grammar settled.old.index }
+    ensures settles { SettlesTo rank (rules_of grammar.now.rules) (rules_of settled.new.grammar.rules) }
+    ensures index { IsIndexOf settled.new.grammar settled.new.index }
+{
+    let wide = settled_with_rule(alloc, grammar, digram, rank)?;
+    if wide.grammar.size() < settled.grammar.size() {
+        *settled = wide;
+    }
+    Ok(())
+}
+
+// A copy of the grammar, settled for this rank after a digram became a rule.
 fn settled_with_rule(
     alloc: Global,
-    mut grammar: Grammar,
+    grammar: &Grammar,
     digram: Digram,
     rank: usize,
 ) -> Result<Settled, AllocError>
     requires rank { rank ≤ 8 }
-    requires digram { IsCandidate rank digram × (0 < occurrences digram (rules_of grammar.rules)) }
+    requires digram { IsCandidate rank digram × (0 < occurrences digram (rules_of grammar.now.rules)) }
     ensures settled { IfOk result (λ s. IsSettled (rules_of s.grammar.rules) rank) }
-    ensures value { IfOk result (λ s. value (rules_of s.grammar.rules) ≡ value (rules_of grammar.rules)) }
+    ensures value { IfOk result (λ s. value (rules_of s.grammar.rules) ≡ value (rules_of grammar.now.rules)) }
     ensures index { IfOk result (λ s. IsIndexOf s.grammar s.index) }
 {
-    across(alloc, &mut grammar, digram)?;
-    settle_whole(alloc, grammar, rank)
+    let mut copy = grammar.copy()?;
+    across(alloc, &mut copy, digram)?;
+    settle_whole(alloc, copy, rank)
 }

@@ -12,9 +12,6 @@ use Rattle.store_core.proofs.repairing_wide.repair_document_wide.Goals as goal
 pub find_heaviest-requires : goal.find_heaviest-requires
 find_heaviest-requires c = few-nodes (parts_of c.args.loaded.now.store) c.requires.held
 
-pub settled_across-requires-clause-few : goal.settled_across-requires-clause-few
-settled_across-requires-clause-few c = few-nodes (parts_of c.args.loaded.now.store) c.requires.held
-
 pub returns-clause-repairs : goal.returns-clause-repairs
 returns-clause-repairs c = λ told count.
     let store = c.args.loaded.now.store in

@@ -1,0 +1,10 @@
+use Rattle.slt_grammar.specs.Keyed.{rules_of}
+use Rattle.tree_updates.proofs.CopiedStores.{roomy-counts}
+use Rattle.store_core.proofs.repairing.take_over.Goals as goal
+
+pub update-requires-clause-same : goal.update-requires-clause-same
+update-requires-clause-same c =
+    let store = c.args.store.now in
+    let G = rules_of store.grammar.rules in
+    let r = c.reserve.ensures in
+    (G, c.rules-before.ensures.grammar, roomy-counts store.names G store.counts c.reserve.new.self r.rules r.grown r.kept c.requires.counted.counts, c.requires.same)

@@ -1,5 +1,5 @@
 // Counting along the tours of the bodies.
-ghost use Rattle.std.specs.Prelude.{◌≡◌, ◌<◌, ◌≤◌, ◌*◌, ◌-◌, ◌^◌, ℕ, List, [], length, get_or, set, sum_by, IfOk, IfSome, IfNone, Err, OnErr, OnOk, IsOk, true, false};
+ghost use Rattle.std.specs.Prelude.{◌≡◌, ◌<◌, ◌≤◌, ◌*◌, ◌-◌, ◌^◌, ℕ, List, [], length, get_or, set, sum_by, IfOk, IfSome, IfNone, Err, OnOk, true, false};
 ghost use Rattle.slt_grammar.specs.Grammars.{IsGrammar, IsSwept, value};
 ghost use Rattle.slt_grammar.specs.declared.rules.Rule.{Rule};
 ghost use Rattle.slt_grammar.specs.Keyed.{IsKeyed, rules_of};
@@ -15,7 +15,7 @@ use crate::tally::Tallies;
 use plain_tree::Names;
 use read_steps::Steps;
 use slt_grammar::{Grammar, TourWalk};
-use std::alloc::{AllocError, Global};
+use std::alloc::Global;
 use std::marker::Brand;
 use std::sync::ledger::{Blank, Ledger};
 use thiserror::Error;

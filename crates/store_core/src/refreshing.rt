@@ -1,8 +1,8 @@
 // Grammars that edits have worn.
-ghost use Rattle.std.specs.Prelude.{◌≡◌, ◌≤◌, ℕ, IfOk};
+ghost use Rattle.std.specs.Prelude.{◌≡◌, ◌≤◌, IfOk};
 ghost use Rattle.plain_tree.specs.Tree.{Tree};
 ghost use Rattle.slt_grammar.specs.Digrams.{IsSettled};
-ghost use Rattle.slt_grammar.specs.Grammars.{IsGrammar, IsSwept, size, value};
+ghost use Rattle.slt_grammar.specs.Grammars.{IsGrammar, IsSwept, size};
 ghost use Rattle.slt_grammar.specs.Keyed.{rules_of};
 ghost use Rattle.digram_index.specs.Linked.{IsIndexOf};
 ghost use Rattle.tree_updates.specs.Stores.{HasMarks, IsStoreFor};

@@ -1,9 +1,9 @@
 // Settling the grammar that is held across the borders of rules.
-ghost use Rattle.std.specs.Prelude.{◌≡◌, ◌≤◌, ◌<◌, ◌^◌, ℕ, Option, Some, IfOk, IfSome, OnOk, OnErr};
+ghost use Rattle.std.specs.Prelude.{◌≡◌, ◌≤◌, ◌<◌, ◌^◌, ℕ, Option, Some, IfOk, IfSome, OnErr};
 ghost use Rattle.tree_outside.specs.Files.{Told};
 ghost use Rattle.slt_grammar.specs.Automata.{nodes_in};
 ghost use Rattle.slt_grammar.specs.Digrams.{IsSettled};
-ghost use Rattle.slt_grammar.specs.Grammars.{value, IsSwept};
+ghost use Rattle.slt_grammar.specs.Grammars.{value};
 ghost use Rattle.slt_grammar.specs.Keyed.{rules_of};
 ghost use Rattle.digram_index.specs.Linked.{IsIndexOf};
 ghost use Rattle.border_repair.specs.Digrams.{IsCandidate, occurrences};

@@ -1,7 +1,6 @@
-use Rattle.std.proofs.Common.{List, ap, refl, sym, subst}
+use Rattle.std.proofs.Common.{refl, sym, subst}
 use Rattle.slt_grammar.specs.Digrams.{IsSettled}
 use Rattle.slt_grammar.specs.Keyed.{rules_of}
-use Rattle.slt_grammar.specs.declared.rules.Rule.{Rule}
 use Rattle.store_core.specs.Worlds.{Parts}
 use Rattle.store_core.proofs.Encoded.{either-way, store-with}
 use Rattle.store_core.proofs.refreshing.refresh.Goals as goal

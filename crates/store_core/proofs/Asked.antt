@@ -34,7 +34,7 @@ use Rattle.xpath_parser.specs.Trees.{Paths}
 use Rattle.xpath_parser.specs.Queries as queries
 use Rattle.xpath_parser.specs.declared.error.QueryError.{QueryError}
 use Rattle.xpath_parser.specs.declared.error.QueryError.TheVariants as error
-use Rattle.store_core.specs.Acts.{Act, Query, Count, RenameAll, DeleteAll, query_answered, query_asked, query_edited}
+use Rattle.store_core.specs.Acts.{Act, Query, ShowAll, Count, RenameAll, DeleteAll, query_answered, query_asked, query_edited}
 use Rattle.store_core.specs.Errors.{IsNoPlainQuery, IsNoQuery, SaysOfQuery}
 use Rattle.store_core.specs.Machine.{Comes, Queries, Counts, PrintsFirst, Refuses}
 use Rattle.store_core.specs.Printed.{Gathers, hit_line, hit_lines}
@@ -48,6 +48,7 @@ use Rattle.store_core.specs.declared.answer.Answer.TheVariants as ok
 use Rattle.store_core.specs.declared.answer.Refusal.{Refusal}
 use Rattle.store_core.specs.declared.answer.Refusal.TheVariants as no
 use Rattle.store_words.specs.declared.words.Settings.{Settings}
+use Rattle.store_core.proofs.Gathering.{all-printed}
 use Rattle.store_core.proofs.HitLines.{lines-told}
 use Rattle.tree_outside.proofs.Sinks.{GetsFront-first}
 use Rattle.segment_counts.proofs.Coded.{weight-coded}
@@ -59,6 +60,7 @@ some-held (Some h) parts held = refl
 -- where a document is held, a command with a query is ready
 pub asks_ready : (act : Act) (query : List ℕ) (parts : Parts) (old : World) → query_asked act ≡ Some query → parts_in old.state ≡ Some parts → IsReady act old
 asks_ready (Query q) query parts old asked held = record { document = λ needs. some-held old.state parts held; file = λ name same. absurd (cc) }
+asks_ready (ShowAll q) query parts old asked held = record { document = λ needs. some-held old.state parts held; file = λ name same. absurd (cc) }
 asks_ready (Count q) query parts old asked held = record { document = λ needs. some-held old.state parts held; file = λ name same. absurd (cc) }
 asks_ready (RenameAll name q) query parts old asked held = record { document = λ needs. some-held old.state parts held; file = λ name same. absurd (cc) }
 asks_ready (DeleteAll q) query parts old asked held = record { document = λ needs. some-held old.state parts held; file = λ name same. absurd (cc) }
@@ -80,9 +82,10 @@ no-plain-query no.LargeQuery query why = why
 no-plain-query no.Memory query why = tt
 no-plain-query refusal query why = absurd why
 
--- a command that lists or counts the nodes of a query, or edits them, asks for them
+-- a command that lists, prints or counts the nodes of a query, or edits them, asks for them
 pub answered-asked : (act : Act) (query : List ℕ) → query_answered act ≡ Some query → query_asked act ≡ Some query
 answered-asked (Query q) query answered = answered
+answered-asked (ShowAll q) query answered = answered
 answered-asked (Count q) query answered = answered
 answered-asked act query answered = absurd (cc)
 
@@ -177,7 +180,7 @@ queries_told query parts tree hits count w selects lined e = record {
 
 -- the lines of some first nodes were printed
 pub first_told : (query : List ℕ) (parts : Parts) (tree : Tree) (hits first later : List Hit) (text : List ℕ) (w : World) → hits ≡ first ++ later → Selects query w tree (numbers hits) → All (IsLined parts tree) hits
-    → text ≡ hit_lines parts.names first → PrintsFirst query w text
+    → text ≡ hit_lines parts.names first → PrintsFirst selected_line query w text
 first_told query parts tree hits first later text w whole selects lined is =
     let split : numbers hits ≡ numbers first ++ numbers later = ap numbers whole ∙ map-append (λ (h : Hit). h.number) first later in
     let front = (all-split (IsLined parts tree) first later (subst (λ (hs : List Hit). All (IsLined parts tree) hs) whole lined)).0 in
@@ -211,19 +214,17 @@ found-counted query w tree found h listed =
     h.count ∙ (sym (ap (λ (ns : List ℕ). length ns) same) ∙ length-map (listed_hits found.hits) (λ hit. hit.number))
 
 -- all lines were printed
-pub query_done : {E : Type 0} (query : List ℕ) (parts : Parts) (w : World) (hits : List Hit) (before now : Option (List ℕ)) (count : ℕ) (done : Result (Unit {0}) E) (u : Unit {0}) → IsFound query parts w hits → Gathers before now parts.names hits done [] → done ≡ Ok u
+pub query_done : {E : Type 0} (query : List ℕ) (parts : Parts) (w : World) (hits : List Hit) (before now : Option (List ℕ)) (count : ℕ) (done : Result (Unit {0}) E) (u : Unit {0}) → IsFound query parts w hits → Gathers before now (hit_line parts.names) hits done [] → done ≡ Ok u
     → count ≡ length hits → (text : List ℕ) × Gets before now text × Queries query w (text ++ answer_line (ok.Selected count)) w
 query_done query parts w hits before now count done u found g is e =
-    let all : g.later ≡ [] = rw is at g.all in
-    let whole : hits ≡ g.first = g.whole ∙ (ap (λ hs. g.first ++ hs) all ∙ append-nil g.first) in
-    let same : hit_lines parts.names hits ≡ g.got = ap (hit_lines parts.names) whole ∙ (g.lines ∙ append-nil g.got) in
+    let same : hit_lines parts.names hits ≡ g.got = all-printed (hit_line parts.names) hits before now done u is g in
     (g.got, g.gets, subst (λ (text : List ℕ). Queries query w (text ++ answer_line (ok.Selected count)) w) same (queries_told query parts found.tree hits count w found.selects found.lined e))
 
 -- those of some first nodes were
-pub query_stops : {E : Type 0} (query : List ℕ) (parts : Parts) (w : World) (hits : List Hit) (before now : Option (List ℕ)) (done : Result (Unit {0}) E) → IsFound query parts w hits → Gathers before now parts.names hits done []
+pub query_stops : {E : Type 0} (query : List ℕ) (parts : Parts) (w : World) (hits : List Hit) (before now : Option (List ℕ)) (done : Result (Unit {0}) E) → IsFound query parts w hits → Gathers before now (hit_line parts.names) hits done []
     → (text : List ℕ) × Gets before now text × Refuses (Query query) no.Memory w text w
 query_stops query parts w hits before now done found g =
-    let first = first_told query parts found.tree hits g.first g.later g.got w g.whole found.selects found.lined (sym (g.lines ∙ append-nil g.got)) in
+    let first = first_told query parts found.tree hits g.first g.later g.got w g.whole found.selects found.lined (sym (g.bytes ∙ append-nil g.got)) in
     (g.got, g.gets, record { begins = inr (refl, first); cause = asks_ready (Query query) query parts w refl found.held; leaves = inl (same_world w) })
 
 -- the sink failed meanwhile

@@ -33,7 +33,7 @@ use Rattle.tree_updates.specs.declared.store.Store.{Store}
 use Rattle.tree_updates.proofs.AppliedMarks.{marked}
 use Rattle.tree_updates.proofs.GrownNames.{stands-grown}
 use Rattle.tree_updates.proofs.RegrownNames.{counts-grown}
-use Rattle.store_core.specs.Acts.{Act, Load, LoadGrammar, Check, Query, RenameAll, DeleteAll, file_read, query_edited}
+use Rattle.store_core.specs.Acts.{Act, Load, LoadGrammar, Check, Query, ShowAll, RenameAll, DeleteAll, file_read, query_edited}
 use Rattle.store_core.specs.BulkEditing.{BulkEdit, Renaming, Deletion, AreFewFor, AsksBulkEdit, EditsAll, IsBulkEdit, MayEditAll, WantsBulkEdit, edited_all, pairs_brought}
 use Rattle.store_core.specs.BulkStores.{IsEditedAll, IsLeftByAll, IsRefusedForAll, hits_in}
 use Rattle.store_core.specs.Editing.{GivesNoName, IsDue, IsSettledWhereDue, one_more}
@@ -167,6 +167,7 @@ module _ (s : Store) (t : Tree) (i : IsStoreFor s t) (selector : Selection) (H :
 
 begins-none : (act : Act) (refusal : Refusal) (old : World) → IsBulkEdit act → Begins act refusal old []
 begins-none (Query query) refusal old is = absurd is
+begins-none (ShowAll query) refusal old is = absurd is
 begins-none act refusal old is = refl
 
 -- it reads no file

@@ -16,7 +16,7 @@ use Rattle.tree_updates.specs.declared.store.EditError.TheVariants as error
 use Rattle.tree_updates.specs.declared.store.Store.{Store}
 use Rattle.xml_nodes.proofs.Bytes.{spells-fragment}
 use Rattle.xml_profile.proofs.ValueChars.{value_chars}
-use Rattle.store_core.specs.Acts.{Act, Load, LoadGrammar, Check, Query, Rename, Insert, Append, Delete, Value, Attr, Copy, file_read, fragment_given, name_given, node_asked, value_given}
+use Rattle.store_core.specs.Acts.{Act, Load, LoadGrammar, Check, Query, ShowAll, Rename, Insert, Append, Delete, Value, Attr, Copy, file_read, fragment_given, name_given, node_asked, value_given}
 use Rattle.store_core.specs.Editing.{AsksEdit, Edits, IsEdit, IsSettledWhereDue, WantsEdit, one_more}
 use Rattle.store_core.specs.Errors.{AsksBelow, GivesNoEdit, IsNoEdit, IsNoFragment, IsNoName, IsNoValue, refusal_of}
 use Rattle.store_core.specs.Machine.{Begins, Does, Refuses}
@@ -104,6 +104,7 @@ does-edit settings act old new out is edits = absurd is
 
 begins-nothing : (act : Act) (refusal : Refusal) (old : World) → IsEdit act → Begins act refusal old []
 begins-nothing (Query query) refusal old is = absurd is
+begins-nothing (ShowAll query) refusal old is = absurd is
 begins-nothing act refusal old is = refl
 
 -- it reads no file

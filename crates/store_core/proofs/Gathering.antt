@@ -1,11 +1,11 @@
--- Lines that are gathered before they are written.
+-- What is gathered before it is written.
 use Rattle.std.proofs.Common.{◌≡◌, ℕ, List, [], ◌∷◌, ◌++◌, Option, Result, Ok, Err, refl, sym, ap, ◌∙◌, subst, append_assoc, append-nil}
 use Rattle.std.specs.Prelude.{OnOk, codes, decimal}
+use Rattle.std.specs.List.{flat_map}
 use Rattle.std.proofs.lemmas.Grind.{flat_map-append}
 use Rattle.plain_tree.specs.declared.kind.Kind.{Kind}
-use Rattle.rule_runs.specs.declared.listing.Hit.{Hit}
 use Rattle.tree_outside.specs.Outside.{Gets, GetsFront, Writes}
-use Rattle.store_core.specs.Printed.{Gathers, Passes, hit_line, hit_lines}
+use Rattle.store_core.specs.Printed.{Gathers, Passes}
 use Rattle.store_core.specs.Texts.{kind_word, node_line}
 use Rattle.tree_outside.proofs.Sinks.{Gets-append, GetsFront-after, GetsFront-first}
 
@@ -48,51 +48,51 @@ line-of number kind name none digits blank all word front n d b a w f =
     f ∙ (a ∙ (ap (λ zs. zs ++ word) (b ∙ ap (λ zs. zs ++ codes " ") (d ∙ ap (λ zs. zs ++ decimal number) n)) ∙ ap (λ zs. s ++ zs) w)) in
     ap (λ zs. zs ++ (name ++ codes "\n")) same ∙ sym (append_assoc (s ++ kind_word kind) name (codes "\n"))
 
-module _ (names : List (Kind × List ℕ)) (hits : List Hit) where
-  -- the lines of the hits before those that are left were gathered
-  pub record IsGathering (before now : Option (List ℕ)) (left : List Hit) (held : List ℕ) : Type 0 where
-    pub first : List Hit
-    pub whole : hits ≡ first ++ left
+module _ {A : Type 0} (print : A → List ℕ) (items : List A) where
+  -- what is printed of the items before those that are left was gathered
+  pub record IsGathering (before now : Option (List ℕ)) (left : List A) (held : List ℕ) : Type 0 where
+    pub first : List A
+    pub whole : items ≡ first ++ left
     pub got : List ℕ
     pub gets : Gets before now got
-    pub lines : hit_lines names first ≡ got ++ held
+    pub bytes : flat_map print first ≡ got ++ held
 
-  pub gathering-begins : (now : Option (List ℕ)) (held : List ℕ) → held ≡ [] → Gets now now [] → IsGathering now now hits held
-  gathering-begins now held none gets = record { first = []; whole = refl; got = []; gets = gets; lines = sym none }
+  pub gathering-begins : (now : Option (List ℕ)) (held : List ℕ) → held ≡ [] → Gets now now [] → IsGathering now now items held
+  gathering-begins now held none gets = record { first = []; whole = refl; got = []; gets = gets; bytes = sym none }
 
-  lines_next : (got held new more : List ℕ) (first : List Hit) (hit : Hit) → hit_lines names first ≡ got ++ held → held ++ hit_line names hit ≡ more ++ new → hit_lines names (first ++ hit ∷ []) ≡ (got ++ more) ++ new
-  lines_next got held new more first hit lines e =
-      flat_map-append (hit_line names) first (hit ∷ []) ∙ (ap (λ zs. zs ++ hit_lines names (hit ∷ [])) lines ∙ (append_assoc got held (hit_lines names (hit ∷ [])) ∙ (ap (λ zs. got ++ zs) (one ∙ e) ∙ sym (append_assoc got more new))))
+  bytes_next : (got held new more : List ℕ) (first : List A) (item : A) → flat_map print first ≡ got ++ held → held ++ print item ≡ more ++ new → flat_map print (first ++ item ∷ []) ≡ (got ++ more) ++ new
+  bytes_next got held new more first item bytes e =
+      flat_map-append print first (item ∷ []) ∙ (ap (λ zs. zs ++ flat_map print (item ∷ [])) bytes ∙ (append_assoc got held (flat_map print (item ∷ [])) ∙ (ap (λ zs. got ++ zs) (one ∙ e) ∙ sym (append_assoc got more new))))
     where
-      one : held ++ hit_lines names (hit ∷ []) ≡ held ++ hit_line names hit
-      one = ap (λ zs. held ++ zs) (append-nil (hit_line names hit))
+      one : held ++ flat_map print (item ∷ []) ≡ held ++ print item
+      one = ap (λ zs. held ++ zs) (append-nil (print item))
 
-  pub gathering-goes : (before mid now : Option (List ℕ)) (old new : List Hit) (held held' : List ℕ) (hit : Hit) → IsGathering before mid old held → old ≡ hit ∷ new
-      → (more : List ℕ) × Gets mid now more × (held ++ hit_line names hit ≡ more ++ held') → IsGathering before now new held'
-  gathering-goes before mid now old new held held' hit g next p = record {
-    first = g.first ++ hit ∷ [];
-    whole = g.whole ∙ (ap (λ zs. g.first ++ zs) next ∙ sym (append_assoc g.first (hit ∷ []) new));
+  pub gathering-goes : (before mid now : Option (List ℕ)) (old new : List A) (held held' : List ℕ) (item : A) → IsGathering before mid old held → old ≡ item ∷ new
+      → (more : List ℕ) × Gets mid now more × (held ++ print item ≡ more ++ held') → IsGathering before now new held'
+  gathering-goes before mid now old new held held' item g next p = record {
+    first = g.first ++ item ∷ [];
+    whole = g.whole ∙ (ap (λ zs. g.first ++ zs) next ∙ sym (append_assoc g.first (item ∷ []) new));
     got = g.got ++ p.0;
     gets = Gets-append before mid now g.got p.0 g.gets p.1;
-    lines = lines_next g.got held held' p.0 g.first hit g.lines p.2;
+    bytes = bytes_next g.got held held' p.0 g.first item g.bytes p.2;
   }
 
-  -- a sink that failed got a front of all lines
-  pub gathering-fails : (before mid now : Option (List ℕ)) (old new : List Hit) (held : List ℕ) (hit : Hit) → IsGathering before mid old held → old ≡ hit ∷ new
-      → GetsFront mid now (held ++ hit_line names hit) → GetsFront before now (hit_lines names hits)
-  gathering-fails before mid now old new held hit g next front =
-      let line : List ℕ = hit_line names hit in
-      let rest : List ℕ = hit_lines names new in
-      let all : hit_lines names hits ≡ (g.got ++ (held ++ line)) ++ rest =
-      ap (hit_lines names) (g.whole ∙ ap (λ zs. g.first ++ zs) next) ∙ (flat_map-append (hit_line names) g.first (hit ∷ new) ∙ (ap (λ zs. zs ++ (line ++ rest)) g.lines
-      ∙ (sym (append_assoc (g.got ++ held) line rest) ∙ ap (λ zs. zs ++ rest) (append_assoc g.got held line)))) in
-      subst (λ (zs : List ℕ). GetsFront before now zs) (sym all) (GetsFront-first before now (g.got ++ (held ++ line)) rest (GetsFront-after before mid now g.got (held ++ line) g.gets front))
+  -- a sink that failed got a front of all
+  pub gathering-fails : (before mid now : Option (List ℕ)) (old new : List A) (held : List ℕ) (item : A) → IsGathering before mid old held → old ≡ item ∷ new
+      → GetsFront mid now (held ++ print item) → GetsFront before now (flat_map print items)
+  gathering-fails before mid now old new held item g next front =
+      let bytes : List ℕ = print item in
+      let rest : List ℕ = flat_map print new in
+      let all : flat_map print items ≡ (g.got ++ (held ++ bytes)) ++ rest =
+      ap (flat_map print) (g.whole ∙ ap (λ zs. g.first ++ zs) next) ∙ (flat_map-append print g.first (item ∷ new) ∙ (ap (λ zs. zs ++ (bytes ++ rest)) g.bytes
+      ∙ (sym (append_assoc (g.got ++ held) bytes rest) ∙ ap (λ zs. zs ++ rest) (append_assoc g.got held bytes)))) in
+      subst (λ (zs : List ℕ). GetsFront before now zs) (sym all) (GetsFront-first before now (g.got ++ (held ++ bytes)) rest (GetsFront-after before mid now g.got (held ++ bytes) g.gets front))
 
-  pub gathering-ends : {E : Type 0} (before now : Option (List ℕ)) (left : List Hit) (held : List ℕ) (done : Result (Unit {0}) E) → IsGathering before now left held → OnOk done (left ≡ []) → Gathers before now names hits done held
-  gathering-ends before now left held done g all = record { first = g.first; later = left; whole = g.whole; all = all; got = g.got; gets = g.gets; lines = g.lines }
+  pub gathering-ends : {E : Type 0} (before now : Option (List ℕ)) (left : List A) (held : List ℕ) (done : Result (Unit {0}) E) → IsGathering before now left held → OnOk done (left ≡ []) → Gathers before now print items done held
+  gathering-ends before now left held done g all = record { first = g.first; later = left; whole = g.whole; all = all; got = g.got; gets = g.gets; bytes = g.bytes }
 
   -- what is held is written
-  pub gathered : {E : Type 0} (before mid now : Option (List ℕ)) (done : Result (Unit {0}) E) (held : List ℕ) → Gathers before mid names hits done held → Gets mid now held → Gathers before now names hits done []
+  pub gathered : {E : Type 0} (before mid now : Option (List ℕ)) (done : Result (Unit {0}) E) (held : List ℕ) → Gathers before mid print items done held → Gets mid now held → Gathers before now print items done []
   gathered before mid now done held g w = record {
     first = g.first;
     later = g.later;
@@ -100,10 +100,16 @@ module _ (names : List (Kind × List ℕ)) (hits : List Hit) where
     all = g.all;
     got = g.got ++ held;
     gets = Gets-append before mid now g.got held g.gets w;
-    lines = g.lines ∙ sym (append-nil (g.got ++ held));
+    bytes = g.bytes ∙ sym (append-nil (g.got ++ held));
   }
 
-  pub gathered_fails : {E : Type 0} (before mid now : Option (List ℕ)) (done : Result (Unit {0}) E) (held : List ℕ) → Gathers before mid names hits done held → GetsFront mid now held → GetsFront before now (hit_lines names hits)
+  pub gathered_fails : {E : Type 0} (before mid now : Option (List ℕ)) (done : Result (Unit {0}) E) (held : List ℕ) → Gathers before mid print items done held → GetsFront mid now held → GetsFront before now (flat_map print items)
   gathered_fails before mid now done held g front =
-      let all : hit_lines names hits ≡ (g.got ++ held) ++ hit_lines names g.later = ap (hit_lines names) g.whole ∙ (flat_map-append (hit_line names) g.first g.later ∙ ap (λ zs. zs ++ hit_lines names g.later) g.lines) in
-      subst (λ (zs : List ℕ). GetsFront before now zs) (sym all) (GetsFront-first before now (g.got ++ held) (hit_lines names g.later) (GetsFront-after before mid now g.got held g.gets front))
+      let all : flat_map print items ≡ (g.got ++ held) ++ flat_map print g.later = ap (flat_map print) g.whole ∙ (flat_map-append print g.first g.later ∙ ap (λ zs. zs ++ flat_map print g.later) g.bytes) in
+      subst (λ (zs : List ℕ). GetsFront before now zs) (sym all) (GetsFront-first before now (g.got ++ held) (flat_map print g.later) (GetsFront-after before mid now g.got held g.gets front))
+
+  -- where all was printed, that is all bytes
+  pub all-printed : {E : Type 0} (before now : Option (List ℕ)) (done : Result (Unit {0}) E) (u : Unit {0}) → done ≡ Ok u → (g : Gathers before now print items done []) → flat_map print items ≡ g.got
+  all-printed before now done u is g =
+      let all : g.later ≡ [] = rw is at g.all in
+      ap (flat_map print) (g.whole ∙ (ap (λ xs. g.first ++ xs) all ∙ append-nil g.first)) ∙ (g.bytes ∙ append-nil g.got)

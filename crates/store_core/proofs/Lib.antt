@@ -24,3 +24,5 @@ pub mod Gathering
 pub mod Asked
 pub mod Checked
 pub mod RiseRooms
+pub mod ShownAll
+pub mod Held

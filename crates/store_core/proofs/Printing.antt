@@ -1,10 +1,10 @@
 -- What commands print, as steps of the machine.
-use Rattle.std.proofs.Common.{◌≡◌, ◌≤◌, ℕ, List, ◌++◌, Some, Result, refl}
-use Rattle.plain_tree.specs.Tree.{Tree}
+use Rattle.std.proofs.Common.{◌≡◌, ◌≤◌, ◌<◌, ℕ, List, ◌++◌, Some, Result, refl, ap}
+use Rattle.plain_tree.specs.Tree.{Tree, node_count}
 use Rattle.tree_outside.proofs.Beside.{Stays-refl}
 use Rattle.store_core.specs.Acts.{Act}
-use Rattle.store_core.specs.Machine.{Comes, Shows, ShowsNode, Step}
-use Rattle.store_core.specs.Texts.{answer_line, line_of}
+use Rattle.store_core.specs.Machine.{Comes, Shows, Step}
+use Rattle.store_core.specs.Texts.{answer_line, line_of, shown_bytes}
 use Rattle.store_core.specs.Worlds.{AreLawfulParts, IsLawfulState, Parts, PartsStandFor, World, parts_in}
 use Rattle.store_core.specs.declared.answer.Answer.{Answer}
 use Rattle.store_core.specs.declared.answer.Answer.TheVariants as ok
@@ -26,14 +26,13 @@ comes_step settings act old new text outcome before after later comes = record {
 
 -- bytes that show the node, and the line behind them, are what is printed of it
 pub node_shown : (parts : Parts) (number : ℕ) (bytes : List ℕ) (w : World) → AreLawfulParts parts → parts_in w.state ≡ Some parts
-    → ((t : Tree) → PartsStandFor parts t → ShowsNode t number bytes) → Shows number w (bytes ++ answer_line ok.Shown) w
+    → ((t : Tree) → PartsStandFor parts t → (number < node_count t) × (bytes ≡ shown_bytes t number)) → Shows number w (bytes ++ answer_line ok.Shown) w
 node_shown parts number bytes w are held shows = record {
   parts = parts;
   tree = are.tree;
   held = held;
   stand = are.stand;
-  bytes = bytes;
-  shown = shows are.tree are.stand;
+  there = (shows are.tree are.stand).0;
   same = record { state = refl; files = Stays-refl w.files };
-  printed = refl;
+  printed = ap (λ bs. bs ++ answer_line ok.Shown) (shows are.tree are.stand).1;
 }

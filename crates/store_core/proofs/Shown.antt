@@ -1,5 +1,6 @@
 -- A node in document order, and what is written of it.
-use Rattle.std.proofs.Common.{◌≡◌, ℕ, zero, suc, true, false, ◌+◌, ◌-◌, ◌<◌, ◌≤◌, ◌⊎◌, inl, inr, List, [], ◌∷◌, ◌++◌, length, take, drop, Some, None, slice_get, ap, sym, ◌∙◌, subst, append_assoc, append-nil, arith}
+use Rattle.std.proofs.Common.{◌≡◌, ℕ, zero, suc, true, false, ◌+◌, ◌-◌, ◌<◌, ◌≤◌, ◌⊎◌, inl, inr, List, [], ◌∷◌, ◌++◌, length, take, drop, Some, None, slice_get, Option, refl, ap, sym, ◌∙◌, subst, append_assoc, append-nil, arith}
+use Rattle.std.specs.Option.{option_map_or}
 use Rattle.std.proofs.lemmas.Bool.{cases_lt}
 use Rattle.std.proofs.lemmas.List.{drop-append-le, take-append-drop}
 use Rattle.std.proofs.lemmas.Option.{slice_get-get_or, slice_get_within}
@@ -19,9 +20,9 @@ use Rattle.xml_nodes.specs.Machine.{IsShaped, AreShaped}
 use Rattle.xml_nodes.specs.Pen.{calls, calls_text, new_pen}
 use Rattle.xml_nodes.specs.Saved.{spelling}
 use Rattle.xml_nodes.proofs.Written.{calls-write_tree}
-use Rattle.store_core.specs.Machine.{ShowsNode}
 use Rattle.store_core.specs.Saving.{start_place, token_calls, tokens_text}
 use Rattle.store_core.specs.StoreOf.{parts_of}
+use Rattle.store_core.specs.Texts.{shown_bytes}
 use Rattle.store_core.specs.Walking.{walk_text}
 use Rattle.store_core.specs.Worlds.{PartsStandFor}
 use Rattle.tree_updates.specs.declared.store.Store.{Store}
@@ -113,13 +114,21 @@ no_rank t n e = not_below n (node_count t) (λ h.
     let none = rw there at e in
     cc)
 
--- what is written of the node with a number shows it
-pub walk_shows : (s : Store) (w : NodeWalk) (t : Tree) (number : ℕ) → PartsStandFor (parts_of s) t → BeginsAtNode s.grammar.rules number w.cursor → text_rank_at t number ≡ Some w.place.used → ShowsNode t number (walk_text s w)
+-- a number that has texts before it is below the count of nodes
+pub ranked-there : (t : Tree) (n used : ℕ) → text_rank_at t n ≡ Some used → n < node_count t
+ranked-there t n used e = there (slice_get (nodes t) n) refl
+  where
+    there : (found : Option Tree) → slice_get (nodes t) n ≡ found → n < node_count t
+    there None is = let none = rw is at e in cc
+    there (Some s) is = omega (arith, slice_get_within (nodes t) n s is, length-nodes t)
+
+-- what is written of the node with a number is what shows it
+pub walk_shows : (s : Store) (w : NodeWalk) (t : Tree) (number : ℕ) → PartsStandFor (parts_of s) t → BeginsAtNode s.grammar.rules number w.cursor → text_rank_at t number ≡ Some w.place.used → walk_text s w ≡ shown_bytes t number
 walk_shows s w t zero stand begins rank = walk_saves s w t stand begins (no_texts t w.place.used rank)
 walk_shows s w (node Document n v ks) (suc m) stand begins rank =
     let t : Tree = node Document n v ks in
     let found = cursors-tell-subtrees s.grammar.rules s.names t (suc m) w.cursor stand.code begins in
     let kid = in_trees ks m found.0 (document_kids_shaped ks false stand.document.lawful.1 stand.document.lawful.2) found.1 in
     let from = own_texts t (suc m) found.0 w.place.used (record { after = kid.after; there = kid.there; shaped = kid.shaped }) found.1 rank in
-    (found.0, found.1, ap (λ xs. tokens_text s.names xs (tokens_of s.grammar.rules w.cursor)) (ap (drop w.place.used) stand.texts ∙ from.1) ∙ told_text s.names found.0 (tokens_of s.grammar.rules w.cursor) from.0 kid.shaped found.2)
+    (ap (λ xs. tokens_text s.names xs (tokens_of s.grammar.rules w.cursor)) (ap (drop w.place.used) stand.texts ∙ from.1) ∙ told_text s.names found.0 (tokens_of s.grammar.rules w.cursor) from.0 kid.shaped found.2) ∙ sym (ap (λ o. option_map_or (λ r. spelling r ++ 10 ∷ []) o []) found.1)
 walk_shows s w (node _ n v ks) (suc m) stand begins rank = let is = stand.document.is_document in cc

@@ -1,5 +1,6 @@
 -- Where a walk begins, and what is written of a document's.
 use Rattle.std.proofs.Common.{◌≡◌, ℕ, ◌<◌, ◌≤◌, List, [], ◌∷◌, ◌++◌, sum_by, Some, slice_get, ap, sym, ◌∙◌, subst, arith}
+use Rattle.std.specs.Prelude.{vec_capacity}
 use Rattle.std.proofs.lemmas.List.Sums.{sum_by-cons, sum_by-append}
 use Rattle.plain_tree.specs.Numbers.{nodes}
 use Rattle.plain_tree.specs.Tree.{Tree, node, node_count}
@@ -10,13 +11,13 @@ use Rattle.segment_counts.proofs.Coded.{weight-coded}
 use Rattle.slt_grammar.specs.Grammars.{value}
 use Rattle.slt_grammar.specs.Keyed.{KeyedRule, rules_of}
 use Rattle.slt_grammar.specs.Segments.{listed}
-use Rattle.value_cursor.specs.Cursors.{BeginsAtNode, left_of, tokens_of}
+use Rattle.value_cursor.specs.Cursors.{BeginsAtNode, IsInside, left_of, tokens_of}
 use Rattle.value_cursor.specs.Tokens.{Tells, tokens}
 use Rattle.value_cursor.specs.declared.cursor.Cursor.{Cursor}
 use Rattle.value_cursor.proofs.Subtrees.{cursors-tell-subtrees}
 use Rattle.xml_nodes.specs.Saved.{saved_bytes}
 use Rattle.store_core.specs.StoreOf.{parts_of}
-use Rattle.store_core.specs.Walking.{opens, walk_text}
+use Rattle.store_core.specs.Walking.{AreEnough, GoesAnywhere, opens, walk_text}
 use Rattle.store_core.specs.Worlds.{PartsStandFor}
 use Rattle.tree_updates.specs.declared.store.Store.{Store}
 use Rattle.store_core.specs.declared.walking.NodeWalk.{NodeWalk}
@@ -52,6 +53,10 @@ walk-opens G number c b = omega (arith, opens-few c.opened (left_of G c), ap (su
 -- as many nodes begin as the document has at most
 pub walk-few : (s : Store) (number : ℕ) (c : Cursor) (t : Tree) → PartsStandFor (parts_of s) t → BeginsAtNode s.grammar.rules number c → opens (tokens_of s.grammar.rules c) ≤ node_count t
 walk-few s number c t stand b = omega (arith, walk-opens s.grammar.rules number c b, weight-coded s.names t (value (rules_of s.grammar.rules)) stand.code)
+
+-- a walk that has as many places still goes anywhere
+pub stays-anywhere : (s : Store) (v w : NodeWalk) → IsInside s.grammar.rules w.cursor → vec_capacity w.place.outer ≡ vec_capacity v.place.outer → GoesAnywhere s v → GoesAnywhere s w
+stays-anywhere s v w inside same h = record { inside = inside; enough = subst (λ (places : ℕ). (number : ℕ) → AreEnough s number places) (sym same) h.enough }
 
 first_node : (t s : Tree) → slice_get (nodes t) 0 ≡ Some s → t ≡ s
 first_node (node k n v ks) s e = cc

@@ -12,8 +12,10 @@ pub data Act : Type 0 where
   SaveGrammar : (name : List ℕ) → Act
   -- the node with this number is printed
   Show : (number : ℕ) → Act
-  -- the nodes that the query selects are printed, and counted
+  -- the nodes that the query selects are listed, and counted
   Query : (query : List ℕ) → Act
+  -- they are printed with all below them, and counted
+  ShowAll : (query : List ℕ) → Act
   -- they are counted
   Count : (query : List ℕ) → Act
   -- the node with this number gets this name
@@ -93,16 +95,24 @@ node_asked act = None
 -- the query whose nodes the command asks for
 abbrev pub query_asked : Act → Option (List ℕ)
 query_asked (Query query) = Some query
+query_asked (ShowAll query) = Some query
 query_asked (Count query) = Some query
 query_asked (RenameAll name query) = Some query
 query_asked (DeleteAll query) = Some query
 query_asked act = None
 
--- the query whose nodes it lists or counts
+-- the query whose nodes it lists, prints or counts
 abbrev pub query_answered : Act → Option (List ℕ)
 query_answered (Query query) = Some query
+query_answered (ShowAll query) = Some query
 query_answered (Count query) = Some query
 query_answered act = None
+
+-- the query whose nodes it lists or counts, without printing what is below them
+abbrev pub query_listed : Act → Option (List ℕ)
+query_listed (Query query) = Some query
+query_listed (Count query) = Some query
+query_listed act = None
 
 -- the query all of whose nodes it edits
 abbrev pub query_edited : Act → Option (List ℕ)

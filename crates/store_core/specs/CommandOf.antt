@@ -1,5 +1,5 @@
 -- The act that a command of the program asks for.
-use Rattle.store_core.specs.Acts.{Act, Load, LoadGrammar, Save, SaveGrammar, Show, Query, Count, Rename, Insert, Append, Delete, Value, Attr, Copy, RenameAll, DeleteAll, Check, Repair, RepairWide, Generate}
+use Rattle.store_core.specs.Acts.{Act, Load, LoadGrammar, Save, SaveGrammar, Show, Query, ShowAll, Count, Rename, Insert, Append, Delete, Value, Attr, Copy, RenameAll, DeleteAll, Check, Repair, RepairWide, Generate}
 use Rattle.store_core.specs.declared.command.Command.{Command}
 use Rattle.store_core.specs.declared.command.Command.TheVariants as c
 
@@ -10,6 +10,7 @@ act_of (c.Save name) = Save name.now
 act_of (c.SaveGrammar name) = SaveGrammar name.now
 act_of (c.Show number) = Show number
 act_of (c.Query text) = Query text.now
+act_of (c.ShowAll text) = ShowAll text.now
 act_of (c.Count text) = Count text.now
 act_of (c.Rename number name) = Rename number name.now
 act_of (c.Insert number bytes) = Insert number bytes.now

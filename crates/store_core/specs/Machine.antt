@@ -1,12 +1,12 @@
 -- One step of the plain tree machine: what a command prints and what it leaves.
-use Rattle.std.specs.Prelude.{◌≡◌, ◌≤◌, ◌<◌, ◌⊎◌, ◌^◌, ℕ, zero, suc, max, List, [], ◌∷◌, ◌++◌, length, Option, Some, IfSome, Result, MatchResult, slice_get}
+use Rattle.std.specs.Prelude.{◌≡◌, ◌≤◌, ◌<◌, ◌⊎◌, ◌^◌, ℕ, max, List, [], ◌++◌, length, Option, Some, IfSome, Result, MatchResult}
 use Rattle.std.specs.FinMap.{insert}
 use Rattle.std.specs.List.{flat_map}
 use Rattle.tree_outside.specs.Outside.{Gets, GetsFront, Stays}
 use Rattle.plain_tree.specs.Numbers.{nodes}
 use Rattle.plain_tree.specs.Tree.{Tree, node_count}
 use Rattle.xml_nodes.specs.Spelling.{Spells}
-use Rattle.xml_nodes.specs.Saved.{saved_bytes, spelling}
+use Rattle.xml_nodes.specs.Saved.{saved_bytes}
 use Rattle.slt_grammar.specs.declared.rules.Rule.{Rule}
 use Rattle.slt_grammar.specs.Digrams.{IsSettled}
 use Rattle.slt_grammar.specs.Grammars.{size}
@@ -16,7 +16,7 @@ use Rattle.record_generator.specs.Records.{generated}
 use Rattle.grammar_file.specs.FileBytes.{file_bytes}
 use Rattle.content_models.specs.Models.{Model}
 use Rattle.content_models.specs.Wrong.{AreWrong}
-use Rattle.store_core.specs.Acts.{Act, Load, LoadGrammar, Save, SaveGrammar, Show, Query, Count, Rename, Insert, Append, Delete, Value, Attr, Copy, RenameAll, DeleteAll, Check, Repair, RepairWide, Generate}
+use Rattle.store_core.specs.Acts.{Act, Load, LoadGrammar, Save, SaveGrammar, Show, Query, ShowAll, Count, Rename, Insert, Append, Delete, Value, Attr, Copy, RenameAll, DeleteAll, Check, Repair, RepairWide, Generate}
 use Rattle.store_core.specs.BulkEditing.{EditsAll, KeepsNamesOfAll}
 use Rattle.store_core.specs.Editing.{Edits, KeepsNames}
 use Rattle.store_core.specs.GrammarFiles.{IsFileOfDocument}
@@ -24,7 +24,7 @@ use Rattle.store_core.specs.Repairing.{IsGreatestWeight}
 use Rattle.store_core.specs.Schemas.{HoldsSchema, verdict}
 use Rattle.store_core.specs.Selecting.{Selects}
 use Rattle.store_core.specs.Worlds.{Parts, parts_in, unedited, with_rules, PartsStandFor, IsLawfulState, World, Same, HasFile}
-use Rattle.store_core.specs.Texts.{answer_line, line_of, selected_line}
+use Rattle.store_core.specs.Texts.{answer_line, line_of, selected_line, shown_bytes}
 use Rattle.store_core.specs.Refusals.{Cause}
 use Rattle.store_core.specs.declared.answer.Answer.{Answer}
 use Rattle.store_core.specs.declared.answer.Answer.TheVariants as ok
@@ -98,29 +98,31 @@ pub record SavesGrammar (name : List ℕ) (old : World) (out : List ℕ) (new : 
   pub written : WritesFile name (file_bytes parts.names parts.rules parts.texts) old new
   pub printed : out ≡ answer_line (ok.Grammar (length parts.rules) (size parts.rules) (length (file_bytes parts.names parts.rules parts.texts)))
 
--- the bytes show the node with this number: its spelling and a line feed, and of the document its saved bytes
-abbrev pub ShowsNode : Tree → ℕ → List ℕ → Type 0
-ShowsNode tree zero bytes = bytes ≡ saved_bytes tree
-ShowsNode tree (suc n) bytes = (s : Tree) × (slice_get (nodes tree) (suc n) ≡ Some s) × (bytes ≡ spelling s ++ 10 ∷ [])
-
--- the node is printed, and nothing changes
+-- the node, which is there, is printed, and nothing changes
 pub record Shows (number : ℕ) (old : World) (out : List ℕ) (new : World) : Type 0 where
   pub parts : Parts
   pub tree : Tree
   pub held : parts_in old.state ≡ Some parts
   pub stand : PartsStandFor parts tree
-  pub bytes : List ℕ
-  pub shown : ShowsNode tree number bytes
+  pub there : number < node_count tree
   pub same : Same old new
-  pub printed : out ≡ bytes ++ answer_line ok.Shown
+  pub printed : out ≡ shown_bytes tree number ++ answer_line ok.Shown
 
--- the nodes that the query selects are printed in document order, and nothing changes
+-- the nodes that the query selects are listed in document order, and nothing changes
 pub record Queries (query : List ℕ) (old : World) (out : List ℕ) (new : World) : Type 0 where
   pub tree : Tree
   pub answer : List ℕ
   pub selects : Selects query old tree answer
   pub same : Same old new
   pub printed : out ≡ flat_map (selected_line tree) answer ++ answer_line (ok.Selected (length answer))
+
+-- they are printed, each with all below it, in document order, and nothing changes
+pub record ShowsAll (query : List ℕ) (old : World) (out : List ℕ) (new : World) : Type 0 where
+  pub tree : Tree
+  pub answer : List ℕ
+  pub selects : Selects query old tree answer
+  pub same : Same old new
+  pub printed : out ≡ flat_map (shown_bytes tree) answer ++ answer_line (ok.ShownAll (length answer))
 
 -- they are counted, and nothing changes
 pub record Counts (query : List ℕ) (old : World) (out : List ℕ) (new : World) : Type 0 where
@@ -185,6 +187,7 @@ Does settings (Save name) old out new = Saves name old out new
 Does settings (SaveGrammar name) old out new = SavesGrammar name old out new
 Does settings (Show number) old out new = Shows number old out new
 Does settings (Query query) old out new = Queries query old out new
+Does settings (ShowAll query) old out new = ShowsAll query old out new
 Does settings (Count query) old out new = Counts query old out new
 Does settings (Rename number name) old out new = Edits settings (Rename number name) old out new
 Does settings (Insert number bytes) old out new = Edits settings (Insert number bytes) old out new
@@ -200,17 +203,18 @@ Does settings Repair old out new = Repairs settings.rank old out new
 Does settings RepairWide old out new = RepairsWide settings.rank old out new
 Does settings (Generate records) old out new = Generates settings.rank records old out new
 
--- the text is the lines of some first nodes that the query selects
-pub record PrintsFirst (query : List ℕ) (old : World) (text : List ℕ) : Type 0 where
+-- the text is what is printed of some first nodes that the query selects
+pub record PrintsFirst (print : Tree → ℕ → List ℕ) (query : List ℕ) (old : World) (text : List ℕ) : Type 0 where
   pub tree : Tree
   pub first : List ℕ
   pub later : List ℕ
   pub selects : Selects query old tree (first ++ later)
-  pub printed : text ≡ flat_map (selected_line tree) first
+  pub printed : text ≡ flat_map (print tree) first
 
--- what a refused command printed before its line: nothing, or where a query found no memory some of its first lines
+-- what a refused command printed before its line: nothing, or where a query found no memory some of its first nodes
 abbrev pub Begins : Act → Refusal → World → List ℕ → Type 0
-Begins (Query query) refusal old text = (text ≡ []) ⊎ ((refusal ≡ no.Memory) × PrintsFirst query old text)
+Begins (Query query) refusal old text = (text ≡ []) ⊎ ((refusal ≡ no.Memory) × PrintsFirst selected_line query old text)
+Begins (ShowAll query) refusal old text = (text ≡ []) ⊎ ((refusal ≡ no.Memory) × PrintsFirst shown_bytes query old text)
 Begins act refusal old text = text ≡ []
 
 -- what a refused command leaves: all is as before, but that an edit which found no memory may leave names

@@ -1,4 +1,4 @@
--- What a sink gets of the lines of nodes, which are gathered before they are written.
+-- What a sink gets of nodes, of which what is printed is gathered before it is written.
 use Rattle.std.specs.Prelude.{◌≡◌, ℕ, List, [], ◌++◌, Option, Result, MatchResult, OnOk, slice_get}
 use Rattle.std.specs.List.{flat_map}
 use Rattle.std.specs.Option.{option_map_or}
@@ -20,12 +20,12 @@ Passes before now bytes result held = MatchResult result
     (λ _. (got : List ℕ) × Gets before now got × (bytes ≡ got ++ held))
     (λ _. GetsFront before now bytes)
 
--- the lines of some first hits were gathered, and of all where there was memory for that
-pub record Gathers {E : Type 0} (before now : Option (List ℕ)) (names : List (Kind × List ℕ)) (hits : List Hit) (done : Result (Unit {0}) E) (held : List ℕ) : Type 0 where
-  pub first : List Hit
-  pub later : List Hit
-  pub whole : hits ≡ first ++ later
+-- what is printed of some first items was gathered, and of all where there was memory for that
+pub record Gathers {E A : Type 0} (before now : Option (List ℕ)) (print : A → List ℕ) (items : List A) (done : Result (Unit {0}) E) (held : List ℕ) : Type 0 where
+  pub first : List A
+  pub later : List A
+  pub whole : items ≡ first ++ later
   pub all : OnOk done (later ≡ [])
   pub got : List ℕ
   pub gets : Gets before now got
-  pub lines : hit_lines names first ≡ got ++ held
+  pub bytes : flat_map print first ≡ got ++ held

@@ -10,7 +10,7 @@ use Rattle.xpath_parser.specs.Limits.{inside, outside}
 use Rattle.xpath_parser.specs.Meant.{meant_paths}
 use Rattle.xpath_parser.specs.Spelled.{Spells}
 use Rattle.xpath_parser.specs.Trees.{Paths}
-use Rattle.store_core.specs.Acts.{Act, query_answered}
+use Rattle.store_core.specs.Acts.{Act, query_listed}
 use Rattle.store_core.specs.Selecting.{SpellsNoQuery}
 use Rattle.store_core.specs.Worlds.{Parts, State, parts_in}
 
@@ -32,4 +32,4 @@ pub record ReadsFew (query : List ℕ) (parts : Parts) (before now : ℕ) : Type
 
 -- a command that lists or counts the nodes of a query takes so few reads
 abbrev pub AsksFew : Act → State → ℕ → ℕ → Type 0
-AsksFew act state before now = (query : List ℕ) (parts : Parts) → query_answered act ≡ Some query → parts_in state ≡ Some parts → ReadsFew query parts before now
+AsksFew act state before now = (query : List ℕ) (parts : Parts) → query_listed act ≡ Some query → parts_in state ≡ Some parts → ReadsFew query parts before now

@@ -1,10 +1,11 @@
 -- The lines that commands print.
-use Rattle.std.specs.Prelude.{ℕ, List, [], ◌++◌, Result, Ok, Err, slice_get, codes, decimal}
+use Rattle.std.specs.Prelude.{ℕ, zero, suc, List, [], ◌∷◌, ◌++◌, Result, Ok, Err, slice_get, codes, decimal}
 use Rattle.std.specs.Option.{option_map_or}
 use Rattle.plain_tree.specs.declared.kind.Kind.{Kind}
 use Rattle.plain_tree.specs.declared.kind.Kind.TheVariants as kinds
 use Rattle.plain_tree.specs.Numbers.{nodes}
 use Rattle.plain_tree.specs.Tree.{Tree, node}
+use Rattle.xml_nodes.specs.Saved.{saved_bytes, spelling}
 use Rattle.store_core.specs.declared.answer.Answer.{Answer}
 use Rattle.store_core.specs.declared.answer.Answer.TheVariants as ok
 use Rattle.store_core.specs.declared.answer.Refusal.{Refusal}
@@ -22,6 +23,7 @@ answer_line (ok.RepairedWide weight rules size) =
     codes "ok weight " ++ decimal weight ++ codes " rules " ++ decimal rules ++ codes " size " ++ decimal size ++ codes "\n"
 answer_line (ok.Selected n) = codes "ok selected " ++ decimal n ++ codes "\n"
 answer_line ok.Shown = codes "ok shown\n"
+answer_line (ok.ShownAll n) = codes "ok shown " ++ decimal n ++ codes "\n"
 answer_line ok.Valid = codes "ok valid\n"
 answer_line (ok.Invalid count first) = codes "ok invalid " ++ decimal count ++ codes " first " ++ decimal first ++ codes "\n"
 
@@ -70,3 +72,8 @@ pair_of (node kind name value kids) = (kind, name)
 -- the line of the node of a document with this number
 abbrev pub selected_line : Tree → ℕ → List ℕ
 selected_line tree number = option_map_or (λ s. node_line number (pair_of s)) (slice_get (nodes tree) number) []
+
+-- what shows the node of a document with this number: its spelling and a line feed, and of the document itself its saved bytes
+abbrev pub shown_bytes : Tree → ℕ → List ℕ
+shown_bytes tree zero = saved_bytes tree
+shown_bytes tree (suc n) = option_map_or (λ s. spelling s ++ 10 ∷ []) (slice_get (nodes tree) (suc n)) []

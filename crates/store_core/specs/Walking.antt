@@ -1,11 +1,13 @@
 -- A walk over the tokens of a node, with its memory.
 use Rattle.std.specs.Prelude.{◌≡◌, ◌<◌, ◌^◌, ◌+◌, ◌-◌, ℕ, List, [], ◌∷◌, drop, length, reverse, vec_capacity}
 use Rattle.value_cursor.specs.Cursors.{BeginsAtNode, IsInside, tokens_of}
+use Rattle.value_cursor.specs.Finders.{IsSearch}
 use Rattle.value_cursor.specs.declared.cursor.Cursor.{Cursor}
 use Rattle.value_cursor.specs.declared.cursor.Token.{Token}
 use Rattle.value_cursor.specs.declared.cursor.Token.TheVariants.{Open, Close}
 use Rattle.store_core.specs.Saving.{Place, tokens_text}
 use Rattle.tree_updates.specs.declared.store.Store.{Store}
+use Rattle.store_core.specs.declared.showing_all.NodeSearch.{NodeSearch}
 use Rattle.store_core.specs.declared.walking.NodeWalk.{NodeWalk}
 use Rattle.store_core.specs.declared.walking.TokenPlace.{TokenPlace}
 
@@ -43,6 +45,16 @@ pub record IsReady (s : Store) (w : NodeWalk) : Type 0 where
   pub inside : IsInside s.grammar.rules w.cursor
   pub none_open : w.place.outer.items ≡ []
   pub room : HasRoom (vec_capacity w.place.outer) 0 (tokens_of s.grammar.rules w.cursor)
+
+-- the walk may begin anew at any node without memory
+pub record GoesAnywhere (s : Store) (w : NodeWalk) : Type 0 where
+  pub inside : IsInside s.grammar.rules w.cursor
+  pub enough : (number : ℕ) → AreEnough s number (vec_capacity w.place.outer)
+
+-- a search with its walk may go on to any node without memory
+pub record IsSearching (s : Store) (n : NodeSearch) : Type 0 where
+  pub search : IsSearch s.names s.grammar.rules n.finder
+  pub walk : GoesAnywhere s n.walk
 
 -- what is written of the node, with a line feed behind each outermost item
 abbrev pub walk_text : Store → NodeWalk → List ℕ

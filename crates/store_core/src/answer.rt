@@ -46,6 +46,8 @@ pub enum Answer {
     Selected(u64),
     /// The node was printed before the line.
     Shown,
+    /// So many nodes were.
+    ShownAll(u64),
     /// The schema allows all elements.
     Valid,
     /// It does not allow so many, of which the first has this number.
@@ -207,6 +209,7 @@ pub(crate) fn write_line<K: Sink>(
         ) => write_repaired_wide(weight, rules, size, sink),
         Ok(Answer::Selected(count)) => write_count(b"ok selected ", count, sink),
         Ok(Answer::Shown) => sink.write(b"ok shown\n"),
+        Ok(Answer::ShownAll(count)) => write_count(b"ok shown ", count, sink),
         Ok(Answer::Valid) => sink.write(b"ok valid\n"),
         Ok(Answer::Invalid { count, first }) => write_invalid(count, first, sink),
         Err(refusal) => write_refusal(refusal, sink),

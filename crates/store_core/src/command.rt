@@ -23,8 +23,12 @@ pub enum Command<'a> {
     Show {
         number: u64,
     },
-    /// The nodes that the query selects are printed, each on a line, and counted.
+    /// The nodes that the query selects are listed, each on a line, and counted.
     Query {
+        text: &'a [u8],
+    },
+    /// The nodes that the query selects are printed, each as by `Show`, and counted.
+    ShowAll {
         text: &'a [u8],
     },
     /// The nodes that the query selects are counted.

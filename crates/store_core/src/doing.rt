@@ -21,6 +21,7 @@ use crate::saving::{save_document, save_grammar};
 use crate::selecting::select;
 use crate::session::Session;
 use crate::showing::walk_to;
+use crate::showing_all::print_nodes;
 use crate::writing::write_node;
 use read_steps::Steps;
 use std::alloc::{AllocError, Global};
@@ -236,11 +237,11 @@ impl Session {
         let Some(loaded) = &self.loaded else {
             return Ok(Err(Refusal::NoDocument));
         };
-        let walk = match walk_to(alloc, &loaded.store, number, steps) {
+        let mut walk = match walk_to(alloc, &loaded.store, number, steps) {
             Ok(walk) => walk,
             Err(refusal) => return Ok(Err(refusal)),
         };
-        write_node(&loaded.store, walk, sink, steps)?;
+        write_node(&loaded.store, &mut walk, sink, steps)?;
         Ok(Ok(Answer::Shown))
     }
 
@@ -267,6 +268,32 @@ impl Session {
         };
         match print_hits(alloc, &found, &loaded.store.names, sink)? {
             Ok(()) => Ok(Ok(Answer::Selected(found.count()))),
+            Err(AllocError) => Ok(Err(Refusal::Memory)),
+        }
+    }
+
+    // Prints the nodes that the query selects, each with all below it. Where there is no memory for all, some first ones are printed.
+    pub(crate) fn show_all<K: Sink, L: Ledger>(
+        &self,
+        alloc: Global,
+        text: &[u8],
+        sink: &mut K,
+        steps: &mut Steps<L>,
+    ) -> Result<Result<Answer, Refusal>, Failed>
+        ensures lawful { IsLawfulState self.now }
+        ensures prints { (settings : Settings) (told : Option Told) (count : ℕ) → Prints settings (act.ShowAll text.now) (world self.now told count) (K.got sink.old) (K.got sink.new) result (world self.now told count) }
+        ensures kept { Keeps (K.kept sink.old) (K.kept sink.new) }
+        ensures cause { HasCause (K.faults sink.old) (K.faults sink.new) result }
+    {
+        let Some(loaded) = &self.loaded else {
+            return Ok(Err(Refusal::NoDocument));
+        };
+        let found = match select(alloc, text, &loaded.store, true, steps) {
+            Ok(found) => found,
+            Err(refusal) => return Ok(Err(refusal)),
+        };
+        match print_nodes(alloc, &found, &loaded.store, sink, steps)? {
+            Ok(()) => Ok(Ok(Answer::ShownAll(found.count()))),
             Err(AllocError) => Ok(Err(Refusal::Memory)),
         }
     }

@@ -14,6 +14,7 @@ mod command;
 mod doing;
 mod editing;
 mod file_reading;
+mod gathered;
 mod generating;
 mod grammar_loading;
 mod listing;
@@ -27,6 +28,7 @@ mod saving;
 mod selecting;
 mod session;
 mod showing;
+mod showing_all;
 mod walking;
 mod writing;
 

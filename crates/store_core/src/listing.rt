@@ -17,8 +17,8 @@ use value_runs::ValueRun;
 /// How many bytes are gathered before they are written.
 const ROOM: usize = 4096;
 
-// What is gathered.
-type Held = ArrayVec<u8, 4096>;
+/// What is gathered.
+pub(crate) type Held = ArrayVec<u8, 4096>;
 
 /// Prints a line for each node that is hit, with a write for some kilobytes. Where there is no memory for all, it prints the lines of
 /// some first ones.
@@ -29,7 +29,7 @@ pub(crate) fn print_hits<K: Sink>(
     sink: &mut K,
 ) -> Result<Result<(), AllocError>, Failed>
     requires listed { IsSome found.now.hits }
-    ensures prints { MatchResult result (λ done. Gathers (K.got sink.old) (K.got sink.new) names.now (listed_hits found.now.hits) done []) (λ _. GetsFront (K.got sink.old) (K.got sink.new) (hit_lines names.now (listed_hits found.now.hits))) }
+    ensures prints { MatchResult result (λ done. Gathers (K.got sink.old) (K.got sink.new) (hit_line names.now) (listed_hits found.now.hits) done []) (λ _. GetsFront (K.got sink.old) (K.got sink.new) (hit_lines names.now (listed_hits found.now.hits))) }
     ensures kept { Keeps (K.kept sink.old) (K.kept sink.new) }
     ensures cause { HasCause (K.faults sink.old) (K.faults sink.new) result }
 {
@@ -49,7 +49,7 @@ fn gather_hits<K: Sink>(
 ) -> Result<Result<(), AllocError>, Failed>
     requires listed { IsSome found.now.hits }
     requires fresh { held.old.items ≡ [] }
-    ensures gathers { MatchResult result (λ done. Gathers (K.got sink.old) (K.got sink.new) names.now (listed_hits found.now.hits) done held.new.items) (λ _. GetsFront (K.got sink.old) (K.got sink.new) (hit_lines names.now (listed_hits found.now.hits))) }
+    ensures gathers { MatchResult result (λ done. Gathers (K.got sink.old) (K.got sink.new) (hit_line names.now) (listed_hits found.now.hits) done held.new.items) (λ _. GetsFront (K.got sink.old) (K.got sink.new) (hit_lines names.now (listed_hits found.now.hits))) }
     ensures kept { Keeps (K.kept sink.old) (K.kept sink.new) }
     ensures cause { HasCause (K.faults sink.old) (K.faults sink.new) result }
 {
@@ -131,8 +131,8 @@ fn put<K: Sink>(held: &mut Held, bytes: &[u8], sink: &mut K) -> Result<(), Faile
     Ok(())
 }
 
-// Writes what is held, if anything.
-fn write_held<K: Sink>(held: &mut Held, sink: &mut K) -> Result<(), Failed>
+/// Writes what is held, if anything.
+pub(crate) fn write_held<K: Sink>(held: &mut Held, sink: &mut K) -> Result<(), Failed>
     ensures written { Writes (K.got sink.old) (K.got sink.new) result held.old.items }
     ensures empty { OnOk result (held.new.items ≡ []) }
     ensures kept { Keeps (K.kept sink.old) (K.kept sink.new) }

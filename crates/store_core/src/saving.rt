@@ -43,9 +43,9 @@ pub(crate) fn save_document<F: Shelf, L: Ledger>(
     ensures idle { IsIdle (F.told shelf.old) → IsIdle (F.told shelf.new) }
     ensures memory { result ≡ Err Refusal.Memory → F.told shelf.new ≡ F.told shelf.old }
 {
-    let walk = document_walk(alloc, store, steps)?;
+    let mut walk = document_walk(alloc, store, steps)?;
     written(shelf.create(name))?;
-    let count = write_pending(store, walk, shelf, steps)?;
+    let count = write_pending(store, &mut walk, shelf, steps)?;
     written(shelf.seal())?;
     Ok(count)
 }
@@ -75,14 +75,14 @@ fn document_walk<L: Ledger>(
 // Adds the document to the pending file, and answers how many bytes that is.
 fn write_pending<F: Shelf, L: Ledger>(
     store: &Store,
-    walk: NodeWalk,
+    walk: &mut NodeWalk,
     shelf: &mut F,
     steps: &mut Steps<L>,
 ) -> Result<u128, Refusal>
-    requires ready { IsReady store.now walk }
-    requires countable { IsCountable store.now walk }
-    ensures written { OnOk result (Gets (pending_bytes (F.told shelf.old)) (pending_bytes (F.told shelf.new)) (walk_text store.now walk)) }
-    ensures count { IfOk result (λ count. count ≡ length (walk_text store.now walk)) }
+    requires ready { IsReady store.now walk.old }
+    requires countable { IsCountable store.now walk.old }
+    ensures written { OnOk result (Gets (pending_bytes (F.told shelf.old)) (pending_bytes (F.told shelf.new)) (walk_text store.now walk.old)) }
+    ensures count { IfOk result (λ count. count ≡ length (walk_text store.now walk.old)) }
     ensures beside { Stays (beside_of (F.told shelf.old)) (beside_of (F.told shelf.new)) }
     ensures lost { OnErr result (IfSome (pending_bytes (F.told shelf.old)) (λ _. pending_bytes (F.told shelf.new) ≡ None)) }
     ensures later { F.faults shelf.old ≤ F.faults shelf.new }

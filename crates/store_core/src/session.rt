@@ -135,6 +135,7 @@ impl Session {
             Command::SaveGrammar { name } => Ok(self.save_grammar(name, shelf)),
             Command::Show { number } => self.show(alloc, number, sink, steps),
             Command::Query { text } => self.query(alloc, text, sink, steps),
+            Command::ShowAll { text } => self.show_all(alloc, text, sink, steps),
             Command::Count { text } => Ok(self.count(alloc, text, steps)),
             Command::Rename { .. }
             | Command::Insert { .. }

@@ -1,10 +1,10 @@
 // Printing one node.
-ghost use Rattle.std.specs.Prelude.{◌≡◌, Some, IfOk, IfErr};
-ghost use Rattle.plain_tree.specs.Tree.{Tree};
+ghost use Rattle.std.specs.Prelude.{◌≡◌, ◌<◌, Some, IfOk, IfErr};
+ghost use Rattle.plain_tree.specs.Tree.{Tree, node_count};
 ghost use Rattle.store_core.specs.Acts as act;
-ghost use Rattle.store_core.specs.Machine.{ShowsNode};
 ghost use Rattle.store_core.specs.Refusals.{Cause};
 ghost use Rattle.store_core.specs.StoreOf.{IsCounted, parts_of};
+ghost use Rattle.store_core.specs.Texts.{shown_bytes};
 ghost use Rattle.store_core.specs.Walking.{IsReady, walk_text};
 ghost use Rattle.store_core.specs.Worlds.{AreLawfulParts, PartsStandFor, World, parts_in};
 
@@ -27,7 +27,7 @@ pub(crate) fn walk_to<L: Ledger>(
     requires held { AreLawfulParts (parts_of store.now) }
     requires counted { IsCounted store.now }
     ensures ready { IfOk result (IsReady store.now) }
-    ensures shows { IfOk result (λ walk. (t : Tree) → PartsStandFor (parts_of store.now) t → ShowsNode t number (walk_text store.now walk)) }
+    ensures shows { IfOk result (λ walk. (t : Tree) → PartsStandFor (parts_of store.now) t → (number < node_count t) × (walk_text store.now walk ≡ shown_bytes t number)) }
     ensures refused { IfErr result (λ refusal. (old new : World) → parts_in old.state ≡ Some (parts_of store.now) → Cause refusal (act.Show number) old new) }
 {
     let Some(first_text) = text_rank(&store.grammar, &store.counts, &store.names, number, steps)

@@ -1,12 +1,13 @@
 // The walk over the tokens of a node.
-ghost use Rattle.std.specs.Prelude.{◌≡◌, ◌↔◌, ◌<◌, ◌≤◌, ◌^◌, [], sum_by, IsSome, IfSome, IfOk};
+ghost use Rattle.std.specs.Prelude.{◌≡◌, ◌↔◌, ◌<◌, ◌≤◌, ◌^◌, ℕ, [], sum_by, IsSome, IfSome, IfOk};
 ghost use Rattle.slt_grammar.specs.Grammars.{value};
 ghost use Rattle.slt_grammar.specs.Keyed.{rules_of};
 ghost use Rattle.slt_grammar.specs.Segments.{listed};
 ghost use Rattle.segment_counts.specs.Weights.{node_weight};
 ghost use Rattle.value_cursor.specs.Cursors.{BeginsAtNode, IsInside, tokens_of};
-ghost use Rattle.store_core.specs.StoreOf.{IsCounted};
-ghost use Rattle.store_core.specs.Walking.{AreEnough, HasRoom, IsReady, open_after};
+ghost use Rattle.store_core.specs.StoreOf.{IsCounted, parts_of};
+ghost use Rattle.store_core.specs.Walking.{AreEnough, GoesAnywhere, HasRoom, IsReady, open_after};
+ghost use Rattle.store_core.specs.Worlds.{AreLawfulParts};
 
 use read_steps::Steps;
 use slt_grammar::Grammar;
@@ -56,13 +57,31 @@ impl NodeWalk {
         };
         Ok(Some(NodeWalk { cursor, place }))
     }
+
+    /// A walk that may begin anew at any node. It is refused only for want of memory.
+    pub(crate) fn anywhere<L: Ledger>(
+        alloc: Global,
+        store: &Store,
+        steps: &mut Steps<L>,
+    ) -> Result<NodeWalk, AllocError>
+        requires held { AreLawfulParts (parts_of store.now) }
+        requires counted { IsCounted store.now }
+        ensures { IfOk result (GoesAnywhere store.now) }
+    {
+        let places = places_anywhere(alloc, store, steps)?;
+        let outer = Vec::with_capacity(alloc, places)?;
+        let place = TokenPlace { outer, used: 0 };
+        match Cursor::new(alloc, &store.grammar, &store.counts, 0, steps)? {
+            Some(cursor) => Ok(NodeWalk { cursor, place }),
+            // A document has a node.
+            None => unreachable!(),
+        }
+    }
 }
 
 // So many places for open nodes are enough for a walk from the node with this number. It is refused only for want of memory.
 //
-// Where the value has no more nodes than the rules, as where little repeats, each gets a place: that takes fewer bytes than the
-// rules do, and no time. Else there may be far more nodes than memory. For the whole document a pass over the rules then finds how
-// many are open at once, and for another node, which may be small, a walk ahead.
+// Where there may be far more nodes than memory, a walk ahead finds how many are open at once below a node, which may be small.
 fn enough_places<L: Ledger>(
     alloc: Global,
     store: &Store,
@@ -72,20 +91,35 @@ fn enough_places<L: Ledger>(
     requires { IsCounted store.now }
     ensures { IfOk result (AreEnough store.now number) }
 {
-    // The call tells what is true of every grammar.
-    let _limit = store.grammar.limit();
-    let nodes = store.counts.total();
-    if nodes <= store.grammar.size() {
-        return Ok(nodes as usize);
-    }
-    if number == 0 {
-        return most_open(alloc, &store.grammar, &store.counts, steps);
+    if number == 0 || store.counts.total() <= store.grammar.size() {
+        return places_anywhere(alloc, store, steps);
     }
     match Cursor::new(alloc, &store.grammar, &store.counts, number, steps)? {
         Some(ahead) => Ok(deepest(&store.grammar, ahead, steps)),
         // No node has this number.
         None => Ok(0),
     }
+}
+
+// So many places for open nodes are enough for a walk from any node. It is refused only for want of memory.
+//
+// Where the value has no more nodes than the rules, as where little repeats, each gets a place: that takes fewer bytes than the
+// rules do, and no time. Else a pass over the rules finds how many are open at once.
+fn places_anywhere<L: Ledger>(
+    alloc: Global,
+    store: &Store,
+    steps: &mut Steps<L>,
+) -> Result<usize, AllocError>
+    requires { IsCounted store.now }
+    ensures { IfOk result (λ places. (number : ℕ) → AreEnough store.now number places) }
+{
+    // The call tells what is true of every grammar.
+    let _limit = store.grammar.limit();
+    let nodes = store.counts.total();
+    if nodes <= store.grammar.size() {
+        return Ok(nodes as usize);
+    }
+    most_open(alloc, &store.grammar, &store.counts, steps)
 }
 
 // How many nodes are open at once at most while the cursor gives its tokens.

@@ -6,7 +6,8 @@ ghost use Rattle.xml_nodes.specs.Pen.{new_pen};
 ghost use Rattle.xml_nodes.specs.WriterOf.{pen_of, sink_of, sink_name, count_of};
 ghost use Rattle.store_core.specs.Making.{Makes, seen};
 ghost use Rattle.store_core.specs.Saving.{begin_call, end_call, texts_past, call_at, place_after, element_count, depth_of};
-ghost use Rattle.store_core.specs.Walking.{HasPlace, IsCountable, IsReady, open_after, place_of, walk_text};
+ghost use Rattle.value_cursor.specs.Cursors.{IsInside};
+ghost use Rattle.store_core.specs.Walking.{GoesAnywhere, HasPlace, IsCountable, IsReady, open_after, place_of, walk_text};
 
 use crate::answer::Refusal;
 use crate::walking::{NodeWalk, TokenPlace};
@@ -20,16 +21,17 @@ use xml_nodes::Writer;
 
 /// Writes the node of a walk with a line feed behind it, and of the document each of its kids so. It answers how many bytes that
 /// is; the count ends at 2^128 - 1. `Failed` comes only where the sink failed, and the sink then got a front of them. It takes no
-/// memory.
+/// memory, and a walk that could begin anew anywhere still can.
 pub(crate) fn write_node<K: Sink, L: Ledger>(
     store: &Store,
-    walk: NodeWalk,
+    walk: &mut NodeWalk,
     sink: &mut K,
     steps: &mut Steps<L>,
 ) -> Result<u128, Failed>
-    requires { IsReady store.now walk }
-    ensures written { MatchResult result (λ _. Gets (K.got sink.old) (K.got sink.new) (walk_text store.now walk)) (λ _. GetsFront (K.got sink.old) (K.got sink.new) (walk_text store.now walk)) }
-    ensures count { IsCountable store.now walk → IfOk result (λ count. count ≡ length (walk_text store.now walk)) }
+    requires { IsReady store.now walk.old }
+    ensures written { MatchResult result (λ _. Gets (K.got sink.old) (K.got sink.new) (walk_text store.now walk.old)) (λ _. GetsFront (K.got sink.old) (K.got sink.new) (walk_text store.now walk.old)) }
+    ensures count { IsCountable store.now walk.old → IfOk result (λ count. count ≡ length (walk_text store.now walk.old)) }
+    ensures anywhere { GoesAnywhere store.now walk.old → GoesAnywhere store.now walk.new }
     ensures kept { Keeps (K.kept sink.old) (K.kept sink.new) }
     ensures lost { Loses (K.kept sink.old) (K.got sink.old) (K.got sink.new) result }
     ensures later { K.faults sink.old ≤ K.faults sink.new }
@@ -47,27 +49,25 @@ pub(crate) fn write_node<K: Sink, L: Ledger>(
 // Makes the calls of the writer for the tokens of a walk.
 fn write_tokens<K: Sink, L: Ledger>(
     store: &Store,
-    walk: NodeWalk,
+    walk: &mut NodeWalk,
     writer: &mut Writer<'_, K>,
     steps: &mut Steps<L>,
 ) -> Result<(), Failed>
-    requires ready { IsReady store.now walk }
+    requires ready { IsReady store.now walk.old }
     requires pen { pen_of writer.old ≡ new_pen true }
     requires count { count_of writer.old ≡ 0 }
-    ensures written { Writes (K.got (sink_of writer.old)) (K.got (sink_of writer.new)) result (walk_text store.now walk) }
-    ensures count { IsCountable store.now walk → OnOk result (count_of writer.new ≡ length (walk_text store.now walk)) }
+    ensures written { Writes (K.got (sink_of writer.old)) (K.got (sink_of writer.new)) result (walk_text store.now walk.old) }
+    ensures count { IsCountable store.now walk.old → OnOk result (count_of writer.new ≡ length (walk_text store.now walk.old)) }
+    ensures inside { IsInside store.now.grammar.rules walk.new.cursor }
+    ensures room { vec_capacity walk.new.place.outer ≡ vec_capacity walk.old.place.outer }
     ensures kept { Keeps (K.kept (sink_of writer.old)) (K.kept (sink_of writer.new)) }
     ensures lost { Loses (K.kept (sink_of writer.old)) (K.got (sink_of writer.old)) (K.got (sink_of writer.new)) result }
     ensures later { K.faults (sink_of writer.old) ≤ K.faults (sink_of writer.new) }
     ensures failed { OnErr result (Rose (K.faults (sink_of writer.old)) (K.faults (sink_of writer.new))) }
     ensures same_reference { sink_name writer.new ≡ sink_name writer.old }
 {
-    let NodeWalk {
-        mut cursor,
-        mut place,
-    } = walk;
-    while let Some(token) = cursor.next(&store.grammar, steps) {
-        write_token(writer, store, &mut place, token)?;
+    while let Some(token) = walk.cursor.next(&store.grammar, steps) {
+        write_token(writer, store, &mut walk.place, token)?;
     }
     Ok(())
 }

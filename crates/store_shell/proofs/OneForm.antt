@@ -4,7 +4,7 @@ use Rattle.std.proofs.Common.{sym, ap, ◌∙◌, subst, arith}
 use Rattle.std.specs.List.{ends_with}
 use Rattle.std.proofs.lemmas.Fmt.{decimal_injective}
 use Rattle.std.proofs.lemmas.List.{length-take}
-use Rattle.store_core.specs.Acts.{Act, Load, LoadGrammar, Save, SaveGrammar, Show, Query, Count, Rename, Insert, Append, Delete, Value, Attr, Copy, RenameAll, DeleteAll, Check, Repair, RepairWide, Generate}
+use Rattle.store_core.specs.Acts.{Act, Load, LoadGrammar, Save, SaveGrammar, Show, Query, ShowAll, Count, Rename, Insert, Append, Delete, Value, Attr, Copy, RenameAll, DeleteAll, Check, Repair, RepairWide, Generate}
 use Rattle.store_shell.specs.Forms.{Form, Empty, Long, Bad, Quit, Command, IsForm, Asks, Gives, without_return}
 use Rattle.store_shell.specs.Lines.{longest}
 use Rattle.store_shell.specs.Arguments.{IsNamed}
@@ -46,6 +46,8 @@ gives-one given (Show m) (Show n) e h k = ap Show (decimal_injective m n h.0 k.0
 gives-one given (Show m) b e h k = absurd cc
 gives-one given (Query x) (Query y) e h k = ap Query (sym h.1 ∙ k.1)
 gives-one given (Query x) b e h k = absurd cc
+gives-one given (ShowAll x) (ShowAll y) e h k = ap ShowAll (sym h.1 ∙ k.1)
+gives-one given (ShowAll x) b e h k = absurd cc
 gives-one given (Count x) (Count y) e h k = ap Count (sym h.1 ∙ k.1)
 gives-one given (Count x) b e h k = absurd cc
 gives-one given (Rename m x) (Rename n y) e h k = both Rename m n x y (numbered-one given m n x y h.1 k.1)
@@ -104,14 +106,14 @@ lone-worded RepairWide none = (λ e. absurd cc, λ e. absurd cc)
 lone-worded a none = absurd cc
 
 -- words whose first is no verb, and that are no word of a command without arguments, ask for nothing
-asks_none : (words : List ℕ) (a : Act) → Asks words a → (verb_of a ≡ None → words ≡ lone_word a → ⊥) → place_of words ≡ 18 → ⊥
+asks_none : (words : List ℕ) (a : Act) → Asks words a → (verb_of a ≡ None → words ≡ lone_word a → ⊥) → place_of words ≡ 19 → ⊥
 asks_none words a h other e = by (verb_of a) refl h
   where
     by : (v : Option Verb) → verb_of a ≡ v → AsksBy words (lone_word a) (λ given. Gives given a) v → ⊥
     by None none h = other none h
     by (Some v) some (rest, is, gives) =
-        let at : place v ≡ 18 = sym (place-told v words rest is) ∙ e in
-        let wrong : false ≡ true = ap (λ p. nat_lt p 18) (sym at) ∙ place-low v in
+        let at : place v ≡ 19 = sym (place-told v words rest is) ∙ e in
+        let wrong : false ≡ true = ap (λ p. nat_lt p 19) (sym at) ∙ place-low v in
         absurd (cc)
 
 asks_some : (words : List ℕ) (a : Act) → Asks words a → words ≡ [] → ⊥

@@ -11,7 +11,7 @@ abbrev verbs : List Verb
 verbs =
     verb.Load ∷ verb.LoadGrammar ∷ verb.Save ∷ verb.SaveGrammar ∷ verb.Show ∷ verb.Query ∷ verb.Count
     ∷ verb.Rename ∷ verb.Insert ∷ verb.Append ∷ verb.Delete ∷ verb.Value ∷ verb.Attr ∷ verb.Copy
-    ∷ verb.RenameAll ∷ verb.DeleteAll ∷ verb.Generate ∷ verb.Check ∷ []
+    ∷ verb.RenameAll ∷ verb.DeleteAll ∷ verb.Generate ∷ verb.Check ∷ verb.ShowAll ∷ []
 
 abbrev pub place : Verb → ℕ
 place verb.Load = 0
@@ -32,12 +32,13 @@ place verb.RenameAll = 14
 place verb.DeleteAll = 15
 place verb.Generate = 16
 place verb.Check = 17
+place verb.ShowAll = 18
 
 abbrev pub all_words : List (List ℕ)
 all_words =
     codes "load" ∷ codes "load-grammar" ∷ codes "save" ∷ codes "save-grammar" ∷ codes "show" ∷ codes "query" ∷ codes "count"
     ∷ codes "rename" ∷ codes "insert" ∷ codes "append" ∷ codes "delete" ∷ codes "value" ∷ codes "attr" ∷ codes "copy"
-    ∷ codes "rename-all" ∷ codes "delete-all" ∷ codes "generate" ∷ codes "check" ∷ []
+    ∷ codes "rename-all" ∷ codes "delete-all" ∷ codes "generate" ∷ codes "check" ∷ codes "show-all" ∷ []
 
 -- words up to the first space, and what stands behind it
 abbrev pub first_word : List ℕ → List ℕ
@@ -61,7 +62,7 @@ record Told (v : Verb) (rest : List ℕ) : Type 0 where
   place_is : place_of (verb_word v ++ 32 ∷ rest) ≡ place v
   rest_is : behind_word (verb_word v ++ 32 ∷ rest) ≡ rest
   verb_is : get_or verbs (place v) verb.Load ≡ v
-  low : nat_lt (place v) 18 ≡ true
+  low : nat_lt (place v) 19 ≡ true
 
 told : (v : Verb) (rest : List ℕ) → Told v rest
 told verb.Load rest = record { place_is = refl; rest_is = refl; verb_is = refl; low = refl }
@@ -82,11 +83,12 @@ told verb.RenameAll rest = record { place_is = refl; rest_is = refl; verb_is = r
 told verb.DeleteAll rest = record { place_is = refl; rest_is = refl; verb_is = refl; low = refl }
 told verb.Generate rest = record { place_is = refl; rest_is = refl; verb_is = refl; low = refl }
 told verb.Check rest = record { place_is = refl; rest_is = refl; verb_is = refl; low = refl }
+told verb.ShowAll rest = record { place_is = refl; rest_is = refl; verb_is = refl; low = refl }
 
 pub place-told : (v : Verb) (words rest : List ℕ) → words ≡ verb_word v ++ 32 ∷ rest → place_of words ≡ place v
 place-told v words rest e = ap place_of e ∙ (told v rest).place_is
 
-pub place-low : (v : Verb) → nat_lt (place v) 18 ≡ true
+pub place-low : (v : Verb) → nat_lt (place v) 19 ≡ true
 place-low v = (told v []).low
 
 -- words begin with one verb

@@ -2,7 +2,7 @@
 use Rattle.std.specs.Prelude.{◌≡◌, ◌≢◌, ◌<◌, ◌≤◌, ◌-◌, ◌^◌, ℕ, List, [], ◌∷◌, ◌++◌, All, length, take, if◌then◌else◌, codes, decimal, nat_eq, MatchOption}
 use Rattle.std.specs.List.{ends_with}
 use Rattle.std.specs.Str.{IsUtf8}
-use Rattle.store_core.specs.Acts.{Act, Load, LoadGrammar, Save, SaveGrammar, Show, Query, Count, Rename, Insert, Append, Delete, Value, Attr, Copy, RenameAll, DeleteAll, Check, Repair, RepairWide, Generate}
+use Rattle.store_core.specs.Acts.{Act, Load, LoadGrammar, Save, SaveGrammar, Show, Query, ShowAll, Count, Rename, Insert, Append, Delete, Value, Attr, Copy, RenameAll, DeleteAll, Check, Repair, RepairWide, Generate}
 use Rattle.store_shell.specs.Arguments.{IsNamed, IsNumbered}
 use Rattle.store_shell.specs.Lines.{longest}
 use Rattle.store_shell.specs.Verbs.{lone_word, verb_of, verb_word}
@@ -33,6 +33,7 @@ Gives arguments (Save name) = IsFileName name × (arguments ≡ name)
 Gives arguments (SaveGrammar name) = IsFileName name × (arguments ≡ name)
 Gives arguments (Show number) = (number < 2 ^ 64) × (arguments ≡ decimal number)
 Gives arguments (Query query) = (query ≢ []) × (arguments ≡ query)
+Gives arguments (ShowAll query) = (query ≢ []) × (arguments ≡ query)
 Gives arguments (Count query) = (query ≢ []) × (arguments ≡ query)
 Gives arguments (Rename number name) = (name ≢ []) × IsNumbered arguments number name
 Gives arguments (Insert number bytes) = (bytes ≢ []) × IsNumbered arguments number bytes

@@ -1,6 +1,6 @@
 -- The words that begin commands with arguments, and what ends them.
 use Rattle.std.specs.Prelude.{◌==◌, ℕ, Bool, List, [], Option, Some, None, codes}
-use Rattle.store_core.specs.Acts.{Act, Load, LoadGrammar, Save, SaveGrammar, Show, Query, Count, Rename, Insert, Append, Delete, Value, Attr, Copy, RenameAll, DeleteAll, Check, Repair, RepairWide, Generate}
+use Rattle.store_core.specs.Acts.{Act, Load, LoadGrammar, Save, SaveGrammar, Show, Query, ShowAll, Count, Rename, Insert, Append, Delete, Value, Attr, Copy, RenameAll, DeleteAll, Check, Repair, RepairWide, Generate}
 use Rattle.store_shell.specs.declared.verb.Verb.{Verb}
 use Rattle.store_shell.specs.declared.verb.Verb.TheVariants as verb
 
@@ -11,6 +11,7 @@ verb_word verb.Save = codes "save"
 verb_word verb.SaveGrammar = codes "save-grammar"
 verb_word verb.Show = codes "show"
 verb_word verb.Query = codes "query"
+verb_word verb.ShowAll = codes "show-all"
 verb_word verb.Count = codes "count"
 verb_word verb.Rename = codes "rename"
 verb_word verb.Insert = codes "insert"
@@ -32,6 +33,7 @@ verb_of (Save name) = Some verb.Save
 verb_of (SaveGrammar name) = Some verb.SaveGrammar
 verb_of (Show number) = Some verb.Show
 verb_of (Query query) = Some verb.Query
+verb_of (ShowAll query) = Some verb.ShowAll
 verb_of (Count query) = Some verb.Count
 verb_of (Rename number name) = Some verb.Rename
 verb_of (Insert number bytes) = Some verb.Insert

@@ -88,6 +88,7 @@ fn command_of(verb: Verb, arguments: &[u8]) -> Option<Command<'_>>
         Verb::SaveGrammar => file_name(arguments).map(|name| Command::SaveGrammar { name }),
         Verb::Show => number(arguments).map(|number| Command::Show { number }),
         Verb::Query => query(arguments).map(|text| Command::Query { text }),
+        Verb::ShowAll => query(arguments).map(|text| Command::ShowAll { text }),
         Verb::Count => query(arguments).map(|text| Command::Count { text }),
         Verb::Rename => some_numbered(arguments).map(|(number, name)| Command::Rename {
             number,

@@ -27,6 +27,9 @@ const EQUAL_TEXTS: &[u8] =
 
 const EQUAL: &[u8] = b"<a><b>x</b><b>x</b><c>y</c></a>\n";
 
+// An element below one of its name, an attribute, a text and a comment.
+const NESTED: &[u8] = b"<a><b k=\"v\"><b/>t</b><!--c--></a>";
+
 // What is done where no call fails. In pieces of seven bytes each read of the source takes one whole line.
 const WHOLE: Row<'static> = Row {
     script: "load a\nsave c\nfly",
@@ -44,7 +47,7 @@ const LISTED: Row<'static> = Row {
     ..DONE
 };
 
-static ROWS: [Row<'static>; 34] = [
+static ROWS: [Row<'static>; 38] = [
     Row {
         pieces: &[1, 2, 7, 1000],
         ..WHOLE
@@ -57,8 +60,8 @@ static ROWS: [Row<'static>; 34] = [
     },
     // Nothing is loaded, and what can't be read loads nothing.
     Row {
-        script: "save c\nsave-grammar c\nshow 0\nquery a[\ncount /\ncount /*[1]\nrepair\n",
-        printed: "! no-document\n! no-document\n! no-document\n! no-document\n! no-document\n! no-document\n! no-document\n",
+        script: "save c\nsave-grammar c\nshow 0\nquery a[\nshow-all a[\ncount /\ncount /*[1]\nrepair\n",
+        printed: "! no-document\n! no-document\n! no-document\n! no-document\n! no-document\n! no-document\n! no-document\n! no-document\n",
         ..DONE
     },
     Row {
@@ -91,6 +94,19 @@ static ROWS: [Row<'static>; 34] = [
     Row {
         script: "load a\nquit\r\nfly\n",
         printed: "ok nodes 4\n",
+        ..DONE
+    },
+    // Each node that a query selects is printed with all below it, also one below another.
+    Row {
+        document: NESTED,
+        script: "load a\nquery //b\nshow-all //b\nshow-all //@k\nshow-all //text()\nshow-all //comment()\n",
+        printed: "ok nodes 7\n2 element b\n4 element b\nok selected 2\n<b k=\"v\"><b/>t</b>\n<b/>\nok shown 2\nk=\"v\"\nok shown 1\nt\nok shown 1\n<!--c-->\nok shown 1\n",
+        ..DONE
+    },
+    Row {
+        document: NESTED,
+        script: "load a\nshow-all /\nshow-all / | //@k\nshow-all //c\nshow-all a[\nshow-all\n",
+        printed: "ok nodes 7\n<a><b k=\"v\"><b/>t</b><!--c--></a>\nok shown 1\n<a><b k=\"v\"><b/>t</b><!--c--></a>\nk=\"v\"\nok shown 2\nok shown 0\n! bad-query\n! bad-command\n",
         ..DONE
     },
     // Grammar files. What is read of version 1 is written in version 2.
@@ -208,6 +224,19 @@ static ROWS: [Row<'static>; 34] = [
     Row {
         faults: &[Fault::Write(2)],
         printed: "ok nodes 4\n2 element b\n3 element b\n",
+        ..LISTED
+    },
+    // So it is with the nodes themselves.
+    Row {
+        script: "load a\nshow-all //b\nsave c\n",
+        faults: &[Fault::Write(1)],
+        printed: "ok nodes 4\n",
+        ..LISTED
+    },
+    Row {
+        script: "load a\nshow-all //b\nsave c\n",
+        faults: &[Fault::Write(2)],
+        printed: "ok nodes 4\n<b/>\n<b/>\n",
         ..LISTED
     },
     // Where none is selected there is no write for the lines.

@@ -4,7 +4,7 @@ use Rattle.preorder_address.specs.TreeNumbers.{text_rank_at}
 use Rattle.slt_grammar.specs.Grammars.{value}
 use Rattle.slt_grammar.specs.Keyed.{rules_of}
 use Rattle.store_core.specs.StoreOf.{parts_of}
-use Rattle.store_core.proofs.Shown.{no_rank, not_below, walk_shows}
+use Rattle.store_core.proofs.Shown.{no_rank, not_below, ranked-there, walk_shows}
 use Rattle.segment_counts.proofs.Coded.{weight-coded}
 use Rattle.store_core.proofs.showing.walk_to.Goals as goal
 
@@ -19,7 +19,7 @@ returns-in-Some-2-clause-shows g c = λ t stand.
     let begins = rw c.in-Some-2.is at c.in_ok-walk.ensures.begins in
     let used = rw c.in-Some-2.is at c.in_ok-walk.ensures.texts in
     let rank : text_rank_at t c.args.number ≡ Some c.in-Some-2.walk.place.used = rw used (sym (c.text_rank.ensures.rank t stand.code) ∙ c.in-Some.is) in
-    walk_shows c.args.store.now c.in-Some-2.walk t c.args.number stand begins rank
+    (ranked-there t c.args.number c.in-Some-2.walk.place.used rank, walk_shows c.args.store.now c.in-Some-2.walk t c.args.number stand begins rank)
 
 pub returns-in-None-clause-refused : goal.returns-in-None-clause-refused
 returns-in-None-clause-refused g c = λ old new same.

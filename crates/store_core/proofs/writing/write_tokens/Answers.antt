@@ -13,12 +13,13 @@ use Rattle.store_core.proofs.writing.write_tokens.Goals as goal
 pub loop-token-init : goal.loop-token-init
 loop-token-init g c =
     let ready = c.requires.ready in
-    let all = tokens_of c.args.store.now.grammar.rules c.args.walk.cursor in
-    let none : vec_len c.args.walk.place.outer ≡ 0 = omega (arith, c.args.walk.place.outer.ok.0, ap length ready.none_open) in
+    let all = tokens_of c.args.store.now.grammar.rules c.args.walk.now.cursor in
+    let none : vec_len c.args.walk.now.place.outer ≡ 0 = omega (arith, c.args.walk.now.place.outer.ok.0, ap length ready.none_open) in
     record {
-      writing = rw (ready.none_open, c.requires.pen, c.requires.count) (writing_begins c.args.store.now.names (drop c.args.walk.place.used c.args.store.now.texts.texts) all (g.K.Sink.got (sink_of c.args.writer.now)));
+      writing = rw (ready.none_open, c.requires.pen, c.requires.count) (writing_begins c.args.store.now.names (drop c.args.walk.now.place.used c.args.store.now.texts.texts) all (g.K.Sink.got (sink_of c.args.writer.now)));
       inside = ready.inside;
-      room = subst (λ (n : ℕ). HasRoom (vec_capacity c.args.walk.place.outer) n all) (sym none) ready.room;
+      room = subst (λ (n : ℕ). HasRoom (vec_capacity c.args.walk.now.place.outer) n all) (sym none) ready.room;
+      capacity = refl;
       same = refl;
       kept = Keeps-refl (g.K.Sink.kept (sink_of c.args.writer.now));
       later = omega arith;
@@ -33,6 +34,7 @@ loop-token-preserved g c =
           (writing_goes _ _ _ _ _ _ c.in-Some.token _ _ _ _ _ _ c.loop-token.invariant.writing c.in-Some.ensures.token e.makes.written e.makes.short e.place (sym (ap (λ (p : Pen). p.depth) e.makes.pen) ∙ e.depth));
       inside = c.in-Some.ensures.inside;
       room = rw (e.room, e.opened) room.1;
+      capacity = e.room ∙ c.loop-token.invariant.capacity;
       same = e.makes.same_reference ∙ c.loop-token.invariant.same;
       kept = Keeps-trans _ _ _ c.loop-token.invariant.kept e.makes.kept;
       later = omega (arith, e.makes.later);
@@ -50,7 +52,7 @@ returns-clause-written g c = (writing_ends _ _ _ _ _ _ _ _ _ c.loop-token.invari
 pub returns-clause-count : goal.returns-clause-count
 returns-clause-count g c = λ countable.
     (writing_ends _ _ _ _ _ _ _ _ _ c.loop-token.invariant.writing c.in_default.ensures.token.0).1
-    (omega (arith, countable.nodes, countable.texts, length-drop c.args.walk.place.used c.args.store.now.texts.texts))
+    (omega (arith, countable.nodes, countable.texts, length-drop c.args.walk.now.place.used c.args.store.now.texts.texts))
 
 pub returns-in_err-write_token-clause-written : goal.returns-in_err-write_token-clause-written
 returns-in_err-write_token-clause-written g c =

@@ -199,19 +199,28 @@ pub record IsFound (query : List ℕ) (parts : Parts) (w : World) (hits : List H
   pub selects : Selects query w tree (numbers hits)
   pub lined : All (IsLined parts tree) hits
 
+-- nodes that were found and listed are those that the query selects
+listed-are : (query : List ℕ) (w : World) (tree : Tree) (found : Fallen) → (h : HasSelected query w tree found) → IsSome found.hits → numbers (listed_hits found.hits) ≡ h.answer
+listed-are query w tree found h listed = of-listed found.hits (λ hs. numbers hs ≡ h.answer) listed h.listed
+
+pub listed-selected : (query : List ℕ) (w : World) (tree : Tree) (found : Fallen) → HasSelected query w tree found → IsSome found.hits → Selects query w tree (numbers (listed_hits found.hits))
+listed-selected query w tree found h listed = subst (Selects query w tree) (sym (listed-are query w tree found h listed)) h.selects
+
+-- and they were counted
+pub listed-counted : (query : List ℕ) (w : World) (tree : Tree) (found : Fallen) → HasSelected query w tree found → IsSome found.hits → found.count ≡ length (numbers (listed_hits found.hits))
+listed-counted query w tree found h listed = h.count ∙ ap (λ (ns : List ℕ). length ns) (sym (listed-are query w tree found h listed))
+
 pub found-listed : (query : List ℕ) (parts : Parts) (w : World) (tree : Tree) (found : Fallen) → parts_in w.state ≡ Some parts → HasSelected query w tree found → IsSome found.hits → IfSome found.hits (All (IsLined parts tree)) → IsFound query parts w (listed_hits found.hits)
 found-listed query parts w tree found held h listed lined = record {
   tree = tree;
   held = held;
-  selects = subst (Selects query w tree) (sym (of-listed found.hits (λ hs. numbers hs ≡ h.answer) listed h.listed)) h.selects;
+  selects = listed-selected query w tree found h listed;
   lined = of-listed found.hits (All (IsLined parts tree)) listed lined;
 }
 
 -- so many were listed
 pub found-counted : (query : List ℕ) (w : World) (tree : Tree) (found : Fallen) → HasSelected query w tree found → IsSome found.hits → found.count ≡ length (listed_hits found.hits)
-found-counted query w tree found h listed =
-    let same : numbers (listed_hits found.hits) ≡ h.answer = of-listed found.hits (λ hs. numbers hs ≡ h.answer) listed h.listed in
-    h.count ∙ (sym (ap (λ (ns : List ℕ). length ns) same) ∙ length-map (listed_hits found.hits) (λ hit. hit.number))
+found-counted query w tree found h listed = listed-counted query w tree found h listed ∙ length-map (listed_hits found.hits) (λ hit. hit.number)
 
 -- all lines were printed
 pub query_done : {E : Type 0} (query : List ℕ) (parts : Parts) (w : World) (hits : List Hit) (before now : Option (List ℕ)) (count : ℕ) (done : Result (Unit {0}) E) (u : Unit {0}) → IsFound query parts w hits → Gathers before now (hit_line parts.names) hits done [] → done ≡ Ok u

@@ -1,5 +1,5 @@
 -- What is held of nodes before it is written.
-use Rattle.std.proofs.Common.{◌≡◌, ℕ, suc, zero, List, [], ◌∷◌, ◌++◌, Bool, true, false, length, take, Some, None, Result, Ok, Err, slice_get, refl, sym, ap, ◌∙◌, subst, append-nil, arith, ◌≤◌}
+use Rattle.std.proofs.Common.{◌≡◌, ℕ, suc, zero, List, [], ◌∷◌, ◌++◌, Bool, true, false, length, take, Some, Result, Ok, Err, sym, ap, ◌∙◌, append-nil, arith, ◌≤◌}
 use Rattle.std.specs.Prelude.{MatchResult, is_err, is_ok, if◌then◌else◌}
 use Rattle.std.specs.Option.{option_map_or}
 use Rattle.std.proofs.Math.Seq.{take-append_seam}

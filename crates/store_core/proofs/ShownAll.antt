@@ -1,17 +1,13 @@
 -- What it comes to that all nodes of a query are printed.
 use Rattle.std.proofs.Common.{◌≡◌, inl, inr, ℕ, List, [], ◌++◌, length, Option, Some, Result, Ok, refl, sym, ap, ◌∙◌, subst, append-nil}
 use Rattle.std.specs.List.{flat_map}
-use Rattle.std.specs.Prelude.{IsSome}
 use Rattle.plain_tree.specs.Tree.{Tree}
-use Rattle.rule_runs.specs.Answering.{Fallen, listed_hits}
-use Rattle.rule_runs.specs.Hits.{numbers}
-use Rattle.rule_runs.proofs.Answering.{of-listed}
 use Rattle.tree_outside.specs.Outside.{Gets, GetsFront}
 use Rattle.tree_outside.proofs.Sinks.{GetsFront-first}
 use Rattle.store_core.specs.Acts.{ShowAll}
 use Rattle.store_core.specs.Machine.{Comes, Refuses, ShowsAll}
 use Rattle.store_core.specs.Printed.{Gathers}
-use Rattle.store_core.specs.Selecting.{HasSelected, Selects}
+use Rattle.store_core.specs.Selecting.{Selects}
 use Rattle.store_core.specs.Texts.{answer_line, line_of, shown_bytes}
 use Rattle.store_core.specs.Worlds.{Parts, World, parts_in}
 use Rattle.store_core.specs.declared.answer.Answer.{Answer}
@@ -21,16 +17,6 @@ use Rattle.store_core.specs.declared.answer.Refusal.TheVariants as no
 use Rattle.store_words.specs.declared.words.Settings.{Settings}
 use Rattle.store_core.proofs.Asked.{asks_ready, same_world}
 use Rattle.store_core.proofs.Gathering.{all-printed}
-
--- nodes that were found and listed are those that the query selects, and were counted
-listed-are : (query : List ℕ) (w : World) (tree : Tree) (found : Fallen) → (h : HasSelected query w tree found) → IsSome found.hits → numbers (listed_hits found.hits) ≡ h.answer
-listed-are query w tree found h listed = of-listed found.hits (λ hs. numbers hs ≡ h.answer) listed h.listed
-
-pub listed-selected : (query : List ℕ) (w : World) (tree : Tree) (found : Fallen) → HasSelected query w tree found → IsSome found.hits → Selects query w tree (numbers (listed_hits found.hits))
-listed-selected query w tree found h listed = subst (Selects query w tree) (sym (listed-are query w tree found h listed)) h.selects
-
-pub listed-counted : (query : List ℕ) (w : World) (tree : Tree) (found : Fallen) → HasSelected query w tree found → IsSome found.hits → found.count ≡ length (numbers (listed_hits found.hits))
-listed-counted query w tree found h listed = h.count ∙ ap (λ (ns : List ℕ). length ns) (sym (listed-are query w tree found h listed))
 
 module _ (query : List ℕ) (tree : Tree) (w : World) (ns : List ℕ) where
   -- all were printed

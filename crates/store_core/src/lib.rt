@@ -2,8 +2,9 @@
 //!
 //! `Session::command` is one step of the plain tree machine (specs/Machine): what the command prints, what it leaves of the
 //! session and of the shelf's files. The document is held as a `Store`. Commands are in `loading`, `generating`, `saving`,
-//! `showing`, `repairing`, `repairing_wide`, `selecting`, `checking`, `editing` and `bulk_editing`; files are read whole in `file_reading`, the walk over a
-//! node is in `walking`, and what it writes in `writing`; `refreshing` is for grammars that edits have worn;
+//! `showing`, `showing_all`, `repairing`, `repairing_wide`, `selecting`, `checking`, `editing` and `bulk_editing`; files are read whole in
+//! `file_reading`, the walk over a node is in `walking`, what it writes in `writing`, and what is held back of that until it is some
+//! kilobytes in `gathered`; `refreshing` is for grammars that edits have worn;
 //! `doing` is what a session does for each; `answer` has the lines that commands print.
 #![tactic(auto)]
 

@@ -1,4 +1,4 @@
-use Rattle.std.proofs.Common.{◌≡◌, ap, subst, arith}
+use Rattle.std.proofs.Common.{ap, subst, arith}
 use Rattle.std.proofs.lemmas.Result.{err_from_is_err_and}
 use Rattle.tree_outside.proofs.Beside.{Keeps-refl, Keeps-trans}
 use Rattle.tree_outside.proofs.Sinks.{Gets-nil}

@@ -7,8 +7,8 @@ use Rattle.tree_outside.proofs.Sinks.{Gets-nil}
 use Rattle.store_core.specs.Acts.{ShowAll}
 use Rattle.store_core.specs.StoreOf.{held_of, parts_of}
 use Rattle.store_core.specs.Worlds.{AreLawfulParts, parts_in, world}
-use Rattle.store_core.proofs.Asked.{same_world}
-use Rattle.store_core.proofs.ShownAll.{all_shown, listed-counted, listed-selected, showing_fails, some_shown}
+use Rattle.store_core.proofs.Asked.{listed-counted, listed-selected, same_world}
+use Rattle.store_core.proofs.ShownAll.{all_shown, showing_fails, some_shown}
 use Rattle.store_core.proofs.session.Session.show_all.Goals as goal
 
 pub print_nodes-requires-clause-listed : goal.print_nodes-requires-clause-listed

@@ -1,4 +1,4 @@
-use Rattle.std.proofs.Common.{◌≡◌, Some, sym, ◌∙◌, arith}
+use Rattle.std.proofs.Common.{◌≡◌, Some, sym, arith}
 use Rattle.plain_tree.specs.Tree.{node_count}
 use Rattle.preorder_address.specs.TreeNumbers.{text_rank_at}
 use Rattle.segment_counts.proofs.Coded.{weight-coded}

@@ -1,4 +1,4 @@
-use Rattle.std.proofs.Common.{◌≡◌, ap, sym, ◌∙◌}
+use Rattle.std.proofs.Common.{◌≡◌, sym, ◌∙◌}
 use Rattle.store_core.specs.Texts.{shown_bytes}
 use Rattle.store_core.specs.Walking.{walk_text}
 use Rattle.store_core.proofs.Held.{held-again, held-more}

@@ -1,4 +1,4 @@
-use Rattle.std.proofs.Common.{◌≡◌, [], ◌++◌, List, ℕ, subst, sym, ◌∙◌}
+use Rattle.std.proofs.Common.{[], List, ℕ, subst, ◌∙◌}
 use Rattle.std.proofs.lemmas.Result.{err_from_is_err_and}
 use Rattle.tree_outside.specs.Outside.{Gets, GetsFront}
 use Rattle.tree_outside.proofs.Sinks.{Gets-nil, GetsFront-first}

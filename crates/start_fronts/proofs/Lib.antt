@@ -1,0 +1,12 @@
+pub mod Flags
+pub mod Listings
+pub mod Exchanges
+pub mod Copies
+pub mod Staying
+pub mod Keeping
+pub mod Inlined
+pub mod Folded
+pub mod Alike
+pub mod Composing
+pub mod Renumbered
+pub mod Called

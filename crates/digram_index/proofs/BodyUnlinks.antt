@@ -10,6 +10,7 @@ use Rattle.slt_grammar.specs.KeyedEdits.{Stands}
 use Rattle.digram_index.specs.Calls.{IsOfBody}
 use Rattle.digram_index.specs.Copies.{IsCopyLinked, Meets, width}
 use Rattle.digram_index.specs.Linked.{IsIndexOf, Linked, cell}
+use Rattle.digram_index.specs.Marking.{MarksFewer}
 use Rattle.digram_index.specs.Partly.{IsPartOf}
 use Rattle.digram_index.proofs.CopyLinks.{IsAhead, ahead-here, ahead-next, ahead-still, at-next, copy-next, copy-stands, is-copy, length-drop-item}
 use Rattle.digram_index.proofs.NearInlines.{each-args}
@@ -23,7 +24,7 @@ whole-part g I A = record {
   only = λ k x. let w = A.only k x in (w.0, (record { rule = w.1.0; place = w.1.1.0; there = w.1.1.1.0 }, w.1.1.1.1));
 }
 
-take-drop : (k : ℕ) (xs : List Node) → take k xs ++ drop k xs ≡ xs
+pub take-drop : (k : ℕ) (xs : List Node) → take k xs ++ drop k xs ≡ xs
 take-drop zero xs = refl
 take-drop (suc k) [] = refl
 take-drop (suc k) (x ∷ xs) = ap (λ (zs : List Node). x ∷ zs) (take-drop k xs)
@@ -43,6 +44,7 @@ pub record IsUnlinking (g : Keyed) (at : Key) (q : ℕ) (old new : Linked) (mode
   pub rules : new.rules ≡ old.rules
   pub room : length new.cells ≡ length old.cells
   pub spares : (new.spare_links ≡ old.spare_links) × (new.spare_rules ≡ old.spare_rules)
+  pub marks : MarksFewer old new
 
 module _ (g : Keyed) (K : IsKeyed g) (at : Key) (q : ℕ) (old : Linked) (A : IsIndexOf g old) where
   walk-begins : (arguments : List Key) (B : BeginsWith g.rules at q arguments) (root : Key) → key_at g.rules q 0 ≡ Some root → IsCopyLinked g old q (Some root) (Some at)
@@ -79,6 +81,7 @@ module _ (g : Keyed) (K : IsKeyed g) (at : Key) (q : ℕ) (old : Linked) (A : Is
     rules = refl;
     room = refl;
     spares = (refl, refl);
+    marks = λ n m. m;
   }
 
   module _ (now : Linked) (node : Key) (copy : Option Key) (arguments : List Key) (B : BeginsWith g.rules at q arguments) (begin then : ℕ)

@@ -14,6 +14,7 @@ use Rattle.slt_grammar.specs.declared.rules.Rule.{Rule}
 use Rattle.slt_grammar.proofs.KeyedLemmas.{key_at-within}
 use Rattle.digram_index.specs.Digrams.{Cell, OccursAt, parent_node, occurrence_under, occurrence_below, occurrence_at}
 use Rattle.digram_index.specs.Linked.{Linked, IsIndexOf, cell}
+use Rattle.digram_index.specs.Marking.{MarksFewer}
 use Rattle.digram_index.specs.Building.{IsNumberIn, IsLinking, IsUnlinking, IsBuilt, IsBuilding, IsClearing, nodes_before}
 use Rattle.digram_index.proofs.ParentLemmas.{keyed_place, parent-key}
 use Rattle.digram_index.proofs.LevelLemmas.{same_some}
@@ -70,9 +71,9 @@ pub linking-next : (g : Keyed) → IsKeyed g → (r : ℕ) (key : Key) (next : O
     → ((s q : ℕ) → key_at g.rules s q ≡ Some key → key_at g.rules s (q + 1) ≡ next)
     → ((s q : ℕ) → key_at g.rules s q ≡ Some key → cell new key.number ≡ occurrence_at g.rules s q)
     → ((k : ℕ) → k ≢ key.number → cell new k ≡ cell now k) → new.rules ≡ now.rules
-    → length now.cells ≤ length new.cells → (now.spare_links ≤ new.spare_links + 1) × (new.spare_rules ≡ now.spare_rules)
+    → length now.cells ≤ length new.cells → (now.spare_links ≤ new.spare_links + 1) × (new.spare_rules ≡ now.spare_rules) → MarksFewer now new
     → IsLinking g.rules r next old new begin (n + 1)
-linking-next g K r key next old now new begin n L N linked others rules room spare = record {
+linking-next g K r key next old now new begin n L N linked others rules room spare fewer = record {
   place = L.place + 1;
   there = N r L.place L.there;
   done = λ p m h k. done' p m h k (cases_eq p L.place);
@@ -85,6 +86,7 @@ linking-next g K r key next old now new begin n L N linked others rules room spa
   spare_rules = spare.1 ∙ L.spare_rules;
   within = let w = key_at-within g.rules r L.place key L.there in omega (arith, w.1);
   counted = let c = L.counted in omega arith;
+  marks = λ k m. L.marks k (fewer k m);
 }
   where
     done' : (p : ℕ) (m : Key) → p < L.place + 1 → key_at g.rules r p ≡ Some m → (p ≡ L.place) ⊎ (p ≡ L.place → ⊥) → cell new m.number ≡ occurrence_at g.rules r p
@@ -115,9 +117,9 @@ linking-ends G r old new begin n L p key k = L.done p key (before (cases_lt p L.
 pub unlinking-next : (g : Keyed) → IsKeyed g → (r : ℕ) (key : Key) (next : Option Key) (old now new : Linked) (begin n : ℕ) → IsUnlinking g.rules r (Some key) old now begin n
     → ((s q : ℕ) → key_at g.rules s q ≡ Some key → key_at g.rules s (q + 1) ≡ next)
     → cell new key.number ≡ None → ((k : ℕ) → k ≢ key.number → cell new k ≡ cell now k) → new.rules ≡ now.rules
-    → length new.cells ≡ length now.cells → (new.spare_links ≡ now.spare_links) × (new.spare_rules ≡ now.spare_rules)
+    → length new.cells ≡ length now.cells → (new.spare_links ≡ now.spare_links) × (new.spare_rules ≡ now.spare_rules) → MarksFewer now new
     → IsUnlinking g.rules r next old new begin (n + 1)
-unlinking-next g K r key next old now new begin n L N free others rules room spares = record {
+unlinking-next g K r key next old now new begin n L N free others rules room spares fewer = record {
   place = L.place + 1;
   there = N r L.place L.there;
   done = λ p m h k. done' p m h k (cases_eq p L.place);
@@ -127,6 +129,7 @@ unlinking-next g K r key next old now new begin n L N free others rules room spa
   spare = spares.0 ∙ L.spare;
   spare_rules = spares.1 ∙ L.spare_rules;
   counted = let c = L.counted in omega arith;
+  marks = λ k m. L.marks k (fewer k m);
 }
   where
     done' : (p : ℕ) (m : Key) → p < L.place + 1 → key_at g.rules r p ≡ Some m → (p ≡ L.place) ⊎ (p ≡ L.place → ⊥) → cell new m.number ≡ None
@@ -186,6 +189,7 @@ building-begins G I rules free = record {
   built = record { rules = rules; done = λ r p key h k. absurd (omega arith); todo = λ r p key h k. free key.number; only = λ k x. absurd (x (free k)) };
   room = omega arith;
   spare = omega arith;
+  marks = λ k m. m;
 }
 
 before-next : (G : List KeyedRule) (r : ℕ) → nodes_before G (suc r) ≡ nodes_before G r + length (nodes_at G r)
@@ -210,9 +214,9 @@ pub building-next : (g : Keyed) → IsKeyed g → (r : ℕ) (old now new : Linke
     → ((p : ℕ) (key : Key) → key_at g.rules r p ≡ Some key → cell new key.number ≡ occurrence_at g.rules r p)
     → ((k : ℕ) → (IsNumberIn g.rules r k → ⊥) → cell new k ≡ cell now k)
     → ((k : ℕ) → cell new k ≢ None → (cell now k ≢ None) ⊎ IsNumberIn g.rules r k) → new.rules ≡ now.rules
-    → length now.cells ≤ length new.cells → now.spare_links ≤ new.spare_links + length (nodes_at g.rules r)
+    → length now.cells ≤ length new.cells → now.spare_links ≤ new.spare_links + length (nodes_at g.rules r) → MarksFewer now new
     → IsBuilding g.rules (r + 1) old new
-building-next g K r old now new B linked others only rules room spare = record {
+building-next g K r old now new B linked others only rules room spare fewer = record {
   built = built-next g K r now new B.built linked others only rules;
   room = let z = B.room in omega arith;
   spare =
@@ -220,6 +224,7 @@ building-next g K r old now new B linked others only rules room spare = record {
       let w = before-next g.rules r in
       let e : nodes_before g.rules (r + 1) ≡ nodes_before g.rules (suc r) = ap (nodes_before g.rules) (let y : r + 1 ≡ suc r = omega arith in y) in
       omega arith;
+  marks = λ k m. B.marks k (fewer k m);
 }
 
 pub clearing-begins : (g : Keyed) (I : Linked) → IsIndexOf g I → IsClearing g.rules 0 I I
@@ -229,15 +234,16 @@ clearing-begins g I A = record {
   room = refl;
   spare = refl;
   spare_rules = refl;
+  marks = λ k m. m;
 }
 
 -- one rule fewer
 pub clearing-next : (G : List KeyedRule) (r : ℕ) (old now new : Linked) → IsClearing G r old now
     → ((p : ℕ) (key : Key) → key_at G r p ≡ Some key → cell new key.number ≡ None)
     → ((k : ℕ) → (IsNumberIn G r k → ⊥) → cell new k ≡ cell now k) → new.rules ≡ now.rules
-    → length new.cells ≡ length now.cells → (new.spare_links ≡ now.spare_links) × (new.spare_rules ≡ now.spare_rules)
+    → length new.cells ≡ length now.cells → (new.spare_links ≡ now.spare_links) × (new.spare_rules ≡ now.spare_rules) → MarksFewer now new
     → IsClearing G (r + 1) old new
-clearing-next G r old now new C free others rules room spares = record {
+clearing-next G r old now new C free others rules room spares fewer = record {
   left = λ k x.
       let far = λ (n : IsNumberIn G r k). x (gone k n) in
       let w = C.left k (λ z. x (others k far ∙ z)) in
@@ -246,6 +252,7 @@ clearing-next G r old now new C free others rules room spares = record {
   room = room ∙ C.room;
   spare = spares.0 ∙ C.spare;
   spare_rules = spares.1 ∙ C.spare_rules;
+  marks = λ k m. C.marks k (fewer k m);
 }
   where
     gone : (k : ℕ) → IsNumberIn G r k → cell new k ≡ None

@@ -12,6 +12,7 @@ use Rattle.slt_grammar.specs.Keyed.{Keyed, IsKeyed, key_at, nodes_at}
 use Rattle.slt_grammar.specs.KeyedEdits.{Stands}
 use Rattle.digram_index.specs.Digrams.{occurrence_at}
 use Rattle.digram_index.specs.Linked.{IsIndexOf, Linked, cell}
+use Rattle.digram_index.specs.Marking.{MarksFewer}
 use Rattle.digram_index.proofs.LevelLemmas.{same_some}
 use Rattle.digram_index.specs.Partly.{IsPartOf, IsRight}
 use Rattle.digram_index.proofs.NodeLinks.{kept-right}
@@ -30,7 +31,7 @@ drop-none [] (suc i) e = refl
 drop-none (x ∷ xs) zero e = absurd (let z : Some x.key ≡ None = e in cc)
 drop-none (x ∷ xs) (suc i) e = drop-none xs i e
 
-key-drop : (xs : List Node) (i j : ℕ) → key_in (drop i xs) j ≡ key_in xs (i + j)
+pub key-drop : (xs : List Node) (i j : ℕ) → key_in (drop i xs) j ≡ key_in xs (i + j)
 key-drop xs zero j = let z : zero + j ≡ j = omega arith in ap (λ (k : ℕ). key_in xs k) (sym z)
 key-drop [] (suc i) j = refl
 key-drop (x ∷ xs) (suc i) j = let z : suc i + j ≡ suc (i + j) = omega arith in key-drop xs i j ∙ ap (λ (k : ℕ). key_in (x ∷ xs) k) (sym z)
@@ -66,12 +67,13 @@ pub record IsWalking (g : Keyed) (q : ℕ) (old new : Linked) (model copy : Opti
   pub spare : old.spare_links ≤ new.spare_links + left.at
   pub spare_rules : new.spare_rules ≡ old.spare_rules
   pub counted : now ≡ begin + (left.at + left.at)
+  pub marks : MarksFewer old new
 
 module _ (g : Keyed) (K : IsKeyed g) (q : ℕ) where
   pub walking-begins : (I : Linked) (root : Key) (first : Option Key) (begin : ℕ) → key_at g.rules q 0 ≡ Some root → IsCopyLinked g I q (Some root) first → IsWalking g q I I (Some root) first begin begin
   walking-begins I root first begin e V =
       let o = (K.once root q V.at q 0 V.model_at e).1 in
-      record { left = V; cells = omega arith; spare = omega arith; spare_rules = refl; counted = omega (arith, o) }
+      record { left = V; cells = omega arith; spare = omega arith; spare_rules = refl; counted = omega (arith, o); marks = λ k m. m }
 
   module _ (I : Linked) (node : Key) (copy : Option Key) (W : IsCopyLinked g I q (Some node) copy) (label : Label)
       (told : (p : ℕ) → key_at g.rules q p ≡ Some node → (n : ℕ) × (slice_get (nodes_at g.rules q) p ≡ Some (record { key = node; label = label; kids = n }))) where
@@ -196,9 +198,9 @@ module _ (g : Keyed) (K : IsKeyed g) (q : ℕ) where
             (t, (k, (subst (λ (xs : List Node). Meets xs W.given t) (sym from) (inr (u, (refl, N))), (ap (λ (j : ℕ). key_at g.rules W.rule j) (omega arith) ∙ e, z))))
 
         pub walking-next : (old : Linked) (begin now then : ℕ) → length old.cells ≤ length I.cells → old.spare_links ≤ I.spare_links + W.at → now ≡ begin + (W.at + W.at)
-            → length I.cells ≤ length J.cells → I.spare_links ≤ J.spare_links + 1 → I.spare_rules ≡ old.spare_rules → J.spare_rules ≡ I.spare_rules → then ≡ now + 1 + 1 → IsWalking g q old J model next begin then
+            → length I.cells ≤ length J.cells → I.spare_links ≤ J.spare_links + 1 → I.spare_rules ≡ old.spare_rules → J.spare_rules ≡ I.spare_rules → then ≡ now + 1 + 1 → MarksFewer old I → MarksFewer I J → IsWalking g q old J model next begin then
         unfolding copy-next
-        walking-next old begin now then a b c d e u v f = record { left = copy-next; cells = omega (arith, a, d); spare = omega (arith, b, e); spare_rules = v ∙ u; counted = omega (arith, c, f) }
+        walking-next old begin now then a b c d e u v f s t = record { left = copy-next; cells = omega (arith, a, d); spare = omega (arith, b, e); spare_rules = v ∙ u; counted = omega (arith, c, f); marks = λ k m. s k (t k m) }
 
   -- behind the last node of the body nothing is left to link
   pub copy-ends : (I : Linked) (copy : Option Key) → IsCopyLinked g I q None copy → IsIndexOf g I

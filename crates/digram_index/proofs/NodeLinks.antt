@@ -7,6 +7,7 @@ use Rattle.slt_grammar.specs.Keyed.{Keyed, IsKeyed, key_at}
 use Rattle.slt_grammar.specs.KeyedEdits.{Stands}
 use Rattle.digram_index.specs.Digrams.{Cell, OccursAt, occurrence_at}
 use Rattle.digram_index.specs.Linked.{Linked, cell}
+use Rattle.digram_index.specs.Marking.{MarksFewer}
 use Rattle.digram_index.specs.Partly.{IsRight, IsAmong, IsPartOf}
 use Rattle.digram_index.proofs.Apartness.{one-key}
 use Rattle.digram_index.proofs.BuildLemmas.{linked-told}
@@ -20,6 +21,7 @@ pub record AreUnlinked (keys : List Key) (old new : Linked) (count : ℕ) : Type
   pub rules : new.rules ≡ old.rules
   pub room : length new.cells ≡ length old.cells
   pub spares : (new.spare_links ≡ old.spare_links) × (new.spare_rules ≡ old.spare_rules)
+  pub marks : MarksFewer old new
 
 pub stays-free : (now new : Linked) (key : Key) → cell new key.number ≡ None → ((k : ℕ) → k ≢ key.number → cell new k ≡ cell now k) → (n : ℕ) → cell now n ≡ None → cell new n ≡ None
 stays-free now new key free others n e = by (cases_eq n key.number)
@@ -29,14 +31,16 @@ stays-free now new key free others n e = by (cases_eq n key.number)
     by (inr d) = others n d ∙ e
 
 pub unlinked-next : (keys : List Key) (old now new : Linked) (i : ℕ) (key : Key) → AreUnlinked keys old now i → slice_get keys i ≡ Some key → cell new key.number ≡ None
-    → ((k : ℕ) → k ≢ key.number → cell new k ≡ cell now k) → new.rules ≡ now.rules → length new.cells ≡ length now.cells → (new.spare_links ≡ now.spare_links) × (new.spare_rules ≡ now.spare_rules) → AreUnlinked keys old new (i + 1)
-unlinked-next keys old now new i key A there free others rules room spares = record {
+    → ((k : ℕ) → k ≢ key.number → cell new k ≡ cell now k) → new.rules ≡ now.rules → length new.cells ≡ length now.cells → (new.spare_links ≡ now.spare_links) × (new.spare_rules ≡ now.spare_rules)
+    → MarksFewer now new → AreUnlinked keys old new (i + 1)
+unlinked-next keys old now new i key A there free others rules room spares fewer = record {
   free = λ j k l e. by j k l e (cases_eq j i);
   others = λ n a. others n (λ z. a i key there (sym z)) ∙ A.others n a;
   stays = λ n e. stays-free now new key free others n (A.stays n e);
   rules = rules ∙ A.rules;
   room = room ∙ A.room;
   spares = (spares.0 ∙ A.spares.0, spares.1 ∙ A.spares.1);
+  marks = λ n m. A.marks n (fewer n m);
 }
   where
     by : (j : ℕ) (k : Key) → j < i + 1 → slice_get keys j ≡ Some k → (j ≡ i) ⊎ (j ≡ i → ⊥) → cell new k.number ≡ None

@@ -1,6 +1,6 @@
 -- What contracts see of an index, and how it is kept.
 use Rattle.slt_grammar.specs.contracts.digram.DigramPartialEq.TheImpl as eqs
-use Rattle.std.specs.Prelude.{◌≡◌, ◌≢◌, ◌<◌, ◌≤◌, ◌+◌, if◌then◌else◌, ℕ, List, [], ◌∷◌, length, get_or, Option, Some, None}
+use Rattle.std.specs.Prelude.{◌≡◌, ◌≢◌, ◌<◌, ◌≤◌, ◌+◌, if◌then◌else◌, ℕ, List, [], ◌∷◌, length, get_or, Option, Some, None, Bool, false, IsTrue}
 use Rattle.rule_arena.specs.declared.key.Key.{Key}
 use Rattle.rule_arena.specs.declared.label.Label.{Label}
 use Rattle.rule_arena.specs.declared.label.Label.TheVariants.{Bottom, Symbol, Call, Param}
@@ -15,16 +15,21 @@ use Rattle.digram_index.specs.Numbers.{Numbering, place_of, IsGiven}
 use Rattle.digram_index.specs.Spots.{Spot, Entered, spot_at}
 use Rattle.digram_index.specs.Digrams.{Cell, occurrence_at}
 
--- how many rules the index knows, for each number of a node the occurrence that is linked there, and for how many more
--- occurrences and rules there is room
+-- how many rules the index knows, for each number of a node the occurrence that is linked there and whether the node is marked, and
+-- for how many more occurrences and rules there is room
 pub record Linked : Type 0 where
   pub rules : ℕ
   pub cells : List (Option Cell)
+  pub marked : List Bool
   pub spare_links : ℕ
   pub spare_rules : ℕ
 
 abbrev pub cell : Linked → ℕ → Option Cell
 cell I k = get_or I.cells k None
+
+-- whether the node with a number is marked
+abbrev pub is_marked : Linked → ℕ → Bool
+is_marked I k = get_or I.marked k false
 
 -- the node with a number is the lower one of a linked occurrence there, and calls the rule
 abbrev pub IsCallLinked : Linked → ℕ → ℕ → Type 0
@@ -68,6 +73,14 @@ pub record AreKnown (n : Numbering) (e : Entered) : Type 0 where
   pub upper : (k : ℕ) (s : Spot) → spot_at e k ≡ Some s → IsKnown n.numbers s.pattern.upper
   pub lower : (k : ℕ) (s : Spot) → spot_at e k ≡ Some s → IsKnown n.numbers s.pattern.lower
   pub small : (k : ℕ) (s : Spot) → spot_at e k ≡ Some s → s.pattern.rank < 16
+
+-- what is marked is linked
+abbrev pub AreMarksLinked : Entered → List Bool → Type 0
+AreMarksLinked e marked = (k : ℕ) → IsTrue (get_or marked k false) → spot_at e k ≢ None
+
+pub record IsKept (n : Numbering) (e : Entered) (marked : List Bool) : Type 0 where
+  pub known : AreKnown n e
+  pub marks : AreMarksLinked e marked
 
 -- an occurrence once a rule was put before the rule at place
 abbrev pub shifted_digram : ℕ → Digram → Digram

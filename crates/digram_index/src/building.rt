@@ -1,11 +1,12 @@
 // An index that is built from a whole grammar.
-ghost use Rattle.std.specs.Prelude.{◌≡◌, ◌≢◌, ◌+◌, ◌<◌, ◌≤◌, ◌⊎◌, ℕ, length, Some, None, OnOk, IfOk, IsOk};
+ghost use Rattle.std.specs.Prelude.{◌≡◌, ◌≢◌, ◌+◌, ◌<◌, ◌≤◌, ◌⊎◌, ℕ, length, Some, None, OnOk, IfOk, IsOk, false};
 ghost use Rattle.slt_grammar.specs.Grammars.{whole};
 ghost use Rattle.slt_grammar.specs.Keyed.{key_at, nodes_at, rules_of};
 ghost use Rattle.rule_arena.specs.declared.key.Key.{Key};
 ghost use Rattle.digram_index.specs.Digrams.{occurrence_at};
-ghost use Rattle.digram_index.specs.Linked.{IsIndexOf, cell};
+ghost use Rattle.digram_index.specs.Linked.{IsIndexOf, cell, is_marked};
 ghost use Rattle.digram_index.specs.Building.{IsNumberIn};
+ghost use Rattle.digram_index.specs.Marking.{MarksFewer};
 
 use crate::index::Index;
 use crate::nodes::{following, is_lower, unlink_node};
@@ -21,7 +22,8 @@ const FIRST_ROOM: usize = 1024;
 
 /// The index of a grammar.
 pub fn build(alloc: Global, grammar: &Grammar) -> Result<Index, AllocError>
-    ensures { IfOk result (λ a. IsIndexOf grammar.now a) }
+    ensures index { IfOk result (λ a. IsIndexOf grammar.now a) }
+    ensures unmarked { IfOk result (λ a. (k : ℕ) → is_marked a k ≡ false) }
 {
     let _limit = grammar.limit();
     let mut index = Index::new(alloc, grammar.rules())?;
@@ -39,6 +41,7 @@ pub fn link_all(index: &mut Index, grammar: &Grammar) -> Result<(), AllocError>
     ensures rules { index.new.rules ≡ index.old.rules }
     ensures room { length index.old.cells ≤ length index.new.cells }
     ensures succeeds { whole (rules_of grammar.now.rules) ≤ index.old.spare_links → grammar.now.limit ≤ length index.old.cells → IsOk result }
+    ensures marks { MarksFewer index.old index.new }
 {
     let _limit = grammar.limit();
     for rule in 0..grammar.rules() {
@@ -54,6 +57,7 @@ pub fn unlink_all(index: &mut Index, grammar: &Grammar)
     ensures rules { index.new.rules ≡ index.old.rules }
     ensures room { length index.new.cells ≡ length index.old.cells }
     ensures spares { (index.new.spare_links ≡ index.old.spare_links) × (index.new.spare_rules ≡ index.old.spare_rules) }
+    ensures marks { MarksFewer index.old index.new }
 {
     let _limit = grammar.limit();
     for rule in 0..grammar.rules() {
@@ -78,6 +82,7 @@ fn link_node<L: Ledger>(
     ensures spare { (index.old.spare_links ≤ index.new.spare_links + 1) × (index.new.spare_rules ≡ index.old.spare_rules) }
     ensures succeeds { 0 < index.old.spare_links → key.number < length index.old.cells → IsOk result }
     ensures step { steps.new ≡ steps.old + 1 }
+    ensures marks { MarksFewer index.old index.new }
 {
     let _limit = grammar.limit();
     steps.tick();
@@ -107,6 +112,7 @@ pub fn link_nodes<L: Ledger>(
     ensures room { length index.old.cells ≤ length index.new.cells }
     ensures spare { (index.old.spare_links ≤ index.new.spare_links + length (nodes_at grammar.now.rules rule)) × (index.new.spare_rules ≡ index.old.spare_rules) }
     ensures succeeds { length (nodes_at grammar.now.rules rule) ≤ index.old.spare_links → grammar.now.limit ≤ length index.old.cells → IsOk result }
+    ensures marks { MarksFewer index.old index.new }
 {
     let _limit = grammar.limit();
     let mut steps: Steps<L> = Steps::new(blank);
@@ -129,6 +135,7 @@ pub fn unlink_nodes<L: Ledger>(index: &mut Index, grammar: &Grammar, rule: usize
     ensures rules { index.new.rules ≡ index.old.rules }
     ensures room { length index.new.cells ≡ length index.old.cells }
     ensures spares { (index.new.spare_links ≡ index.old.spare_links) × (index.new.spare_rules ≡ index.old.spare_rules) }
+    ensures marks { MarksFewer index.old index.new }
 {
     let _limit = grammar.limit();
     let mut steps: Steps<L> = Steps::new(blank);

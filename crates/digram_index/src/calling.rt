@@ -10,6 +10,7 @@ ghost use Rattle.slt_grammar.specs.KeyedEdits.{Stands, with_nodes};
 ghost use Rattle.slt_grammar.specs.Names.{Call};
 ghost use Rattle.digram_index.specs.Calls.{IsOfBody};
 ghost use Rattle.digram_index.specs.Linked.{IsIndexOf, cell};
+ghost use Rattle.digram_index.specs.Marking.{KeepsMarked, MarksFewer};
 ghost use Rattle.digram_index.specs.Partly.{IsAmong, IsPartOf, IsRight};
 
 use crate::copying::next_of_copy;
@@ -47,10 +48,13 @@ pub fn call_linked(
     ensures spare_rules { grammar.new.spare_rules ≡ grammar.old.spare_rules }
     ensures limit { grammar.new.limit ≡ grammar.old.limit }
     ensures cells { length index.old.cells ≤ length index.new.cells }
+    ensures marks { KeepsMarked grammar.old.rules index.old grammar.new.rules index.new }
 {
     // The calls tell that a key stands once, before and after.
     let _before = grammar.limit();
     unlink_body::<Brand>(index, grammar, at, rule, Blank::new(1));
+    // The call tells that no node of the body is marked any more.
+    let _marked = index.is_marked(at);
     let call = grammar.call_at(at, rule, arguments.as_slice());
     let _after = grammar.limit();
     link_call(index, grammar, call);
@@ -71,6 +75,7 @@ fn unlink_body<L: Ledger>(index: &mut Index, grammar: &Grammar, at: Key, rule: u
     ensures rules { index.new.rules ≡ index.old.rules }
     ensures room { length index.new.cells ≡ length index.old.cells }
     ensures spares { (index.new.spare_links ≡ index.old.spare_links) × (index.new.spare_rules ≡ index.old.spare_rules) }
+    ensures marks { MarksFewer index.old index.new }
 {
     let _limit = grammar.limit();
     let mut steps: Steps<L> = Steps::new(blank);
@@ -98,6 +103,7 @@ fn link_call(index: &mut Index, grammar: &Grammar, call: Key)
     ensures cells { length index.old.cells ≤ length index.new.cells }
     ensures spare { index.old.spare_links ≤ index.new.spare_links + 9 }
     ensures spare_rules { index.new.spare_rules ≡ index.old.spare_rules }
+    ensures marks { MarksFewer index.old index.new }
 {
     // The call tells that bodies are terms.
     let _limit = grammar.limit();
@@ -119,6 +125,7 @@ fn link_kids(index: &mut Index, grammar: &Grammar, kids: &Kids)
     ensures cells { length index.old.cells ≤ length index.new.cells }
     ensures spare { index.old.spare_links ≤ index.new.spare_links + length kids.now }
     ensures spare_rules { index.new.spare_rules ≡ index.old.spare_rules }
+    ensures marks { MarksFewer index.old index.new }
 {
     for i in 0..kids.len() {
         let key = kids.get(i).unwrap();

@@ -5,6 +5,7 @@ ghost use Rattle.slt_grammar.specs.Names.{Param};
 ghost use Rattle.slt_grammar.specs.Keyed.{key_at, nodes_at};
 ghost use Rattle.digram_index.specs.Copies.{IsCopyLinked, end_of};
 ghost use Rattle.digram_index.specs.Linked.{IsIndexOf};
+ghost use Rattle.digram_index.specs.Marking.{MarksFewer};
 
 use crate::index::Index;
 use crate::nodes::{following, link_node};
@@ -33,6 +34,7 @@ pub(crate) fn link_copy<L: Ledger>(
     ensures cells { length index.old.cells ≤ length index.new.cells }
     ensures spare { index.old.spare_links ≤ index.new.spare_links + length (nodes_at grammar.now.rules rule) }
     ensures spare_rules { index.new.spare_rules ≡ index.old.spare_rules }
+    ensures marks { MarksFewer index.old index.new }
 {
     let _limit = grammar.limit();
     let mut steps: Steps<L> = Steps::new(blank);

@@ -6,6 +6,7 @@ ghost use Rattle.slt_grammar.specs.Keyed.{rules_of};
 ghost use Rattle.slt_grammar.specs.KeyedEdits.{rule_dropped};
 ghost use Rattle.slt_grammar.specs.RuleValues.{HasRuleMore};
 ghost use Rattle.digram_index.specs.Linked.{IsIndexOf};
+ghost use Rattle.digram_index.specs.Marking.{KeepsMarked};
 
 use crate::building::unlink_nodes;
 use crate::index::Index;
@@ -30,6 +31,7 @@ pub fn drop_linked(grammar: &mut Grammar, index: &mut Index, rule: usize)
     ensures links { index.new.spare_links ≡ index.old.spare_links }
     ensures numbers { index.old.spare_rules ≤ index.new.spare_rules }
     ensures cells { length index.new.cells ≡ length index.old.cells }
+    ensures marks { KeepsMarked grammar.old.rules index.old grammar.new.rules index.new }
 {
     // The call tells that a key stands once.
     let _limit = grammar.limit();

@@ -3,17 +3,17 @@ ghost use Rattle.std.specs.Prelude.{◌≡◌, ◌≢◌, ◌+◌, ◌<◌, ◌�
 ghost use Rattle.slt_grammar.specs.Algebras.{ranks_of};
 ghost use Rattle.slt_grammar.specs.Keyed.{rules_of};
 ghost use Rattle.slt_grammar.specs.Names.{Call};
-ghost use Rattle.digram_index.specs.Linked.{label_of, IsKnown};
-ghost use Rattle.digram_index.specs.declared.patterns.Mark.TheVariants.{Call as CallMark};
 ghost use Rattle.rule_arena.specs.declared.key.Key.{Key};
 ghost use Rattle.digram_index.specs.Digrams.{Cell, OccursAt, joint_rank};
 
 use crate::entries::Entries;
+use crate::flags::clear;
+use crate::labels::{is_known, label, mark_of};
 use crate::numbers::Numbers;
 use crate::occurrence::{rank_of, read};
-use crate::patterns::{Mark, Pattern};
+use crate::patterns::Pattern;
 use crate::touched::Touched;
-use slt_grammar::{Digram, Grammar, Key, Label};
+use slt_grammar::{Digram, Grammar, Key};
 use std::alloc::{AllocError, Global};
 use std::marker::{Brand, Model};
 use std::sync::ledger::Blank;
@@ -25,6 +25,8 @@ pub struct Index {
     pub(crate) entries: Entries,
     // A hint, of which the model doesn't speak.
     pub(crate) touched: Touched,
+    // Which nodes are marked, by their numbers.
+    pub(crate) marked: Vec<bool>,
 }
 
 impl Model for Index {
@@ -33,16 +35,17 @@ impl Model for Index {
 
     ghost Value = { Linked };
 
-    ghost use Rattle.digram_index.specs.Linked.{cell_of, AreKnown};
+    ghost use Rattle.digram_index.specs.Linked.{cell_of, IsKept};
 
     ghost view = { λ a. record {
       rules = length a.numbers.numbers;
       cells = map (cell_of a.numbers.numbers) a.entries.spots;
+      marked = a.marked.items;
       spare_links = a.entries.spare;
       spare_rules = min a.numbers.spare (a.entries.callees - a.numbers.given);
     } };
 
-    ghost invariant = { λ a. AreKnown a.numbers a.entries };
+    ghost invariant = { λ a. IsKept a.numbers a.entries a.marked.items };
 }
 
 /// A call that was found.
@@ -61,12 +64,14 @@ impl Index {
     ghost use Rattle.digram_index.specs.Frequency.{IsMostFrequent};
     ghost use Rattle.digram_index.specs.Keeping.{AreOccurrences};
     ghost use Rattle.digram_index.specs.Linked.{IsCallLinked, IsIndexOf, cell, cell_count, shifted_cell, unshifted_cell, Lacks};
+    ghost use Rattle.digram_index.specs.Marking.{MarksFewer};
     ghost use Rattle.digram_index.specs.Settled.{HasApart, HasTwoDisjoint, IsWithin};
 
     /// An index in which nothing is linked.
     pub fn new(alloc: Global, rules: usize) -> Result<Index, AllocError>
         ensures rules { IfOk result (λ a. a.rules ≡ rules) }
         ensures cells { IfOk result (λ a. a.cells ≡ []) }
+        ensures marked { IfOk result (λ a. a.marked ≡ []) }
     {
         let numbers = Numbers::new(alloc, rules)?;
         let mut entries = Entries::new(alloc)?;
@@ -76,6 +81,7 @@ impl Index {
             numbers,
             entries,
             touched,
+            marked: Vec::new(alloc),
         })
     }
 
@@ -91,6 +97,7 @@ impl Index {
         ensures more { length self.old.cells ≤ length self.new.cells }
         ensures spares { (self.old.spare_links ≤ self.new.spare_links) × (self.old.spare_rules ≤ self.new.spare_rules) }
         ensures room { OnOk result ((grammar.now.limit ≤ length self.new.cells) × (more ≤ self.new.spare_links) × (rules ≤ self.new.spare_rules)) }
+        ensures marks { MarksFewer self.old self.new }
     {
         self.numbers.reserve(rules)?;
         self.entries.reserve_callees(self.numbers.given(), rules)?;
@@ -110,6 +117,7 @@ impl Index {
         ensures room { length self.old.cells ≤ length self.new.cells }
         ensures spare { (self.old.spare_links ≤ self.new.spare_links + 1) × (self.new.spare_rules ≡ self.old.spare_rules) }
         ensures succeeds { 0 < self.old.spare_links → lower.number < length self.old.cells → IsOk result }
+        ensures marks { MarksFewer self.old self.new }
     {
         let _limit = grammar.limit();
         self.extend(grammar, lower.number())?;
@@ -130,6 +138,7 @@ impl Index {
         ensures others { (k : ℕ) → k ≢ lower.number → cell self.new k ≡ cell self.old k }
         ensures room { length self.new.cells ≡ length self.old.cells }
         ensures spare { (self.old.spare_links ≤ self.new.spare_links + 1) × (self.new.spare_rules ≡ self.old.spare_rules) }
+        ensures marks { MarksFewer self.old self.new }
     {
         let _limit = grammar.limit();
         let reading = read::<Brand>(grammar, lower, Blank::new(1));
@@ -274,6 +283,7 @@ impl Index {
         ensures room { OnOk result (number < length self.new.cells) }
         ensures spares { (self.new.spare_links ≡ self.old.spare_links) × (self.new.spare_rules ≡ self.old.spare_rules) }
         ensures succeeds { number < length self.old.cells → IsOk result }
+        ensures marks { MarksFewer self.old self.new }
     {
         if number < self.entries.len() {
             return Ok(());
@@ -289,8 +299,11 @@ impl Index {
         ensures others { (k : ℕ) → k ≢ lower.number → cell self.new k ≡ cell self.old k }
         ensures room { length self.new.cells ≡ length self.old.cells }
         ensures spares { (self.new.spare_links ≡ self.old.spare_links) × (self.new.spare_rules ≡ self.old.spare_rules) }
+        ensures marks { MarksFewer self.old self.new }
     {
-        self.entries.take(lower.number());
+        let number = lower.number();
+        self.entries.take(number);
+        clear(&mut self.marked, number);
     }
 
     // Makes room for one occurrence.
@@ -301,6 +314,7 @@ impl Index {
         ensures room { OnOk result (0 < self.new.spare_links) }
         ensures spares { (self.old.spare_links ≤ self.new.spare_links) × (self.new.spare_rules ≡ self.old.spare_rules) }
         ensures succeeds { 0 < self.old.spare_links → IsOk result }
+        ensures marks { MarksFewer self.old self.new }
     {
         self.entries.reserve(1)
     }
@@ -319,6 +333,7 @@ impl Index {
         ensures others { (k : ℕ) → k ≢ lower → cell self.new k ≡ cell self.old k }
         ensures room { length self.new.cells ≡ length self.old.cells }
         ensures spare { (self.old.spare_links ≤ self.new.spare_links + 1) × (self.new.spare_rules ≡ self.old.spare_rules) }
+        ensures marks { MarksFewer self.old self.new }
     {
         let pattern = Pattern {
             upper: mark_of(&self.numbers, digram.upper),
@@ -338,6 +353,7 @@ impl Index {
         ensures room { length self.new.cells ≡ length self.old.cells }
         ensures spare { (self.old.spare_rules ≤ self.new.spare_rules + 1) × (self.new.spare_links ≡ self.old.spare_links) }
         ensures succeeds { 0 < self.old.spare_rules → IsOk result }
+        ensures marks { MarksFewer self.old self.new }
     {
         self.entries.reserve_callees(self.numbers.given(), 1)?;
         self.numbers.insert(place)
@@ -351,45 +367,8 @@ impl Index {
         ensures cells { (k : ℕ) → cell self.new k ≡ unshifted_cell place (cell self.old k) }
         ensures room { length self.new.cells ≡ length self.old.cells }
         ensures spare { (self.old.spare_rules ≤ self.new.spare_rules) × (self.new.spare_links ≡ self.old.spare_links) }
+        ensures marks { MarksFewer self.old self.new }
     {
         self.numbers.remove(place);
-    }
-}
-
-// Whether a label is no call, or one of a rule that the index knows.
-fn is_known(numbers: &Numbers, label: Label) -> bool
-    ensures { MatchBool result ((q : ℕ) → label ≡ Call q → q < length numbers.now.numbers) ((q : ℕ) × ((label ≡ Call q) × (length numbers.now.numbers ≤ q))) }
-{
-    match label {
-        Label::Call(rule) => rule < numbers.len(),
-        _ => true,
-    }
-}
-
-// The label of a mark.
-fn label(numbers: &Numbers, mark: Mark) -> Label
-    requires { IsKnown numbers.now.numbers mark }
-    ensures { result ≡ label_of numbers.now.numbers mark }
-{
-    match mark {
-        Mark::Bottom => Label::Bottom,
-        Mark::Symbol(symbol) => Label::Symbol(symbol),
-        Mark::Call(number) => Label::Call(numbers.place(number).unwrap()),
-        Mark::Param => Label::Param,
-    }
-}
-
-// A label by the number of its rule.
-fn mark_of(numbers: &Numbers, label: Label) -> Mark
-    requires { (q : ℕ) → label ≡ Call q → q < length numbers.now.numbers }
-    ensures label { label_of numbers.now.numbers result ≡ label }
-    ensures known { IsKnown numbers.now.numbers result }
-    ensures below { (n : ℕ) → result ≡ CallMark n → n < numbers.now.given }
-{
-    match label {
-        Label::Bottom => Mark::Bottom,
-        Label::Symbol(symbol) => Mark::Symbol(symbol),
-        Label::Call(rule) => Mark::Call(numbers.number(rule)),
-        Label::Param => Mark::Param,
     }
 }

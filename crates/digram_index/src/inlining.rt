@@ -6,6 +6,7 @@ ghost use Rattle.slt_grammar.specs.Grammars.{body_at, size, value_at};
 ghost use Rattle.slt_grammar.specs.Keyed.{key_at, nodes_at, rules_of};
 ghost use Rattle.slt_grammar.specs.KeyedEdits.{IsInlined, StandsAsCall};
 ghost use Rattle.digram_index.specs.Linked.{IsIndexOf, cell};
+ghost use Rattle.digram_index.specs.Marking.{KeepsMarked, MarksFewer};
 ghost use Rattle.digram_index.specs.Partly.{IsAmong};
 
 use crate::copying::link_copy;
@@ -40,12 +41,15 @@ pub fn inline_linked(grammar: &mut Grammar, index: &mut Index, call: Key, follow
     ensures spare_rules { grammar.new.spare_rules ≡ grammar.old.spare_rules }
     ensures limit { grammar.new.limit ≡ grammar.old.limit }
     ensures cells { length index.old.cells ≤ length index.new.cells }
+    ensures marks { KeepsMarked grammar.old.rules index.old grammar.new.rules index.new }
 {
     // The calls tell that a key stands once, before and after.
     let _before = grammar.limit();
     let rule = called_rule(grammar, call);
     let arguments = kids_of(grammar, call);
     unlink_call(index, call, &arguments);
+    // The call tells that the call isn't marked any more.
+    let _marked = index.is_marked(call);
     let inlined = grammar.inline(call, follow).unwrap();
     let _after = grammar.limit();
     link_copy::<Brand>(index, grammar, rule, inlined.root, Blank::new(1));
@@ -60,6 +64,7 @@ fn unlink_call(index: &mut Index, call: Key, arguments: &Kids)
     ensures rules { index.new.rules ≡ index.old.rules }
     ensures room { length index.new.cells ≡ length index.old.cells }
     ensures spares { (index.new.spare_links ≡ index.old.spare_links) × (index.new.spare_rules ≡ index.old.spare_rules) }
+    ensures marks { MarksFewer index.old index.new }
 {
     unlink_node(index, call);
     unlink_kids(index, arguments);

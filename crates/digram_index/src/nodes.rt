@@ -9,6 +9,7 @@ ghost use Rattle.slt_grammar.specs.Keyed.{key_at, nodes_at, rules_of};
 ghost use Rattle.slt_grammar.specs.KeyedEdits.{Stands};
 ghost use Rattle.digram_index.specs.Digrams.{Cell, OccursAt, occurrence_at};
 ghost use Rattle.digram_index.specs.Linked.{cell};
+ghost use Rattle.digram_index.specs.Marking.{MarksFewer};
 ghost use Rattle.digram_index.specs.Partly.{IsPartOf, IsRight};
 
 use crate::index::Index;
@@ -91,6 +92,7 @@ pub fn unlink_node(index: &mut Index, key: Key)
     ensures rules { index.new.rules ≡ index.old.rules }
     ensures room { length index.new.cells ≡ length index.old.cells }
     ensures spares { (index.new.spare_links ≡ index.old.spare_links) × (index.new.spare_rules ≡ index.old.spare_rules) }
+    ensures marks { MarksFewer index.old index.new }
 {
     if index.is_linked(key) {
         index.unlink(key);
@@ -105,6 +107,7 @@ pub fn unlink_kids(index: &mut Index, kids: &Kids)
     ensures rules { index.new.rules ≡ index.old.rules }
     ensures room { length index.new.cells ≡ length index.old.cells }
     ensures spares { (index.new.spare_links ≡ index.old.spare_links) × (index.new.spare_rules ≡ index.old.spare_rules) }
+    ensures marks { MarksFewer index.old index.new }
 {
     for i in 0..kids.len() {
         let key = kids.get(i).unwrap();
@@ -124,6 +127,7 @@ pub fn link_node(index: &mut Index, grammar: &Grammar, key: Key)
     ensures cells { length index.old.cells ≤ length index.new.cells }
     ensures spare { index.old.spare_links ≤ index.new.spare_links + 1 }
     ensures spare_rules { index.new.spare_rules ≡ index.old.spare_rules }
+    ensures marks { MarksFewer index.old index.new }
 {
     let _limit = grammar.limit();
     if index.is_linked(key) {

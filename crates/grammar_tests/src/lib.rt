@@ -20,6 +20,8 @@ mod grammar;
 #[cfg(test)]
 mod grammar_bytes;
 #[cfg(test)]
+mod marked;
+#[cfg(test)]
 mod marks;
 #[cfg(test)]
 mod numbers;

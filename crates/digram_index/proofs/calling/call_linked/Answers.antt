@@ -1,5 +1,9 @@
 use Rattle.std.proofs.Common.{◌∙◌, arith}
+use Rattle.start_fronts.proofs.Called.{keeps-calling}
+use Rattle.start_fronts.specs.Before.{copied_keys}
+use Rattle.slt_grammar.specs.Keyed.{nodes_at}
 use Rattle.digram_index.proofs.CalledIndex.{called, called-index, part}
+use Rattle.digram_index.proofs.Marks.{keeps-unlinked, unmarked-body}
 use Rattle.digram_index.proofs.calling.call_linked.Goals as goal
 
 pub unlink_body-requires-clause-begins : goal.unlink_body-requires-clause-begins
@@ -53,3 +57,13 @@ returns-clause-numbers c = c.link_call.ensures.spare_rules ∙ c.unlink_body.ens
 
 pub returns-clause-cells : goal.returns-clause-cells
 returns-clause-cells c = omega (arith, c.link_call.ensures.cells, c.unlink_body.ensures.room)
+
+pub returns-clause-marks : goal.returns-clause-marks
+returns-clause-marks c =
+    let B = c.requires.begins in
+    let A = rw c.as_slice.ensures.value at c.call_at-call.ensures in
+    let U = c.unlink_body.ensures in
+    keeps-unlinked (copied_keys (nodes_at c.args.grammar.now.rules c.args.rule) B.keys) c.args.grammar.now.rules c.call_at-call.new.self.rules c.args.index.now c.unlink_body.new.index c.link_call.new.index
+    (keeps-calling c.args.grammar.now c.call_at-call.new.self c.limit-before.ensures.keyed c.limit-after.ensures.keyed c.args.at c.args.rule c.args.arguments.now c.call_at-call.result B (A.rules B))
+    U.marks c.link_call.ensures.marks
+    (unmarked-body c.args.grammar.now.rules c.args.at c.args.rule c.args.arguments.now B c.unlink_body.new.index (U.free c.args.arguments.now B) c.is_marked-marked.ensures.linked)

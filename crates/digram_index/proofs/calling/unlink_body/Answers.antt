@@ -77,6 +77,7 @@ loop-model-preserved g c =
       rules = N.rules ∙ U.rules;
       room = N.room ∙ U.room;
       spares = (N.spares.0 ∙ U.spares.0, N.spares.1 ∙ U.spares.1);
+      marks = λ n m. U.marks n (N.marks n m);
     }
 
 pub returns-clause-free : goal.returns-clause-free
@@ -95,6 +96,9 @@ returns-clause-rules g c = c.loop-model.invariant.rules
 
 pub returns-clause-room : goal.returns-clause-room
 returns-clause-room g c = c.loop-model.invariant.room
+
+pub returns-clause-marks : goal.returns-clause-marks
+returns-clause-marks g c = c.loop-model.invariant.marks
 
 pub returns-clause-spares : goal.returns-clause-spares
 returns-clause-spares g c = c.loop-model.invariant.spares

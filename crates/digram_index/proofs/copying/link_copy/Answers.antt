@@ -35,7 +35,10 @@ loop-model-preserved g c =
     walking-next c.args.grammar.now c.limit-limit.ensures.keyed c.args.rule c.loop-model.index c.in-Some.node c.loop-model.copy W.left c.label-label.result told
     c.unwrap-here.result c.unwrap-here.ensures c.link_node.new.index L.part L.right L.others c.next_of_copy-copy.result m (c.next_in_preorder-model.ensures.next c.args.rule)
     next c.args.index.now c.new-steps.result c.loop-model.steps c.next_in_preorder-model.new.steps W.cells W.spare W.counted L.cells L.spare W.spare_rules L.spare_rules
-    (c.next_in_preorder-model.ensures.step ∙ ap (λ (n : ℕ). n + 1) c.label-label.ensures.step)
+    (c.next_in_preorder-model.ensures.step ∙ ap (λ (n : ℕ). n + 1) c.label-label.ensures.step) W.marks L.marks
+
+pub returns-clause-marks : goal.returns-clause-marks
+returns-clause-marks g c = c.loop-model.invariant.marks
 
 pub returns-clause-index : goal.returns-clause-index
 returns-clause-index g c =

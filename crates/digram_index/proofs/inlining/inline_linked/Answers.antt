@@ -1,9 +1,13 @@
-use Rattle.std.proofs.Common.{◌≡◌, ℕ, List, [], Some, length, ap, sym, ◌∙◌, subst, arith}
+use Rattle.std.proofs.Common.{◌≡◌, ◌∷◌, ℕ, List, [], inl, refl, Some, IsTrue, length, ap, sym, ◌∙◌, subst, arith}
 use Rattle.rule_arena.specs.Terms.{Node}
+use Rattle.rule_arena.specs.declared.key.Key.{Key}
 use Rattle.slt_grammar.specs.Keyed.{key_at, nodes_at}
+use Rattle.start_fronts.proofs.Inlined.{keeps-inlining}
+use Rattle.digram_index.specs.Linked.{is_marked}
 use Rattle.digram_index.specs.Copies.{IsCopyLinked}
 use Rattle.digram_index.proofs.Inlined.{callee-in}
 use Rattle.digram_index.proofs.InlinedIndex.{copy-ready}
+use Rattle.digram_index.proofs.Marks.{all-more, all-none, keeps-unlinked}
 use Rattle.digram_index.proofs.NearInlines.{callee-same, in-new}
 use Rattle.digram_index.proofs.inlining.inline_linked.Goals as goal
 
@@ -71,3 +75,14 @@ returns-clause-limit c = c.inline.ensures.stays c.requires.call (c.requires.node
 
 pub returns-clause-cells : goal.returns-clause-cells
 returns-clause-cells c = omega (arith, c.unlink_call.ensures.room, c.link_copy.ensures.cells)
+
+pub returns-clause-marks : goal.returns-clause-marks
+returns-clause-marks c =
+    let C = c.requires.call in
+    let J = rw c.unwrap-inlined.ensures at c.inline.ensures.rules in
+    let U = c.unlink_call.ensures in
+    let gone = λ (k : Key). IsTrue (is_marked c.unlink_call.new.index k.number) → ⊥ in
+    keeps-unlinked (c.args.call ∷ []) c.args.grammar.now.rules c.inline.new.self.rules c.args.index.now c.unlink_call.new.index c.link_copy.new.index
+    (keeps-inlining c.args.grammar.now c.inline.new.self c.limit-before.ensures.keyed c.limit-after.ensures.keyed c.args.call C c.args.follow c.unwrap-inlined.result.followed (J C))
+    U.marks c.link_copy.ensures.marks
+    (all-more gone c.args.call [] (λ m. c.is_marked-marked.ensures.linked c.args.call.number m (U.free c.args.call.number (inl refl))) (all-none gone))

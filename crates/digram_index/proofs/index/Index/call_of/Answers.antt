@@ -21,4 +21,4 @@ pub returns-in-None-clause-none : goal.returns-in-None-clause-none
 returns-in-None-clause-none c = rw (← c.self.view_is) (λ k L.
     let h = c.requires in
     let v = ap (λ (l : Linked). l.rules) c.self.view_is in
-    c.in-None.ensures.none k (linked-call c.self.inside.numbers c.self.inside.entries c.args.rule c.number.result c.number.ensures.back c.self.invariant (omega arith) k L.0 L.1.0 L.1.1))
+    c.in-None.ensures.none k (linked-call c.self.inside.numbers c.self.inside.entries c.args.rule c.number.result c.number.ensures.back c.self.invariant.known (omega arith) k L.0 L.1.0 L.1.1))

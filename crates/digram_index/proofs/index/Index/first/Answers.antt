@@ -10,13 +10,13 @@ use Rattle.digram_index.proofs.index.Index.first.Goals as goal
 pub returns-then-not-is_known-clause-none : goal.returns-then-not-is_known-clause-none
 returns-then-not-is_known-clause-none c = rw (← c.self.view_is) (
     let u = c.if-not-is_known.ensures in
-    unknown-nowhere c.self.inside.numbers c.self.inside.entries c.args.digram c.self.invariant
+    unknown-nowhere c.self.inside.numbers c.self.inside.entries c.args.digram c.self.invariant.known
     (λ p ku kl e. unknown-label c.self.inside.numbers.numbers p.upper u.0 ku u.1.1 (ap (λ (d : Digram). d.upper) e ∙ u.1.0)))
 
 pub returns-then-not-is_known-2-clause-none : goal.returns-then-not-is_known-2-clause-none
 returns-then-not-is_known-2-clause-none c = rw (← c.self.view_is) (
     let u = c.if-not-is_known-2.ensures in
-    unknown-nowhere c.self.inside.numbers c.self.inside.entries c.args.digram c.self.invariant
+    unknown-nowhere c.self.inside.numbers c.self.inside.entries c.args.digram c.self.invariant.known
     (λ p ku kl e. unknown-label c.self.inside.numbers.numbers p.lower u.0 kl u.1.1 (ap (λ (d : Digram). d.lower) e ∙ u.1.0)))
 
 pub of-requires : goal.of-requires
@@ -41,7 +41,7 @@ pub returns-in-None-clause-none : goal.returns-in-None-clause-none
 returns-in-None-clause-none c =
     let C = are-cells c.args.grammar.now c.args.self.now c.self.inside.numbers c.self.inside.entries c.requires (ap (λ (l : Linked). l.cells) c.self.view_is) in
     rw (← c.self.view_is) (
-    first-none c.args.grammar.now c.limit-limit.ensures.keyed c.self.inside.numbers c.self.inside.entries c.self.invariant C c.args.digram
+    first-none c.args.grammar.now c.limit-limit.ensures.keyed c.self.inside.numbers c.self.inside.entries c.self.invariant.known C c.args.digram
     (record { upper = c.mark_of.result; place = c.args.digram.place; lower = c.mark_of-2.result; rank = c.rank_of.result })
     (digram-is c.args.digram.place _ _ c.args.digram.upper c.args.digram.lower (sym c.mark_of.ensures.label) (sym c.mark_of-2.ensures.label))
     c.mark_of.ensures.known c.mark_of-2.ensures.known c.rank_of.ensures c.in-None.ensures.none)

@@ -5,6 +5,7 @@ use Rattle.rule_arena.specs.Terms.{Apart}
 use Rattle.rule_arena.specs.declared.key.Key.{Key}
 use Rattle.slt_grammar.specs.Keyed.{Keyed}
 use Rattle.digram_index.specs.Linked.{Linked, cell}
+use Rattle.digram_index.specs.Marking.{MarksFewer}
 use Rattle.digram_index.proofs.Apartness.{one-key}
 use Rattle.digram_index.specs.Partly.{IsRight, IsAmong, IsPartOf}
 use Rattle.digram_index.proofs.LevelLemmas.{same_some}
@@ -21,10 +22,11 @@ pub record AreLinked (g : Keyed) (keys : List Key) (gone : Key) (old new : Linke
   pub cells : length old.cells ≤ length new.cells
   pub spare : old.spare_links ≤ new.spare_links + count
   pub spare_rules : new.spare_rules ≡ old.spare_rules
+  pub marks : MarksFewer old new
 
 pub linked-next : (g : Keyed) (keys : List Key) (gone : Key) (old now new : Linked) (i : ℕ) (key : Key) → AreLinked g keys gone old now i → slice_get keys i ≡ Some key → key ≢ gone → IsPartOf g new → IsRight g.rules new key
-    → ((k : ℕ) → k ≢ key.number → cell new k ≡ cell now k) → length now.cells ≤ length new.cells → now.spare_links ≤ new.spare_links + 1 → new.spare_rules ≡ now.spare_rules → AreLinked g keys gone old new (i + 1)
-linked-next g keys gone old now new i key A there d part right others cells spare rules = record {
+    → ((k : ℕ) → k ≢ key.number → cell new k ≡ cell now k) → length now.cells ≤ length new.cells → now.spare_links ≤ new.spare_links + 1 → new.spare_rules ≡ now.spare_rules → MarksFewer now new → AreLinked g keys gone old new (i + 1)
+linked-next g keys gone old now new i key A there d part right others cells spare rules fewer = record {
   part = part;
   linked = λ j k l e x. by j k l e x (cases_eq j i);
   kept = λ k R. kept-right g key now new right others k (A.kept k R);
@@ -33,6 +35,7 @@ linked-next g keys gone old now new i key A there d part right others cells spar
   cells = let c = A.cells in omega (arith, c, cells);
   spare = let s = A.spare in omega (arith, s, spare);
   spare_rules = rules ∙ A.spare_rules;
+  marks = λ n m. A.marks n (fewer n m);
 }
   where
     by : (j : ℕ) (k : Key) → j < i + 1 → slice_get keys j ≡ Some k → k ≢ gone → (j ≡ i) ⊎ (j ≡ i → ⊥) → IsRight g.rules new k
@@ -49,6 +52,7 @@ linked-skip g keys gone old now i key A there same = record {
   cells = A.cells;
   spare = let s = A.spare in omega (arith, s);
   spare_rules = A.spare_rules;
+  marks = A.marks;
 }
   where
     by : (j : ℕ) (k : Key) → j < i + 1 → slice_get keys j ≡ Some k → k ≢ gone → (j ≡ i) ⊎ (j ≡ i → ⊥) → IsRight g.rules now k

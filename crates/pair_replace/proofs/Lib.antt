@@ -18,3 +18,4 @@ pub mod PutCounts
 pub mod PutDigrams
 pub mod PutRules
 pub mod DisjointLemmas
+pub mod KeptMarks

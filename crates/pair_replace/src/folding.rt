@@ -7,6 +7,7 @@ ghost use Rattle.slt_grammar.specs.Keyed.{key_at, nodes_at, rules_of};
 ghost use Rattle.slt_grammar.specs.KeyedEdits.{FoldsInto, folded_nodes, with_nodes};
 ghost use Rattle.digram_index.specs.Linked.{cell};
 ghost use Rattle.digram_index.specs.Keeping.{IsIndexBut};
+ghost use Rattle.digram_index.specs.Marking.{KeepsMarked};
 ghost use Rattle.pair_replace.specs.Near.{IsAround};
 
 use crate::near::{link_near, near_nodes, unlink_near};
@@ -30,11 +31,14 @@ pub(crate) fn fold_at(grammar: &mut Grammar, index: &mut Index, lower: Key, rule
     ensures size { size (rules_of grammar.new.rules) + 1 ≡ size (rules_of grammar.old.rules) }
     ensures spare { index.old.spare_links ≤ index.new.spare_links + 17 }
     ensures cells { grammar.new.limit ≤ length index.new.cells }
+    ensures marks { KeepsMarked grammar.old.rules index.old grammar.new.rules index.new }
 {
     // The call tells that a key stands once.
     let _limit = grammar.limit();
     let near = near_nodes(grammar, lower);
     unlink_near(index, &near);
+    // The call tells that the lower node isn't marked any more.
+    let _marked = index.is_marked(lower);
     grammar.fold(lower, rule);
     link_near(index, grammar, &near);
 }

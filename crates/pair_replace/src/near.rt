@@ -5,6 +5,7 @@ ghost use Rattle.rule_arena.specs.declared.key.Key.{Key};
 ghost use Rattle.slt_grammar.specs.Keyed.{nodes_at};
 ghost use Rattle.slt_grammar.specs.KeyedEdits.{FoldsInto, Stands};
 ghost use Rattle.digram_index.specs.Linked.{cell};
+ghost use Rattle.digram_index.specs.Marking.{MarksFewer};
 ghost use Rattle.digram_index.specs.Partly.{IsPartOf, IsRight};
 ghost use Rattle.pair_replace.specs.Near.{IsAround, AreAround};
 
@@ -48,6 +49,7 @@ pub(crate) fn unlink_near(index: &mut Index, near: &Near)
     ensures rules { index.new.rules ≡ index.old.rules }
     ensures room { length index.new.cells ≡ length index.old.cells }
     ensures spares { (index.new.spare_links ≡ index.old.spare_links) × (index.new.spare_rules ≡ index.old.spare_rules) }
+    ensures marks { MarksFewer index.old index.new }
 {
     unlink_node(index, near.upper);
     unlink_kids(index, &near.siblings);
@@ -68,6 +70,7 @@ fn link_kids(index: &mut Index, grammar: &Grammar, kids: &Kids, gone: Key)
     ensures cells { length index.old.cells ≤ length index.new.cells }
     ensures spare { index.old.spare_links ≤ index.new.spare_links + length kids.now }
     ensures spare_rules { index.new.spare_rules ≡ index.old.spare_rules }
+    ensures marks { MarksFewer index.old index.new }
 {
     for i in 0..kids.len() {
         let key = kids.get(i).unwrap();
@@ -91,6 +94,7 @@ pub(crate) fn link_near(index: &mut Index, grammar: &Grammar, near: &Near)
     ensures cells { length index.old.cells ≤ length index.new.cells }
     ensures spare { index.old.spare_links ≤ index.new.spare_links + 17 }
     ensures spare_rules { index.new.spare_rules ≡ index.old.spare_rules }
+    ensures marks { MarksFewer index.old index.new }
 {
     let _siblings = near.siblings.len();
     let _children = near.children.len();

@@ -9,6 +9,7 @@ ghost use Rattle.slt_grammar.specs.Keyed.{rules_of};
 ghost use Rattle.slt_grammar.specs.KeyedEdits.{digram_body, parameters};
 ghost use Rattle.digram_index.specs.Keeping.{IsIndexBut};
 ghost use Rattle.digram_index.specs.Linked.{IsIndexOf, cell, cell_count, shifted_cell};
+ghost use Rattle.digram_index.specs.Marking.{KeepsMarked, MarksFewer};
 ghost use Rattle.digram_index.specs.Settled.{HasApart, HasTwoDisjoint};
 ghost use Rattle.pair_replace.specs.Chains.{HasApartLinked};
 ghost use Rattle.pair_replace.specs.NewRules.{IsAdded, IsNewRule, IsRuleOf, IsSmall};
@@ -52,6 +53,7 @@ pub(crate) fn add_new_rule(
     ensures size { OnOk result (size (rules_of grammar.new.rules) ≡ size (rules_of grammar.old.rules) + 2) }
     ensures refused { OnErr result (grammar.new.rules ≡ grammar.old.rules) }
     ensures refused_index { OnErr result (IsIndexOf grammar.new index.new) }
+    ensures marks { KeepsMarked grammar.old.rules index.old grammar.new.rules index.new }
 {
     // The calls tell that a key stands once, before and after.
     let _limit = grammar.limit();
@@ -104,6 +106,7 @@ fn make_place(
     ensures room { OnOk result (links ≤ index.new.spare_links) }
     ensures cells { OnOk result (grammar.now.limit ≤ length index.new.cells) }
     ensures refused { OnErr result ((index.new.rules ≡ index.old.rules) × ((k : ℕ) → cell index.new k ≡ cell index.old k)) }
+    ensures marks { MarksFewer index.old index.new }
 {
     index.reserve(grammar, links, 0)?;
     index.insert_rule(place)

@@ -9,6 +9,7 @@ ghost use Rattle.slt_grammar.specs.Keyed.{Keyed, rules_of};
 ghost use Rattle.slt_grammar.specs.Ranks.{greatest_rank};
 ghost use Rattle.digram_index.specs.Keeping.{IsIndexBut};
 ghost use Rattle.digram_index.specs.Linked.{IsIndexOf, cell, cell_count};
+ghost use Rattle.digram_index.specs.Marking.{KeepsMarked, MarksFewer};
 ghost use Rattle.digram_index.specs.Settled.{HasTwoDisjoint};
 ghost use Rattle.pair_replace.specs.Chains.{HasApartLinked, HasNoMoreApart, IsHead, IsLinkedAs, LeavesApart};
 ghost use Rattle.pair_replace.specs.Turns.{IsRound, IsTurn};
@@ -63,6 +64,7 @@ pub fn replace(
     ensures values { IfOk result (λ r. (q : ℕ) → q < length grammar.old.rules → value_at (rules_of grammar.new.rules) (shifted r.rule q) ≡ value_at (rules_of grammar.old.rules) q) }
     ensures differ { IfOk result (λ r. digram.upper ≢ digram.lower → r.count ≡ cell_count digram index.old.cells) }
     ensures swept { IsSwept (rules_of grammar.old.rules) → IsSwept (rules_of grammar.new.rules) }
+    ensures marks { KeepsMarked grammar.old.rules index.old grammar.new.rules index.new }
 {
     // The calls tell that a key stands once, before and after.
     let _limit = grammar.limit();
@@ -102,6 +104,7 @@ fn fold_all(
     ensures refused { OnErr result (size (rules_of grammar.new.rules) + 3 ≤ size (rules_of grammar.old.rules)) }
     ensures room { 1 ≤ index.new.spare_links }
     ensures cells { grammar.new.limit ≤ length index.new.cells }
+    ensures marks { KeepsMarked grammar.old.rules index.old grammar.new.rules index.new }
 {
     // The call tells that the count fits.
     let _size = grammar.size();
@@ -132,6 +135,7 @@ fn fold_next(
     ensures less { OnOk result (size (rules_of grammar.new.rules) + 1 ≡ size (rules_of grammar.old.rules)) }
     ensures apart { OnOk result (LeavesApart index.old index.new digram 1) }
     ensures fewer { OnOk result (digram.upper ≢ digram.lower → cell_count digram index.new.cells + 1 ≡ cell_count digram index.old.cells) }
+    ensures marks { KeepsMarked grammar.old.rules index.old grammar.new.rules index.new }
 {
     // The calls tell that a key stands once.
     let _limit = grammar.limit();
@@ -150,6 +154,7 @@ fn make_room(grammar: &Grammar, index: &mut Index, count: u64) -> Result<(), All
     ensures spares { index.old.spare_links ≤ index.new.spare_links }
     ensures room { OnOk result (3 ≤ count → 18 ≤ index.new.spare_links) }
     ensures refused { OnErr result (3 ≤ count) }
+    ensures marks { MarksFewer index.old index.new }
 {
     if count < 3 {
         return Ok(());

@@ -1,4 +1,5 @@
 use Rattle.std.proofs.Common.{arith}
+use Rattle.digram_index.proofs.Marks.{keeps-then}
 use Rattle.pair_replace.proofs.Counts.{none-linked}
 use Rattle.pair_replace.proofs.Rounds.{apart-ends, apart-more, turns-end}
 use Rattle.pair_replace.proofs.replacing.fold_all.Goals as goal
@@ -12,6 +13,7 @@ loop-next-preserved c =
       left = λ d. let a = N.fewer d in let b = I.left d in omega (arith, a, b);
       apart = apart-more c.args.index.now c.loop-next.index c.fold_next.new.index c.args.digram c.loop-next.count I.apart N.apart;
       turn = N.turn;
+      marks = keeps-then c.args.grammar.now.rules c.loop-next.grammar.rules c.fold_next.new.grammar.rules c.args.index.now c.loop-next.index c.fold_next.new.index I.marks c.fold_next.ensures.marks;
     }
 
 pub returns-clause-count : goal.returns-clause-count
@@ -34,3 +36,10 @@ returns-clause-differ c = λ d.
 
 pub returns-clause-none : goal.returns-clause-none
 returns-clause-none c = turns-end c.loop-next.index c.args.digram c.loop-next.next c.loop-next.invariant.turn c.in_default.is
+
+pub returns-in_err-next-clause-marks : goal.returns-in_err-next-clause-marks
+returns-in_err-next-clause-marks c =
+    keeps-then c.args.grammar.now.rules c.loop-next.grammar.rules c.fold_next.new.grammar.rules c.args.index.now c.loop-next.index c.fold_next.new.index c.loop-next.invariant.marks c.fold_next.ensures.marks
+
+pub returns-clause-marks : goal.returns-clause-marks
+returns-clause-marks c = c.loop-next.invariant.marks

@@ -2,6 +2,7 @@ use Rattle.std.proofs.Common.{◌≡◌, ◌≢◌, ◌+◌}
 use Rattle.slt_grammar.specs.Grammars.{size}
 use Rattle.slt_grammar.specs.Keyed.{rules_of}
 use Rattle.digram_index.specs.Linked.{cell_count}
+use Rattle.digram_index.specs.Marking.{KeepsMarked}
 use Rattle.pair_replace.specs.Chains.{LeavesApart}
 use Rattle.pair_replace.specs.Turns.{IsRound, IsTurn}
 use Rattle.pair_replace.proofs.replacing.fold_all.Given as goal
@@ -12,6 +13,7 @@ invariant-loop-next l = record {
   left : l.digram.upper ≢ l.digram.lower → cell_count l.digram l.index.cells + l.count ≡ cell_count l.digram l.fn.index.cells;
   apart : LeavesApart l.fn.index l.index l.digram l.count;
   turn : IsTurn l.index l.digram l.next;
+  marks : KeepsMarked l.fn.grammar.rules l.fn.index l.grammar.rules l.index;
 }
 
 abbrev pub decreases-loop-next : goal.decreases-loop-next

@@ -1,4 +1,5 @@
 use Rattle.std.proofs.Common.{◌∙◌}
+use Rattle.digram_index.proofs.Marks.{keeps-still, keeps-then}
 use Rattle.pair_replace.proofs.Rounds.{round-same, round-next, apart-next, enough, err-says}
 use Rattle.pair_replace.proofs.Counts.{count-alike}
 use Rattle.pair_replace.proofs.FewerCells.{fewer}
@@ -44,3 +45,11 @@ returns-clause-fewer c = λ differ.
     fewer c.args.grammar.now c.fold_at.new.grammar c.limit-limit.ensures.keyed c.limit-folded.ensures.keyed c.args.digram c.args.new.now.place c.args.new.now.lower R.new c.make_room.new.index c.fold_at.new.index R.index f.index
     c.args.lower H differ (f.rules F) (f.others F)
     ∙ count-alike c.args.index.now c.make_room.new.index c.args.digram m.cells
+
+pub returns-clause-marks : goal.returns-clause-marks
+returns-clause-marks c =
+    keeps-then c.args.grammar.now.rules c.args.grammar.now.rules c.fold_at.new.grammar.rules c.args.index.now c.make_room.new.index c.fold_at.new.index
+    (keeps-still c.args.grammar.now.rules c.args.index.now c.make_room.new.index c.make_room.ensures.marks) c.fold_at.ensures.marks
+
+pub returns-in_err-make_room-clause-marks : goal.returns-in_err-make_room-clause-marks
+returns-in_err-make_room-clause-marks c = keeps-still c.args.grammar.now.rules c.args.index.now c.make_room.new.index c.make_room.ensures.marks

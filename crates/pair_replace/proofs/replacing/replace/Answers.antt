@@ -4,6 +4,7 @@ use Rattle.slt_grammar.proofs.RankBounds.{rank-added, rank-same}
 use Rattle.digram_index.proofs.PlainDigrams.{two-apart, three-apart}
 use Rattle.pair_replace.proofs.DisjointLemmas.{all-apart, occurs-there, rule-stays}
 use Rattle.pair_replace.proofs.Ends.{all-called, last-linked}
+use Rattle.pair_replace.proofs.KeptMarks.{keeps-both}
 use Rattle.pair_replace.proofs.replacing.replace.Goals as goal
 
 pub fold_all-count-requires-clause-two : goal.fold_all-count-requires-clause-two
@@ -84,3 +85,13 @@ returns-in_err-count-clause-ranks c =
       rank-added old made c.in_ok-new.new.place _ c.in_ok-new.ensures.made.ranks,
       rank-same made (rules_of c.fold_all-count.new.grammar.rules) c.fold_all-count.ensures.ranks,
     )
+
+pub returns-in_err-count-clause-marks : goal.returns-in_err-count-clause-marks
+returns-in_err-count-clause-marks c =
+    keeps-both c.args.grammar.now.rules c.add_new_rule.new.grammar.rules c.fold_all-count.new.grammar.rules c.args.index.now c.add_new_rule.new.index c.fold_all-count.new.index c.link_node.new.index
+    c.add_new_rule.ensures.marks c.fold_all-count.ensures.marks c.link_node.ensures.marks
+
+pub returns-clause-marks : goal.returns-clause-marks
+returns-clause-marks c =
+    keeps-both c.args.grammar.now.rules c.add_new_rule.new.grammar.rules c.fold_all-count.new.grammar.rules c.args.index.now c.add_new_rule.new.index c.fold_all-count.new.index c.link_node.new.index
+    c.add_new_rule.ensures.marks c.fold_all-count.ensures.marks c.link_node.ensures.marks

@@ -4,6 +4,7 @@ ghost use Rattle.slt_grammar.specs.Grammars.{IsSwept, value};
 ghost use Rattle.slt_grammar.specs.Keyed.{rules_of};
 ghost use Rattle.slt_grammar.specs.Ranks.{greatest_rank};
 ghost use Rattle.digram_index.specs.Linked.{IsIndexOf};
+ghost use Rattle.digram_index.specs.Marking.{KeepsMarked};
 
 use crate::pruning::take_away;
 use crate::savings::saving;
@@ -25,6 +26,7 @@ pub fn dissolve(grammar: &mut Grammar, index: &mut Index, most: u64) -> Result<(
     ensures swept { IsSwept (rules_of grammar.new.rules) }
     ensures ranks { greatest_rank (rules_of grammar.new.rules) ≤ greatest_rank (rules_of grammar.old.rules) }
     ensures index { IsIndexOf grammar.new index.new }
+    ensures marks { KeepsMarked grammar.old.rules index.old grammar.new.rules index.new }
 {
     let mut bound: u64 = 0;
     for _ in 0..ROUNDS {
@@ -47,6 +49,7 @@ fn dissolve_up_to(
     ensures swept { IsSwept (rules_of grammar.new.rules) }
     ensures ranks { greatest_rank (rules_of grammar.new.rules) ≤ greatest_rank (rules_of grammar.old.rules) }
     ensures index { IsIndexOf grammar.new index.new }
+    ensures marks { KeepsMarked grammar.old.rules index.old grammar.new.rules index.new }
 {
     // The rule whose turn it is, once those before it that save so little were taken away.
     let mut rule = 0;

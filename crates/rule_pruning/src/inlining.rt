@@ -7,6 +7,7 @@ ghost use Rattle.slt_grammar.specs.Grammars.{body_at, calls_of, size, value_at};
 ghost use Rattle.slt_grammar.specs.Keyed.{nodes_at, rules_of};
 ghost use Rattle.slt_grammar.specs.KeyedEdits.{IsInlined, StandsAsCall};
 ghost use Rattle.digram_index.specs.Linked.{IsIndexOf};
+ghost use Rattle.digram_index.specs.Marking.{KeepsMarked};
 ghost use Rattle.rule_pruning.specs.Calls.{StandsAsCallOf};
 
 use crate::call_search::{CallSearch, find_call};
@@ -30,6 +31,7 @@ pub(crate) fn inline_calls(grammar: &mut Grammar, index: &mut Index, rule: usize
     ensures size { size (rules_of grammar.new.rules) + calls_of (rules_of grammar.old.rules) rule
         ≡ size (rules_of grammar.old.rules) + calls_of (rules_of grammar.old.rules) rule * real_nodes (body_at (rules_of grammar.old.rules) rule) }
     ensures index { IsIndexOf grammar.new index.new }
+    ensures marks { KeepsMarked grammar.old.rules index.old grammar.new.rules index.new }
 {
     let mut search = CallSearch::new(grammar);
     for _ in 0..grammar.calls(rule) {
@@ -56,6 +58,7 @@ fn inline_call(grammar: &mut Grammar, index: &mut Index, rule: usize, call: Key)
     ensures nodes { grammar.old.spare_nodes ≤ grammar.new.spare_nodes + length (nodes_at grammar.old.rules rule) }
     ensures links { index.old.spare_links ≤ index.new.spare_links + length (nodes_at grammar.old.rules rule) }
     ensures cells { grammar.new.limit ≤ length index.new.cells }
+    ensures marks { KeepsMarked grammar.old.rules index.old grammar.new.rules index.new }
 {
     // The call tells that a key stands once.
     let _limit = grammar.limit();

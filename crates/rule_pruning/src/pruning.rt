@@ -5,6 +5,7 @@ ghost use Rattle.slt_grammar.specs.Grammars.{calls_of, size, value, IsSwept};
 ghost use Rattle.slt_grammar.specs.Keyed.{nodes_at, rules_of};
 ghost use Rattle.slt_grammar.specs.Ranks.{greatest_rank};
 ghost use Rattle.digram_index.specs.Linked.{IsIndexOf};
+ghost use Rattle.digram_index.specs.Marking.{KeepsMarked, MarksFewer};
 ghost use Rattle.rule_pruning.specs.Saving.{AllSave};
 
 use crate::inlining::inline_calls;
@@ -29,6 +30,7 @@ pub fn prune(_alloc: Global, grammar: &mut Grammar, index: &mut Index) -> Result
     ensures ranks { greatest_rank (rules_of grammar.new.rules) ≤ greatest_rank (rules_of grammar.old.rules) }
     ensures index { IsIndexOf grammar.new index.new }
     ensures stays { IsSwept (rules_of grammar.old.rules) → IsSwept (rules_of grammar.new.rules) }
+    ensures marks { KeepsMarked grammar.old.rules index.old grammar.new.rules index.new }
 {
     if all_save(grammar) {
         return Ok(());
@@ -46,6 +48,7 @@ fn sweep(grammar: &mut Grammar, index: &mut Index)
     ensures rules { length grammar.new.rules ≤ length grammar.old.rules }
     ensures ranks { greatest_rank (rules_of grammar.new.rules) ≤ greatest_rank (rules_of grammar.old.rules) }
     ensures index { IsIndexOf grammar.new index.new }
+    ensures marks { KeepsMarked grammar.old.rules index.old grammar.new.rules index.new }
 {
     // A rule calls earlier ones alone: once it is looked at, no later rule loses a call any more.
     let last = grammar.rules() - 1;
@@ -68,6 +71,7 @@ fn prune_swept(grammar: &mut Grammar, index: &mut Index) -> Result<(), AllocErro
     ensures rules { length grammar.new.rules ≤ length grammar.old.rules }
     ensures ranks { greatest_rank (rules_of grammar.new.rules) ≤ greatest_rank (rules_of grammar.old.rules) }
     ensures index { IsIndexOf grammar.new index.new }
+    ensures marks { KeepsMarked grammar.old.rules index.old grammar.new.rules index.new }
 {
     // The rule whose turn it is, once those before it that saved nothing were taken away.
     let mut rule = 0;
@@ -99,6 +103,7 @@ pub(crate) fn take_away(
     ensures fewer { length grammar.new.rules ≤ length grammar.old.rules }
     ensures ranks { greatest_rank (rules_of grammar.new.rules) ≤ greatest_rank (rules_of grammar.old.rules) }
     ensures index { IsIndexOf grammar.new index.new }
+    ensures marks { KeepsMarked grammar.old.rules index.old grammar.new.rules index.new }
 {
     make_room(grammar, index, rule)?;
     inline_calls(grammar, index, rule);
@@ -117,6 +122,7 @@ fn make_room(grammar: &mut Grammar, index: &mut Index, rule: usize) -> Result<()
     ensures nodes { OnOk result (calls_of (rules_of grammar.old.rules) rule * length (nodes_at grammar.old.rules rule) ≤ grammar.new.spare_nodes) }
     ensures links { OnOk result (calls_of (rules_of grammar.old.rules) rule * length (nodes_at grammar.old.rules rule) ≤ index.new.spare_links) }
     ensures cells { OnOk result (grammar.new.limit ≤ length index.new.cells) }
+    ensures marks { MarksFewer index.old index.new }
 {
     let copies = grammar.calls(rule) as usize;
     match copies.checked_mul(body_length(grammar, rule)) {

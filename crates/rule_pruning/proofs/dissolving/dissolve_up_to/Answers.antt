@@ -1,6 +1,7 @@
 use Rattle.std.proofs.Common.{◌+◌, ◌<◌, ℕ, List, length, arith}
 use Rattle.slt_grammar.specs.Keyed.{KeyedRule}
 use Rattle.slt_grammar.proofs.KeyedLemmas.{length-rules_of}
+use Rattle.digram_index.proofs.Marks.{keeps-still, keeps-then}
 use Rattle.rule_pruning.proofs.Taken.{IsTaken}
 use Rattle.rule_pruning.proofs.Dissolved.{dissolving-begins, dissolving-stays, dissolving-takes}
 use Rattle.rule_pruning.proofs.dissolving.dissolve_up_to.Goals as goal
@@ -10,6 +11,7 @@ pub loop-init : goal.loop-init
 loop-init c = record {
   dissolving = dissolving-begins c.args.grammar.now.rules (omega (arith, c.rules-last.ensures.grammar.some, length-rules_of c.args.grammar.now.rules)) c.requires.swept;
   index = c.requires.index;
+  marks = keeps-still c.args.grammar.now.rules c.args.index.now c.args.index.now (λ k m. m);
 }
 
 pub loop-preserved : goal.loop-preserved
@@ -21,14 +23,18 @@ loop-preserved c =
     let I = c.loop.invariant in
     let more : turn + 1 < length F = omega (arith, c.loop-test.true, c.rules-last.ensures.value) in
     elim c.if-stays.branch [
-      | then-stays w ↦ rw (w.grammar-is, w.index-is, w.rule-is) (record { dissolving = dissolving-stays F G rule turn I.dissolving more; index = I.index })
+      | then-stays w ↦ rw (w.grammar-is, w.index-is, w.rule-is) (record { dissolving = dissolving-stays F G rule turn I.dissolving more; index = I.index; marks = I.marks })
       | else-stays+in_ok-take_away w ↦
           let E = w.in_ok-take_away.ensures in
           let T : IsTaken G w.take_away.new.grammar.rules rule = record { rules = E.rules; swept = E.swept; save = E.save; size = E.size; ranks = E.ranks } in
-          rw (w.grammar-is, w.index-is, w.rule-is) (record { dissolving = dissolving-takes F G rule turn I.dissolving more w.take_away.new.grammar.rules T E.value; index = E.index })
+          rw (w.grammar-is, w.index-is, w.rule-is) (record { dissolving = dissolving-takes F G rule turn I.dissolving more w.take_away.new.grammar.rules T E.value; index = E.index; marks = keeps-then F G w.take_away.new.grammar.rules c.args.index.now c.loop.index w.take_away.new.index I.marks E.marks })
     ]
 
 pub overflow_add-rule : goal.overflow_add-rule
 overflow_add-rule c =
     let I = c.loop.invariant in
     omega (arith, I.dissolving.left, I.dissolving.fewer, I.dissolving.within, c.rules-last.ensures.value, c.loop-test.true)
+
+pub returns-in_err-take_away-clause-marks : goal.returns-in_err-take_away-clause-marks
+returns-in_err-take_away-clause-marks c =
+    keeps-then c.args.grammar.now.rules c.loop.grammar.rules c.take_away.new.grammar.rules c.args.index.now c.loop.index c.take_away.new.index c.loop.invariant.marks c.in_err-take_away.ensures.marks

@@ -2,6 +2,7 @@ use Rattle.std.proofs.Common.{◌≤◌, ◌+◌, ◌*◌, ℕ, List, length, sy
 use Rattle.rule_arena.specs.Terms.{Node}
 use Rattle.slt_grammar.specs.Grammars.{calls_of}
 use Rattle.slt_grammar.specs.Keyed.{nodes_at, rules_of}
+use Rattle.digram_index.proofs.Marks.{keeps-then}
 use Rattle.rule_pruning.proofs.InlineCalls.{inlining-next, as-call, room-left, room-next}
 use Rattle.rule_pruning.proofs.inlining.inline_calls.Goals as goal
 
@@ -44,4 +45,5 @@ loop-preserved c =
       nodes = room-next (n * s) c.loop.counter s c.loop.grammar.spare_nodes c.inline_call.new.grammar.spare_nodes I.nodes nodes;
       links = room-next (n * s) c.loop.counter s c.loop.index.spare_links c.inline_call.new.index.spare_links I.links links;
       cells = E.cells;
+      marks = keeps-then c.args.grammar.now.rules c.loop.grammar.rules c.inline_call.new.grammar.rules c.args.index.now c.loop.index c.inline_call.new.index I.marks E.marks;
     }

@@ -5,6 +5,7 @@ use Rattle.slt_grammar.specs.Ranks.{greatest_rank}
 use Rattle.slt_grammar.proofs.KeyedLemmas.{length-rules_of}
 use Rattle.slt_grammar.proofs.KeyedRemovals.{called-on}
 use Rattle.slt_grammar.proofs.RankBounds.{rank-dropped}
+use Rattle.digram_index.proofs.Marks.{keeps-still, keeps-then}
 use Rattle.rule_pruning.proofs.Turns.{one-fewer}
 use Rattle.rule_pruning.proofs.pruning.sweep.Goals as goal
 
@@ -15,6 +16,7 @@ loop-rule-init c =
     let n = length-rules_of c.args.grammar.now.rules in
     record {
       index = c.requires;
+      marks = keeps-still c.args.grammar.now.rules c.args.index.now c.args.index.now (λ k m. m);
       value = refl;
       size = omega arith;
       fewer = omega arith;
@@ -37,6 +39,7 @@ loop-rule-preserved-then-calls-eq0 c =
     let w = called-on c.loop-rule.grammar.rules p c.rules-rules.ensures.grammar h u (λ q k l. I.called q (omega (arith, c.loop-rule-test.true, k)) l) in
     record {
       index = E.index;
+      marks = keeps-then c.args.grammar.now.rules c.loop-rule.grammar.rules c.drop_linked.new.grammar.rules c.args.index.now c.loop-rule.index c.drop_linked.new.index I.marks E.marks;
       value = E.value ∙ I.value;
       size = omega (arith, I.size, E.size);
       fewer = omega (arith, I.fewer, one-fewer c.loop-rule.grammar.rules p h, ap length e);

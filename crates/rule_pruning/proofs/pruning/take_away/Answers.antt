@@ -1,6 +1,7 @@
 use Rattle.std.proofs.Common.{refl, arith}
 use Rattle.slt_grammar.specs.Grammars.{calls_of}
 use Rattle.slt_grammar.specs.Keyed.{rules_of}
+use Rattle.digram_index.proofs.Marks.{keeps-still, keeps-then}
 use Rattle.rule_pruning.proofs.Taken.{IsTaken, taken}
 use Rattle.rule_pruning.proofs.pruning.take_away.Goals as goal
 
@@ -27,3 +28,10 @@ returns-clause-fewer c = let r = (is_taken c).rules in omega (arith, r)
 
 pub returns-clause-ranks : goal.returns-clause-ranks
 returns-clause-ranks c = (is_taken c).ranks
+
+pub returns-clause-marks : goal.returns-clause-marks
+returns-clause-marks c =
+    let M = rw c.in_ok-make_room.ensures.rules at c.inline_calls.ensures.marks in
+    keeps-then c.args.grammar.now.rules c.args.grammar.now.rules c.drop_linked.new.grammar.rules c.args.index.now c.make_room.new.index c.drop_linked.new.index
+    (keeps-still c.args.grammar.now.rules c.args.index.now c.make_room.new.index c.in_ok-make_room.ensures.marks)
+    (keeps-then c.args.grammar.now.rules c.inline_calls.new.grammar.rules c.drop_linked.new.grammar.rules c.make_room.new.index c.inline_calls.new.index c.drop_linked.new.index M c.drop_linked.ensures.marks)

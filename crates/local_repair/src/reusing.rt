@@ -6,6 +6,7 @@ ghost use Rattle.slt_grammar.specs.Keyed.{rules_of};
 ghost use Rattle.slt_grammar.specs.KeyedEdits.{Stands};
 ghost use Rattle.slt_grammar.specs.Ranks.{greatest_rank};
 ghost use Rattle.digram_index.specs.Linked.{IsIndexOf, cell};
+ghost use Rattle.digram_index.specs.Marking.{KeepsMarked};
 ghost use Rattle.local_repair.specs.Settling.{IsNoLarger};
 ghost use Rattle.local_repair.specs.Reusing.{BeginsWithin};
 
@@ -31,6 +32,7 @@ pub(crate) fn reuse_rules(grammar: &mut Grammar, index: &mut Index) -> Result<()
     ensures kept { IsNoLarger (rules_of grammar.old.rules) (rules_of grammar.new.rules) }
     ensures ranks { greatest_rank (rules_of grammar.new.rules) ≡ greatest_rank (rules_of grammar.old.rules) }
     ensures index { IsIndexOf grammar.new index.new }
+    ensures marks { KeepsMarked grammar.old.rules index.old grammar.new.rules index.new }
 {
     for _ in 0..NODES {
         let Some(lower) = index.take_touched() else {
@@ -50,6 +52,7 @@ fn reuse_at(grammar: &mut Grammar, index: &mut Index, lower: Key) -> Result<(), 
     ensures kept { IsNoLarger (rules_of grammar.old.rules) (rules_of grammar.new.rules) }
     ensures ranks { greatest_rank (rules_of grammar.new.rules) ≡ greatest_rank (rules_of grammar.old.rules) }
     ensures index { IsIndexOf grammar.new index.new }
+    ensures marks { KeepsMarked grammar.old.rules index.old grammar.new.rules index.new }
 {
     let _limit = grammar.limit();
     let Some(upper) = inner_upper(grammar, lower) else {

@@ -5,6 +5,7 @@ ghost use Rattle.slt_grammar.specs.Grammars.{size};
 ghost use Rattle.slt_grammar.specs.Keyed.{rules_of};
 ghost use Rattle.slt_grammar.specs.Ranks.{greatest_rank};
 ghost use Rattle.digram_index.specs.Linked.{IsIndexOf};
+ghost use Rattle.digram_index.specs.Marking.{KeepsMarked};
 ghost use Rattle.local_repair.specs.Settling.{IsLargerAtMost, IsNoLarger};
 ghost use Rattle.slt_grammar.specs.declared.digram.Digram.{Digram};
 
@@ -45,6 +46,7 @@ pub fn settle_touched(
     ensures kept { IsNoLarger (rules_of grammar.old.rules) (rules_of grammar.new.rules) }
     ensures ranks { greatest_rank (rules_of grammar.new.rules) ≤ max bound (greatest_rank (rules_of grammar.old.rules)) }
     ensures index { IsIndexOf grammar.new index.new }
+    ensures marks { KeepsMarked grammar.old.rules index.old grammar.new.rules index.new }
 {
     reuse_rules(grammar, index)?;
     let begin = weight(grammar);
@@ -87,6 +89,7 @@ fn alternate(
     ensures kept { IsNoLarger (rules_of grammar.old.rules) (rules_of grammar.new.rules) }
     ensures ranks { greatest_rank (rules_of grammar.new.rules) ≤ max bound (greatest_rank (rules_of grammar.old.rules)) }
     ensures index { IsIndexOf grammar.new index.new }
+    ensures marks { KeepsMarked grammar.old.rules index.old grammar.new.rules index.new }
 {
     prune(alloc, grammar, index)?;
     while let Some(digram) = index.top(grammar, bound) {
@@ -110,6 +113,7 @@ fn replace_all(
     ensures kept { IsNoLarger (rules_of grammar.old.rules) (rules_of grammar.new.rules) }
     ensures ranks { greatest_rank (rules_of grammar.new.rules) ≤ max bound (greatest_rank (rules_of grammar.old.rules)) }
     ensures index { IsIndexOf grammar.new index.new }
+    ensures marks { KeepsMarked grammar.old.rules index.old grammar.new.rules index.new }
 {
     while let Some(digram) = index.top(grammar, bound) {
         replace(alloc, grammar, index, digram)?;
@@ -131,6 +135,7 @@ fn replace_twice(
     ensures kept { IsLargerAtMost times (rules_of grammar.old.rules) (rules_of grammar.new.rules) }
     ensures ranks { greatest_rank (rules_of grammar.new.rules) ≤ max bound (greatest_rank (rules_of grammar.old.rules)) }
     ensures index { IsIndexOf grammar.new index.new }
+    ensures marks { KeepsMarked grammar.old.rules index.old grammar.new.rules index.new }
 {
     for done in 0..times {
         let _done = done;

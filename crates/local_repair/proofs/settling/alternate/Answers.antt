@@ -1,4 +1,5 @@
 use Rattle.std.proofs.Common.{arith}
+use Rattle.digram_index.proofs.Marks.{keeps-then}
 use Rattle.local_repair.proofs.Settlings.{no-larger-then, no-larger-replaced, no-larger-both, no-larger-pruned}
 use Rattle.local_repair.proofs.settling.alternate.Goals as goal
 
@@ -11,6 +12,7 @@ loop-digram-init c =
       kept = no-larger-pruned _ _ P.value P.stays P.size P.rules;
       ranks = omega (arith, P.ranks);
       index = P.index;
+      marks = P.marks;
     }
 
 pub returns-in_err-replace-clause-kept : goal.returns-in_err-replace-clause-kept
@@ -34,6 +36,10 @@ loop-digram-preserved c =
       kept = no-larger-then _ _ _ (no-larger-then _ _ _ (no-larger-then _ _ _ c.loop-digram.invariant.kept (no-larger-replaced _ _ R.value R.swept _ (R.three c.in-Some.ensures.three) R.rules R.size)) A.kept) (no-larger-pruned _ _ P.value P.stays P.size P.rules);
       ranks = omega (arith, c.loop-digram.invariant.ranks, c.in-Some.ensures.within, R.ranks, A.ranks, P.ranks);
       index = P.index;
+      marks =
+          keeps-then c.args.grammar.now.rules c.replace_all.new.grammar.rules c.prune-in-Some.new.grammar.rules c.args.index.now c.replace_all.new.index c.prune-in-Some.new.index
+          (keeps-then c.args.grammar.now.rules c.replace.new.grammar.rules c.replace_all.new.grammar.rules c.args.index.now c.replace.new.index c.replace_all.new.index (keeps-then c.args.grammar.now.rules c.loop-digram.grammar.rules c.replace.new.grammar.rules c.args.index.now c.loop-digram.index c.replace.new.index c.loop-digram.invariant.marks c.in_ok-replace.ensures.marks) A.marks)
+          P.marks;
     }
 
 pub returns-in_err-prune-2-clause-kept : goal.returns-in_err-prune-2-clause-kept
@@ -53,3 +59,19 @@ returns-in_err-replace_all-clause-ranks c =
 pub returns-in_err-prune-2-clause-ranks : goal.returns-in_err-prune-2-clause-ranks
 returns-in_err-prune-2-clause-ranks c =
     omega (arith, c.loop-digram.invariant.ranks, c.in-Some.ensures.within, c.in_ok-replace.ensures.ranks, c.in_ok-replace_all.ensures.ranks, c.in_err-prune-2.ensures.ranks)
+
+pub returns-in_err-replace-clause-marks : goal.returns-in_err-replace-clause-marks
+returns-in_err-replace-clause-marks c =
+    keeps-then c.args.grammar.now.rules c.loop-digram.grammar.rules c.replace.new.grammar.rules c.args.index.now c.loop-digram.index c.replace.new.index c.loop-digram.invariant.marks c.in_err-replace.ensures.marks
+
+pub returns-in_err-replace_all-clause-marks : goal.returns-in_err-replace_all-clause-marks
+returns-in_err-replace_all-clause-marks c =
+    keeps-then c.args.grammar.now.rules c.replace.new.grammar.rules c.replace_all.new.grammar.rules c.args.index.now c.replace.new.index c.replace_all.new.index
+    (keeps-then c.args.grammar.now.rules c.loop-digram.grammar.rules c.replace.new.grammar.rules c.args.index.now c.loop-digram.index c.replace.new.index c.loop-digram.invariant.marks c.in_ok-replace.ensures.marks)
+    c.in_err-replace_all.ensures.marks
+
+pub returns-in_err-prune-2-clause-marks : goal.returns-in_err-prune-2-clause-marks
+returns-in_err-prune-2-clause-marks c =
+    keeps-then c.args.grammar.now.rules c.replace_all.new.grammar.rules c.prune-in-Some.new.grammar.rules c.args.index.now c.replace_all.new.index c.prune-in-Some.new.index
+    (keeps-then c.args.grammar.now.rules c.replace.new.grammar.rules c.replace_all.new.grammar.rules c.args.index.now c.replace.new.index c.replace_all.new.index (keeps-then c.args.grammar.now.rules c.loop-digram.grammar.rules c.replace.new.grammar.rules c.args.index.now c.loop-digram.index c.replace.new.index c.loop-digram.invariant.marks c.in_ok-replace.ensures.marks) c.in_ok-replace_all.ensures.marks)
+    c.in_err-prune-2.ensures.marks

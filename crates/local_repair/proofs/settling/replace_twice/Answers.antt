@@ -1,4 +1,5 @@
 use Rattle.std.proofs.Common.{arith}
+use Rattle.digram_index.proofs.Marks.{keeps-then}
 use Rattle.local_repair.proofs.Settlings.{larger-then, larger-within, larger-replaced, larger-refused}
 use Rattle.local_repair.proofs.settling.replace_twice.Goals as goal
 
@@ -9,6 +10,7 @@ loop-done-preserved c =
       kept = larger-then _ _ _ _ c.loop-done.invariant.kept (larger-replaced _ _ R.value R.swept _ R.count R.rules R.size);
       ranks = omega (arith, c.loop-done.invariant.ranks, c.in-Some.ensures.within, R.ranks);
       index = R.index;
+      marks = keeps-then c.args.grammar.now.rules c.loop-done.grammar.rules c.replace.new.grammar.rules c.args.index.now c.loop-done.index c.replace.new.index c.loop-done.invariant.marks R.marks;
     }
 
 pub returns-in_err-replace-clause-kept : goal.returns-in_err-replace-clause-kept
@@ -18,3 +20,7 @@ returns-in_err-replace-clause-kept c =
 
 pub returns-in_err-replace-clause-ranks : goal.returns-in_err-replace-clause-ranks
 returns-in_err-replace-clause-ranks c = omega (arith, c.loop-done.invariant.ranks, c.in-Some.ensures.within, c.in_err-replace.ensures.ranks)
+
+pub returns-in_err-replace-clause-marks : goal.returns-in_err-replace-clause-marks
+returns-in_err-replace-clause-marks c =
+    keeps-then c.args.grammar.now.rules c.loop-done.grammar.rules c.replace.new.grammar.rules c.args.index.now c.loop-done.index c.replace.new.index c.loop-done.invariant.marks c.in_err-replace.ensures.marks

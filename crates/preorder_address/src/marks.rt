@@ -1,5 +1,7 @@
 // Marks of the start, from which a search may begin.
 ghost use Rattle.std.specs.Prelude.{◌≡◌, ℕ, ◌<◌, ◌≤◌, ◌-◌, ◌+◌, List, All, Some, IfSome, length, take};
+ghost use Rattle.std.specs.Fn.{CalledAt};
+ghost use Rattle.std.specs.List.Retain.{IsFiltered};
 ghost use Rattle.plain_tree.specs.declared.kind.Kind.{Kind};
 ghost use Rattle.slt_grammar.specs.Keyed.{IsKeyed, Keyed, KeyedRule};
 ghost use Rattle.segment_counts.specs.Counting.{weight_by};
@@ -25,6 +27,13 @@ pub struct Mark {
 }
 
 impl Mark {
+    /// The key of the node.
+    pub fn key(&self) -> Key
+        ensures { result ≡ self.now.key }
+    {
+        self.key
+    }
+
     // A walk that stands at the node.
     pub(crate) fn walk(&self) -> TourWalk
         ensures { result ≡ record { key = self.now.key; part = 0; last = self.now.key } }
@@ -64,6 +73,21 @@ impl Marks {
         ensures { (names : List (Kind × List ℕ)) (G : List KeyedRule) → AreMarks names G self.new }
     {
         self.list.clear();
+    }
+
+    /// The marks, in the order in which their nodes stood when they were marked.
+    pub fn as_slice(&self) -> &[Mark]
+        ensures { result.now ≡ self.now }
+    {
+        self.list.as_slice()
+    }
+
+    /// Keeps the marks for which a test holds, in their order.
+    pub fn retain<F: FnMut(&Mark) -> bool>(&mut self, keep: F)
+        requires { F.IsAlwaysCallable keep }
+        ensures { IsFiltered (CalledAt F.FnMut) keep self.old self.new }
+    {
+        self.list.retain(keep);
     }
 
     /// Takes away the marks that don't stand before this one, and all where there is none. Those that stay are marks of each grammar whose

@@ -5,5 +5,7 @@
 #![tactic(auto)]
 
 mod laws;
+mod marking;
 
 pub use laws::{marks_stay, stops_weigh_their_labels};
+pub use marking::{keep_marked, mark_nodes};

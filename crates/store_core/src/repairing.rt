@@ -20,6 +20,7 @@ use crate::refreshing::refresh;
 use digram_index::{Index, build};
 use local_repair::{settle, settle_touched};
 use slt_grammar::Grammar;
+use start_marks::{keep_marked, mark_nodes};
 use std::alloc::{AllocError, Global};
 use tree_updates::Store;
 
@@ -96,6 +97,7 @@ pub(crate) fn take_over(store: &mut Store, settled: Settled) -> Result<(), Alloc
 pub(crate) fn settle_store(alloc: Global, store: &mut Store, rank: usize) -> Result<(), AllocError>
     requires rank { rank ≤ 8 }
     requires store { (t : Tree) × IsStoreFor store.old t }
+    requires marks { HasMarks store.old }
     ensures settled { OnOk result (IsSettled (rules_of store.new.grammar.rules) rank) }
     ensures store { (t : Tree) → IsStoreFor store.old t → IsStoreFor store.new t }
     ensures grammar { IsGrammar (rules_of store.new.grammar.rules) }
@@ -113,6 +115,7 @@ pub(crate) fn settle_store(alloc: Global, store: &mut Store, rank: usize) -> Res
 fn settle_in_place(alloc: Global, store: &mut Store, rank: usize) -> Result<(), AllocError>
     requires rank { rank ≤ 8 }
     requires store { (t : Tree) × IsStoreFor store.old t }
+    requires marks { HasMarks store.old }
     ensures settled { OnOk result (IsSettled (rules_of store.new.grammar.rules) rank) }
     ensures store { (t : Tree) → IsStoreFor store.old t → IsStoreFor store.new t }
     ensures grammar { IsGrammar (rules_of store.new.grammar.rules) }
@@ -123,9 +126,10 @@ fn settle_in_place(alloc: Global, store: &mut Store, rank: usize) -> Result<(), 
     // The calls tell what is true of every grammar.
     let _before = store.grammar.rules();
     let most = most_rules(&store.grammar);
-    store.marks.clear();
     store.counts.reserve(most)?;
+    mark_nodes(&store.marks, &mut store.index);
     let settled = settle_touched(alloc, &mut store.grammar, &mut store.index, rank);
+    keep_marked(&mut store.marks, &store.index);
     let _behind = store.grammar.rules();
     store.counts.update(&store.grammar, &store.names);
     settled

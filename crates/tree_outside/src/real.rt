@@ -76,7 +76,8 @@ impl<W: Write> Model for RealSink<W> {
 }
 
 impl<W: Write> RealSink<W> {
-    /// A sink over this writer. Each write goes on until all is written, and flushes; an error or an empty write is a fault.
+    /// A sink over this writer. Each write goes on until all is taken, and flushes where it ends a line; an error or an empty write is
+    /// a fault.
     pub fn new(output: W) -> RealSink<W>
         ensures { result ≡ 0 }
     {
@@ -102,8 +103,12 @@ impl<W: Write> Sink for RealSink<W> {
     }
 }
 
-// `write_all` goes on after a short write and after an interrupted one, and takes an empty one as an error.
+// `write_all` goes on after a short write and after an interrupted one, and takes an empty one as an error. A writer may gather what it
+// takes up to the end of a line, so that many pieces of a document go out at once, and each answer when it is whole.
 fn write_whole<W: Write>(output: &mut W, bytes: &[u8]) -> io::Result<()> {
     output.write_all(bytes)?;
+    if !bytes.ends_with(b"\n") {
+        return Ok(());
+    }
     output.flush()
 }

@@ -4,7 +4,7 @@
 ghost use Rattle.std.specs.Prelude.{◌≡◌, ◌<◌};
 
 use read_steps::Steps;
-use std::io::ErrorKind;
+use std::io::{BufWriter, ErrorKind};
 use std::marker::Brand;
 use std::process::ExitCode;
 use std::rt::Env;
@@ -39,9 +39,12 @@ fn run<L: Ledger>(rt: &HostRuntime, blank: Blank) -> Status
         Err(status) => return status,
     };
     let alloc = rt.alloc();
+    let Ok(output) = BufWriter::new(alloc, io::writer(rt)) else {
+        return Status::Memory;
+    };
     let mut session = Session::new();
     let mut source = RealSource::new(rt.reader());
-    let mut sink = RealSink::new(io::writer(rt));
+    let mut sink = RealSink::new(output);
     let mut shelf = RealShelf::new(alloc, rt);
     let mut steps: Steps<L> = Steps::new(blank);
     serve(

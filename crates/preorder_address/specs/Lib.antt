@@ -12,4 +12,5 @@ pub mod Parents
 pub mod Spots
 pub mod Ranges
 pub mod Marks
+pub mod Shifted
 pub mod Starting

@@ -42,7 +42,7 @@ all-flagged : (ranks : List ℕ) (key : Key) (f : ℕ) (gs : List (List Node)) �
 all-flagged ranks key f [] a = tt
 all-flagged ranks key f (g ∷ gs) a = (flagged-terms ranks key f 1 g a.0, all-flagged ranks key f gs a.1)
 
-spread-stops : (R : List Rule) (ms : List (Stop Node)) (k : List Label) → spread (λ m. part_of R m.item.label m.part) ms k ≡ spread (piece R) (stops_map (λ n. n.label) ms) k
+pub spread-stops : (R : List Rule) (ms : List (Stop Node)) (k : List Label) → spread (λ m. part_of R m.item.label m.part) ms k ≡ spread (piece R) (stops_map (λ n. n.label) ms) k
 spread-stops R [] k = refl
 spread-stops R (m ∷ ms) k = ap (λ ls. part_of R m.item.label m.part ++ ls) (spread-stops R ms k)
 

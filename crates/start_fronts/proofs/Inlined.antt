@@ -87,7 +87,7 @@ module _ (G : List KeyedRule) (r p q : ℕ) (call : Key) (keys : List Key) (L : 
       ∙ ap (λ (xs : List Node). take p ns ++ (copied callee args keys ++ xs)) (behind (ranks_of (rules_of G)) ns p call callee keys fits there holes)
 
   -- the key of a node that stays is none of the copy's
-  not-new : Once H r → (i : ℕ) (key : Key) → key_at G r i ≡ Some key → call ≢ key → times key (copied callee [] keys) ≡ 0
+  pub not-new : Once H r → (i : ℕ) (key : Key) → key_at G r i ≡ Some key → call ≢ key → times key (copied callee [] keys) ≡ 0
   not-new once i key e d =
       omega (
         arith,

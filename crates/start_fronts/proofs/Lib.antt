@@ -10,3 +10,13 @@ pub mod Alike
 pub mod Composing
 pub mod Renumbered
 pub mod Called
+pub mod Stacks
+pub mod Windows
+pub mod Starts
+pub mod Moving
+pub mod Relabelled
+pub mod Lifted
+pub mod Wrapped
+pub mod Shared
+pub mod Holes
+pub mod Isolated

@@ -82,7 +82,7 @@ module _ (G H : List Rule) (place : ℕ) where
   alike-same v [] = tt
   alike-same v (n ∷ ns) = (record { key = refl; kids = refl; parts = part-same G H v n.label }, alike-same v ns)
 
-start-calls : (G : List KeyedRule) → IsLawful G → CallsBelow (length G - 1) (labels_of (nodes_at G (length G - 1)))
+pub start-calls : (G : List KeyedRule) → IsLawful G → CallsBelow (length G - 1) (labels_of (nodes_at G (length G - 1)))
 start-calls G L =
     let some = L.grammar.some in
     subst (λ (ls : List Label). CallsBelow (length G - 1) ls) (body_at-rules_of G (length G - 1))

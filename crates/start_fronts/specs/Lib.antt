@@ -1,3 +1,6 @@
 pub mod Before
 pub mod Alike
+pub mod Moved
+pub mod Isolating
+pub mod Edits
 pub mod Laws

@@ -1,0 +1,5 @@
+use Rattle.start_fronts.proofs.Moving.{kept-then-moved, moved-then-kept, old-keys-go}
+use Rattle.start_fronts.proofs.edits.moves_compose.Goals as goal
+
+pub returns : goal.returns
+returns c = record { kept = kept-then-moved; moved = moved-then-kept; fewer = old-keys-go }

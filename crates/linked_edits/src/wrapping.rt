@@ -5,7 +5,7 @@ ghost use Rattle.slt_grammar.specs.ChangedValues.{StandsWithin};
 ghost use Rattle.slt_grammar.specs.Grammars.{size};
 ghost use Rattle.slt_grammar.specs.Keyed.{key_at, nodes_at, rules_of};
 ghost use Rattle.slt_grammar.specs.RuleValues.{HaveOtherValues};
-ghost use Rattle.slt_grammar.specs.Wrapping.{IsInStart, IsWrapper};
+ghost use Rattle.slt_grammar.specs.Wrapping.{IsInStart, IsWrapped, IsWrapper};
 ghost use Rattle.digram_index.specs.Linked.{IsIndexOf};
 ghost use Rattle.linked_edits.specs.Endings.{EndsInParam, IsBelow};
 ghost use Rattle.linked_edits.specs.Runs.{start_of};
@@ -27,6 +27,8 @@ pub fn wrap_linked(grammar: &mut Grammar, index: &mut Index, at: Key, body: &Bod
     requires nodes { length body.now ≤ grammar.old.spare_nodes }
     requires links { length body.now ≤ index.old.spare_links }
     requires cells { grammar.old.limit ≤ length index.old.cells }
+    ensures rules { (S : IsInStart grammar.old.rules at)
+        → IsWrapped grammar.old.rules grammar.new.rules S.here.rule S.here.place at body.now }
     ensures value { (S : IsInStart grammar.old.rules at)
         → StandsWithin (rules_of grammar.old.rules) (rules_of grammar.new.rules) S.here.place body.now }
     ensures values { HaveOtherValues (length (rules_of grammar.old.rules) - 1) (rules_of grammar.old.rules) (rules_of grammar.new.rules) }

@@ -5,3 +5,4 @@ pub mod Around
 pub mod Walks
 pub mod Lengths
 pub mod Elsewhere
+pub mod Before

@@ -1,11 +1,14 @@
 // The calls of a chain, inlined one after another while an index is kept.
-ghost use Rattle.std.specs.Prelude.{◌≡◌, ◌≤◌, ◌+◌, ◌*◌, ◌∷◌, ℕ, List, length};
+ghost use Rattle.std.specs.Prelude.{◌≡◌, ◌≤◌, ◌+◌, ◌*◌, [], ◌∷◌, ℕ, List, length};
 ghost use Rattle.slt_grammar.specs.Bodies.{real_nodes};
 ghost use Rattle.slt_grammar.specs.ChangedValues.{start_body};
 ghost use Rattle.slt_grammar.specs.Grammars.{size, value_at};
 ghost use Rattle.slt_grammar.specs.Keyed.{KeyedRule, nodes_at, rules_of};
 ghost use Rattle.slt_grammar.specs.Ways.{HaveSameRules};
+ghost use Rattle.rule_arena.specs.declared.key.Key.{Key};
 ghost use Rattle.slt_grammar.specs.declared.level.Level.{Level};
+ghost use Rattle.start_fronts.specs.Before.{KeepsBefore};
+ghost use Rattle.start_fronts.specs.Isolating.{KeepsButFirst};
 ghost use Rattle.digram_index.specs.Linked.{IsIndexOf};
 ghost use Rattle.path_isolation.specs.Chains.{IsChain};
 ghost use Rattle.path_isolation.specs.Isolations.{DifferInStart, IsIsolated, IsSameInFront, Walk, calls_along, come_along, room_along};
@@ -36,6 +39,7 @@ pub fn isolate_linked<W: Way, L: Ledger>(
     ensures node { (ps : List ℕ) → IsChain grammar.old.rules (W.levels way grammar.old.rules) ps
         → IsIsolated grammar.old.rules grammar.new.rules (W.levels way grammar.old.rules) ps result }
     ensures front { (ps : List ℕ) → IsChain grammar.old.rules (W.levels way grammar.old.rules) ps → IsSameInFront grammar.old.rules grammar.new.rules ps result }
+    ensures before { (l : Level) (ls : List Level) → W.levels way grammar.old.rules ≡ l ∷ ls → KeepsBefore (l.key ∷ []) grammar.old.rules grammar.new.rules }
     ensures size { size (rules_of grammar.new.rules) + calls_along (W.levels way grammar.old.rules)
         ≡ size (rules_of grammar.old.rules) + come_along grammar.old.rules (W.levels way grammar.old.rules) }
     ensures most { size (rules_of grammar.new.rules) + real_nodes (start_body (rules_of grammar.old.rules)) ≤ 2 * size (rules_of grammar.old.rules) }
@@ -68,6 +72,7 @@ fn follow_linked(grammar: &mut Grammar, index: &mut Index, here: Key, level: Lev
         → Walk G levels qs grammar.old.rules here (level ∷ ls) → Walk G levels qs grammar.new.rules result ls }
     ensures kept { (G : List KeyedRule) (levels : List Level) (qs : List ℕ) (ls : List Level)
         → Walk G levels qs grammar.old.rules here (level ∷ ls) → HaveSameRules ls grammar.old.rules grammar.new.rules }
+    ensures before { (G : List KeyedRule) (first : Key) → KeepsButFirst G grammar.old.rules first here → KeepsButFirst G grammar.new.rules first result }
     ensures index { IsIndexOf grammar.new index.new }
     ensures spare_nodes { grammar.old.spare_nodes ≤ grammar.new.spare_nodes + length (nodes_at grammar.old.rules level.rule) }
     ensures links { index.old.spare_links ≤ index.new.spare_links + length (nodes_at grammar.old.rules level.rule) }
@@ -76,7 +81,9 @@ fn follow_linked(grammar: &mut Grammar, index: &mut Index, here: Key, level: Lev
     ensures limit { grammar.new.limit ≡ grammar.old.limit }
     ensures cells { length index.old.cells ≤ length index.new.cells }
 {
-    // The call tells that a key stands once.
-    let _limit = grammar.limit();
-    inline_linked(grammar, index, here, level.key).followed
+    // The calls tell that a key stands once, before and after.
+    let _before = grammar.limit();
+    let inlined = inline_linked(grammar, index, here, level.key);
+    let _after = grammar.limit();
+    inlined.followed
 }

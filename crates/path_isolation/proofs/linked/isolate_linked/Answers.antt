@@ -1,8 +1,11 @@
 use Rattle.std.proofs.Common.{◌≡◌, ◌∷◌, ◌+◌, ℕ, List, length, refl, sym, ap, ◌∙◌, subst, arith}
+use Rattle.rule_arena.specs.declared.key.Key.{Key}
 use Rattle.slt_grammar.specs.Holding.{IsLawful}
 use Rattle.slt_grammar.specs.Keyed.{KeyedRule, nodes_at}
 use Rattle.slt_grammar.specs.Ways.{HaveSameRules}
 use Rattle.slt_grammar.specs.declared.level.Level.{Level}
+use Rattle.start_fronts.specs.Isolating.{KeepsButFirst}
+use Rattle.start_fronts.proofs.Isolated.{begins}
 use Rattle.path_isolation.specs.Chains.{IsChain, weight_of}
 use Rattle.path_isolation.specs.Isolations.{Walk, room_along}
 use Rattle.path_isolation.proofs.ChainLemmas.{as-before, weight-same}
@@ -23,6 +26,7 @@ loop-level-init g c =
     record {
       ready = c.first_key-here.ensures.ready;
       walk = w;
+      before = λ x xs e. subst (λ (k : Key). KeepsButFirst G G x.key k) (sym (c.first_key-here.ensures.key x xs e).0) (begins G x.key);
       spare = omega (arith, ap (weight_of length G) k.1, ap (λ (ls : List Level). room_along G ls) s.2);
       index = c.requires.index;
       links = omega (arith, ap (weight_of length G) k.1, ap (λ (ls : List Level). room_along G ls) s.2);
@@ -54,6 +58,7 @@ loop-level-preserved g c =
     record {
       ready = g.met.W.Way.ready_stays c.next.new.self H K c.next.ensures.ready kept;
       walk = λ ps h. subst (λ ls. Walk G lv ps K c.follow_linked-here.result ls) (sym same) (c.follow_linked-here.ensures.walk G lv ps rest (before ps h));
+      before = λ x xs e. c.follow_linked-here.ensures.before G x.key (c.loop-level.invariant.before x xs e);
       spare = omega (arith, weights, spent, c.loop-level.invariant.spare, c.follow_linked-here.ensures.spare_nodes);
       index = c.follow_linked-here.ensures.index;
       links = omega (arith, weights, spent, c.loop-level.invariant.links, c.follow_linked-here.ensures.links);
@@ -109,3 +114,6 @@ returns-clause-front g c = λ ps h.
     let lv : List Level = g.W.Way.levels c.args.way G in
     let H : List KeyedRule = c.loop-level.grammar.rules in
     walk-front G lv (g.W.Way.levels c.loop-level.way H) ps H c.loop-level.here (c.loop-level.invariant.walk ps h)
+
+pub returns-clause-before : goal.returns-clause-before
+returns-clause-before g c = λ l ls e. (c.loop-level.invariant.before l ls e).keeps

@@ -45,4 +45,5 @@ pub mod RangeSums
 pub mod Extending
 pub mod TourSums
 pub mod Marking
+pub mod MarkShifts
 pub mod SameBefore

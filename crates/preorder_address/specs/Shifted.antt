@@ -1,22 +1,36 @@
--- Lists of marks that are left, or were moved, where a value changed.
+-- Marks that are left, or were moved, where the value changed at one node.
 use Rattle.std.specs.Prelude.{◌≡◌, ◌≢◌, ◌⊎◌, ℕ, ◌+◌, ◌<◌, List, All, Some, slice_get}
 use Rattle.rule_arena.specs.declared.key.Key.{Key}
 use Rattle.segment_counts.specs.Counting.{weight_by}
 use Rattle.segment_counts.specs.declared.counts.Measure.{Measure}
 use Rattle.segment_counts.specs.declared.counts.Weights.{Weights}
+use Rattle.preorder_address.specs.Numberings.{measure_of}
 use Rattle.preorder_address.specs.declared.marks.Mark.{Mark}
+use Rattle.preorder_address.specs.declared.shifting.Shift.{Shift}
 
--- a mark behind the number is behind it still with what the value, which had the first weights, weighs more or less now that it has the second
-pub record IsMoved (by : Measure) (number : ℕ) (had has : Weights) (old mark : Mark) : Type 0 where
+-- how many numbers are counted by the weights, where a shift has its number among them
+abbrev pub number_in : Shift → Weights → ℕ
+number_in shift weights = weight_by (measure_of shift.by) weights
+
+-- the second weights are more or less than the first by what the value has come to weigh
+abbrev pub MoveBy : Shift → Weights → Weights → Type 0
+MoveBy shift old new = (m : Measure) → weight_by m new + weight_by m shift.had ≡ weight_by m old + weight_by m shift.has
+
+-- a mark behind the number was moved, and stands behind it still
+pub record IsMoved (shift : Shift) (old mark : Mark) : Type 0 where
   pub key : mark.key ≡ old.key
-  pub was : number < weight_by by old.passed
-  pub is : number < weight_by by mark.passed
-  pub weights : (m : Measure) → weight_by m mark.passed + weight_by m had ≡ weight_by m old.passed + weight_by m has
+  pub was : shift.number < number_in shift old.passed
+  pub is : shift.number < number_in shift mark.passed
+  pub weights : MoveBy shift old.passed mark.passed
 
--- the mark is one of those from before the number, or one from behind it that was moved, and its key isn't gone
-pub record IsLeft (by : Measure) (gone : List Key) (number : ℕ) (had has : Weights) (olds : List Mark) (mark : Mark) : Type 0 where
+-- a mark whose key isn't gone stayed where it stood before the number, and else was moved
+pub record ComesOf (shift : Shift) (gone : List Key) (old mark : Mark) : Type 0 where
+  pub stands : All (λ k. k ≢ old.key) gone
+  pub how : ((mark ≡ old) × (number_in shift old.passed < shift.number)) ⊎ IsMoved shift old mark
+
+-- so of one of these marks
+pub record IsLeft (shift : Shift) (gone : List Key) (olds : List Mark) (mark : Mark) : Type 0 where
   pub index : ℕ
   pub old : Mark
   pub there : slice_get olds index ≡ Some old
-  pub stands : All (λ k. k ≢ old.key) gone
-  pub how : ((mark ≡ old) × (weight_by by old.passed < number)) ⊎ IsMoved by number had has old mark
+  pub comes : ComesOf shift gone old mark

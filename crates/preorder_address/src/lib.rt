@@ -7,7 +7,7 @@
 //! The other modules go along such levels. `site` adds up what stands before a node and what the code of its kids weighs, by what a
 //! `weigher` counts; `nodes` tells a node's kind, extent and text rank, `kids` the places in its list of kids and its next sibling,
 //! `parent` its parent. `spot` tells of a node what one descent finds out,
-//! which begins at one of the `marks` that descents leave along a long start; `place_start` begins a descent to a place or a node there.
+//! which begins at one of the `marks` that descents leave along a long start, and `shifting` moves these with an edit; `place_start` begins a descent to a place or a node there.
 //! `way` makes a descent a `Way`, whose rules may change between its calls, and `started` one that was begun at a mark.
 #![tactic(auto)]
 
@@ -19,6 +19,7 @@ mod nodes;
 mod numbering;
 mod parent;
 mod place_start;
+mod shifting;
 mod site;
 mod spot;
 mod spot_extent;
@@ -35,6 +36,7 @@ pub use nodes::{extent, kind_of, text_rank};
 pub use numbering::Numbering;
 pub use parent::parent_of;
 pub use place_start::{PlaceStart, begin_node, begin_place};
+pub use shifting::Shift;
 pub use spot::{Spot, find, find_marked};
 pub use spot_way::SpotWay;
 pub use started::StartedDescent;

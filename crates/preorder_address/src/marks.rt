@@ -1,5 +1,5 @@
 // Marks of the start, from which a search may begin.
-ghost use Rattle.std.specs.Prelude.{◌≡◌, ℕ, ◌<◌, ◌≤◌, ◌-◌, ◌+◌, List, All, Some, IfSome, length, take};
+ghost use Rattle.std.specs.Prelude.{◌≡◌, ℕ, ◌<◌, ◌≤◌, ◌-◌, ◌+◌, List, All, Some, IfSome, length, option_to_list, take};
 ghost use Rattle.std.specs.Fn.{CalledAt};
 ghost use Rattle.std.specs.List.Retain.{IsFiltered};
 ghost use Rattle.plain_tree.specs.declared.kind.Kind.{Kind};
@@ -7,9 +7,11 @@ ghost use Rattle.slt_grammar.specs.Keyed.{IsKeyed, Keyed, KeyedRule};
 ghost use Rattle.segment_counts.specs.Counting.{weight_by};
 ghost use Rattle.preorder_address.specs.Numberings.{measure_of};
 ghost use Rattle.preorder_address.specs.Marks.{AreMarks, HasPassed, IsMark, IsSameBefore, MarksPlace};
+ghost use Rattle.preorder_address.specs.Shifted.{IsLeft};
 ghost use Rattle.preorder_address.specs.declared.marks.Mark.{Mark};
 
 use crate::numbering::Numbering;
+use crate::shifting::{Shift, shift_all};
 use crate::site::begins_at;
 use segment_counts::Weights;
 use slt_grammar::{Key, TourWalk};
@@ -101,6 +103,15 @@ impl Marks {
             return;
         };
         let kept = count_below(self.list.as_slice(), mark.passed.all);
+        self.list.truncate(kept);
+    }
+
+    /// Keeps the marks that stand before a change, moves those that stand behind it, and takes away those of its node and the one whose
+    /// key is gone. It takes no memory.
+    pub fn shift(&mut self, shift: &Shift, gone: Option<Key>)
+        ensures { All (IsLeft shift.now (option_to_list gone) self.old) self.new }
+    {
+        let kept = shift_all(self.list.as_mut_slice(), shift, &gone);
         self.list.truncate(kept);
     }
 

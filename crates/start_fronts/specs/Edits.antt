@@ -1,5 +1,5 @@
 -- The laws of edits: what they keep of what stands before and behind the nodes of a grammar's start.
-use Rattle.std.specs.Prelude.{◌≡◌, ◌≢◌, ℕ, ◌+◌, ◌-◌, ◌<◌, List, [], ◌∷◌, ◌++◌, All, Some, length, map}
+use Rattle.std.specs.Prelude.{◌≡◌, ◌≢◌, ℕ, ◌-◌, ◌<◌, List, [], ◌∷◌, ◌++◌, All, Some, length, map}
 use Rattle.rule_arena.specs.Preorder.{subterm}
 use Rattle.rule_arena.specs.Terms.{key_of, kids_of, labelled}
 use Rattle.rule_arena.specs.declared.key.Key.{Key}

@@ -1,5 +1,5 @@
 -- Marks that move with a change.
-use Rattle.std.proofs.Common.{◌≡◌, ◌≢◌, ◌⊎◌, inl, inr, ℕ, ◌+◌, ◌-◌, ◌<◌, List, [], ◌++◌, All, Some, length, sym, ap, ◌∙◌, subst, arith, sum_by}
+use Rattle.std.proofs.Common.{◌≡◌, ◌≢◌, ◌⊎◌, inl, inr, ℕ, ◌+◌, ◌-◌, ◌<◌, List, ◌++◌, All, Some, length, sym, ap, ◌∙◌, subst, arith, sum_by}
 use Rattle.std.proofs.lemmas.List.Elements.{All-weaker}
 use Rattle.std.proofs.lemmas.List.Sums.{sum_by-append}
 use Rattle.std.proofs.lemmas.Option.{get_or_from_slice_get, slice_get_within}
@@ -10,11 +10,12 @@ use Rattle.slt_grammar.specs.Keyed.{KeyedRule}
 use Rattle.segment_counts.specs.Counting.{weight_by}
 use Rattle.segment_counts.specs.Weights.{weigh}
 use Rattle.segment_counts.specs.declared.counts.Measure.{Measure}
-use Rattle.segment_counts.specs.declared.counts.Weights.{Weights}
 use Rattle.preorder_address.specs.Marks.{AreMarks, IsMark}
+use Rattle.preorder_address.specs.Numberings.{measure_of}
+use Rattle.preorder_address.specs.Shifted.{IsLeft, IsMoved, number_in}
 use Rattle.preorder_address.specs.declared.marks.Mark.{Mark}
+use Rattle.preorder_address.specs.declared.shifting.Shift.{Shift}
 use Rattle.start_fronts.specs.Before.{labels_before}
-use Rattle.preorder_address.specs.Shifted.{IsLeft, IsMoved}
 use Rattle.start_fronts.specs.Moved.{MovesBefore, value_labels, weight_in}
 use Rattle.start_marks.proofs.Weights.{mark-behind, weights-before}
 
@@ -50,16 +51,20 @@ late-moves names by gone number G H mark moved moves is apart behind left key we
       weights = λ m. before m ∙ sym (weights-before names H (length H - 1) s.now m);
     }
 
-pub marks-left : (names : List (Kind × List ℕ)) (by : Measure) (gone : List Key) (number : ℕ) (had has : Weights) (G H : List KeyedRule) (olds news : List Mark) → MovesBefore (weigh names by) gone number G H
-    → ((m : Measure) → weight_by m had ≡ weight_in (weigh names m) G) → ((m : Measure) → weight_by m has ≡ weight_in (weigh names m) H) → AreMarks names G olds → All (IsLeft by gone number had has olds) news → AreMarks names H news
-marks-left names by gone number had has G H olds news moves before after are left = All-weaker (IsLeft by gone number had has olds) (IsMark names H) one news left
+pub marks-left : (names : List (Kind × List ℕ)) (shift : Shift) (gone : List Key) (G H : List KeyedRule) (olds news : List Mark) → MovesBefore (weigh names (measure_of shift.by)) gone shift.number G H
+    → ((m : Measure) → weight_by m shift.had ≡ weight_in (weigh names m) G) → ((m : Measure) → weight_by m shift.has ≡ weight_in (weigh names m) H)
+    → AreMarks names G olds → All (IsLeft shift gone olds) news → AreMarks names H news
+marks-left names shift gone G H olds news moves before after are left = All-weaker (IsLeft shift gone olds) (IsMark names H) one news left
   where
-    one : (mark : Mark) → IsLeft by gone number had has olds mark → IsMark names H mark
-    one mark l = at l.how
+    by : Measure
+    by = measure_of shift.by
+
+    one : (mark : Mark) → IsLeft shift gone olds mark → IsMark names H mark
+    one mark l = at l.comes.how
       where
         old : IsMark names G l.old
         old = subst (λ (x : Mark). IsMark names G x) (get_or_from_slice_get olds l.index l.old l.old l.there) (are l.index l.old (slice_get_within olds l.index l.old l.there))
 
-        at : ((mark ≡ l.old) × (weight_by by l.old.passed < number)) ⊎ IsMoved by number had has l.old mark → IsMark names H mark
-        at (inl s) = subst (λ (x : Mark). IsMark names H x) (sym s.0) (early-stays names by gone number G H l.old moves old l.stands s.1)
-        at (inr s) = late-moves names by gone number G H l.old mark moves old l.stands s.was s.is s.key (λ m. omega (arith, s.weights m, before m, after m))
+        at : ((mark ≡ l.old) × (number_in shift l.old.passed < shift.number)) ⊎ IsMoved shift l.old mark → IsMark names H mark
+        at (inl s) = subst (λ (x : Mark). IsMark names H x) (sym s.0) (early-stays names by gone shift.number G H l.old moves old l.comes.stands s.1)
+        at (inr s) = late-moves names by gone shift.number G H l.old mark moves old l.comes.stands s.was s.is s.key (λ m. omega (arith, s.weights m, before m, after m))

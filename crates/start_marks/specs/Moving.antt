@@ -7,10 +7,11 @@ use Rattle.start_fronts.specs.Moved.{MovesBefore, weight_in}
 use Rattle.segment_counts.specs.Counting.{weight_by}
 use Rattle.segment_counts.specs.Weights.{weigh}
 use Rattle.segment_counts.specs.declared.counts.Measure.{Measure}
-use Rattle.segment_counts.specs.declared.counts.Weights.{Weights}
 use Rattle.preorder_address.specs.Marks.{AreMarks, IsMark}
+use Rattle.preorder_address.specs.Numberings.{measure_of}
 use Rattle.preorder_address.specs.Shifted.{IsLeft}
 use Rattle.preorder_address.specs.declared.marks.Mark.{Mark}
+use Rattle.preorder_address.specs.declared.shifting.Shift.{Shift}
 
 -- a mark is one still where less stands before it than this number
 abbrev pub EarlyMarksStay : Type 0
@@ -27,10 +28,10 @@ LateMarksMove =
     → number < weight_by by mark.passed → number < weight_by by moved.passed → moved.key ≡ mark.key
     → ((m : Measure) → weight_by m moved.passed + weight_in (weigh names m) G ≡ weight_by m mark.passed + weight_in (weigh names m) H) → IsMark names H moved
 
--- so with lists of them
+-- so with lists of them, where the shift tells what the value weighed and weighs
 abbrev pub MarksAreLeft : Type 0
 MarksAreLeft =
-    (names : List (Kind × List ℕ)) (by : Measure) (gone : List Key) (number : ℕ) (had has : Weights) (G H : List KeyedRule) (olds news : List Mark)
-    → MovesBefore (weigh names by) gone number G H
-    → ((m : Measure) → weight_by m had ≡ weight_in (weigh names m) G) → ((m : Measure) → weight_by m has ≡ weight_in (weigh names m) H)
-    → AreMarks names G olds → All (IsLeft by gone number had has olds) news → AreMarks names H news
+    (names : List (Kind × List ℕ)) (shift : Shift) (gone : List Key) (G H : List KeyedRule) (olds news : List Mark)
+    → MovesBefore (weigh names (measure_of shift.by)) gone shift.number G H
+    → ((m : Measure) → weight_by m shift.had ≡ weight_in (weigh names m) G) → ((m : Measure) → weight_by m shift.has ≡ weight_in (weigh names m) H)
+    → AreMarks names G olds → All (IsLeft shift gone olds) news → AreMarks names H news

@@ -17,6 +17,7 @@ use Rattle.preorder_address.specs.declared.marks.Mark.{Mark}
 use Rattle.preorder_address.specs.declared.shifting.Shift.{Shift}
 use Rattle.start_fronts.specs.Before.{labels_before}
 use Rattle.start_fronts.specs.Moved.{MovesBefore, value_labels, weight_in}
+use Rattle.start_marks.specs.Moving.{AreWeightsOf}
 use Rattle.start_marks.proofs.Weights.{mark-behind, weights-before}
 
 -- a mark's weights are those of the labels before its node
@@ -52,8 +53,7 @@ late-moves names by gone number G H mark moved moves is apart behind left key we
     }
 
 pub marks-left : (names : List (Kind × List ℕ)) (shift : Shift) (gone : List Key) (G H : List KeyedRule) (olds news : List Mark) → MovesBefore (weigh names (measure_of shift.by)) gone shift.number G H
-    → ((m : Measure) → weight_by m shift.had ≡ weight_in (weigh names m) G) → ((m : Measure) → weight_by m shift.has ≡ weight_in (weigh names m) H)
-    → AreMarks names G olds → All (IsLeft shift gone olds) news → AreMarks names H news
+    → AreWeightsOf names G shift.had → AreWeightsOf names H shift.has → AreMarks names G olds → All (IsLeft shift gone olds) news → AreMarks names H news
 marks-left names shift gone G H olds news moves before after are left = All-weaker (IsLeft shift gone olds) (IsMark names H) one news left
   where
     by : Measure

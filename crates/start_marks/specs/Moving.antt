@@ -7,6 +7,7 @@ use Rattle.start_fronts.specs.Moved.{MovesBefore, weight_in}
 use Rattle.segment_counts.specs.Counting.{weight_by}
 use Rattle.segment_counts.specs.Weights.{weigh}
 use Rattle.segment_counts.specs.declared.counts.Measure.{Measure}
+use Rattle.segment_counts.specs.declared.counts.Weights.{Weights}
 use Rattle.preorder_address.specs.Marks.{AreMarks, IsMark}
 use Rattle.preorder_address.specs.Numberings.{measure_of}
 use Rattle.preorder_address.specs.Shifted.{IsLeft}
@@ -28,10 +29,13 @@ LateMarksMove =
     → number < weight_by by mark.passed → number < weight_by by moved.passed → moved.key ≡ mark.key
     → ((m : Measure) → weight_by m moved.passed + weight_in (weigh names m) G ≡ weight_by m mark.passed + weight_in (weigh names m) H) → IsMark names H moved
 
+-- these are the weights of what a grammar stands for
+abbrev pub AreWeightsOf : List (Kind × List ℕ) → List KeyedRule → Weights → Type 0
+AreWeightsOf names G weights = (m : Measure) → weight_by m weights ≡ weight_in (weigh names m) G
+
 -- so with lists of them, where the shift tells what the value weighed and weighs
 abbrev pub MarksAreLeft : Type 0
 MarksAreLeft =
     (names : List (Kind × List ℕ)) (shift : Shift) (gone : List Key) (G H : List KeyedRule) (olds news : List Mark)
-    → MovesBefore (weigh names (measure_of shift.by)) gone shift.number G H
-    → ((m : Measure) → weight_by m shift.had ≡ weight_in (weigh names m) G) → ((m : Measure) → weight_by m shift.has ≡ weight_in (weigh names m) H)
+    → MovesBefore (weigh names (measure_of shift.by)) gone shift.number G H → AreWeightsOf names G shift.had → AreWeightsOf names H shift.has
     → AreMarks names G olds → All (IsLeft shift gone olds) news → AreMarks names H news

@@ -1,5 +1,5 @@
 -- What stays of the start before the node at which a grammar changes.
-use Rattle.std.specs.Prelude.{◌≡◌, ℕ, ◌-◌, ◌≤◌, List, Option, Some, option_map, length, slice_get}
+use Rattle.std.specs.Prelude.{◌≡◌, ℕ, ◌-◌, ◌≤◌, List, Option, Some, option_map, option_to_list, length, slice_get}
 use Rattle.plain_tree.specs.declared.kind.Kind.{Kind}
 use Rattle.rule_arena.specs.declared.key.Key.{Key}
 use Rattle.slt_grammar.specs.Keyed.{KeyedRule, key_at}
@@ -10,6 +10,9 @@ use Rattle.preorder_address.specs.declared.marks.Mark.{Mark}
 -- the key of the first level's node
 abbrev pub first_key : List Level → Option Key
 first_key levels = option_map (λ l. l.key) (slice_get levels 0)
+
+abbrev pub first_keys : List Level → List Key
+first_keys levels = option_to_list (first_key levels)
 
 -- the starts of G and H are the same before the node of the first level
 pub record IsSameBeforeFirst (levels : List Level) (G H : List KeyedRule) : Type 0 where

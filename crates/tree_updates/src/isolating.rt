@@ -7,11 +7,14 @@ ghost use Rattle.slt_grammar.specs.ChangedValues.{start_body};
 ghost use Rattle.slt_grammar.specs.Grammars.{size, value_at};
 ghost use Rattle.slt_grammar.specs.Keyed.{rules_of};
 ghost use Rattle.slt_grammar.specs.RuleValues.{HaveOtherValues};
+ghost use Rattle.start_fronts.specs.Before.{KeepsBefore};
+ghost use Rattle.start_fronts.specs.Moved.{MovesBefore};
+ghost use Rattle.segment_counts.specs.Weights.{node_weight};
 ghost use Rattle.digram_index.specs.Linked.{IsIndexOf};
 ghost use Rattle.path_isolation.specs.Isolations.{DifferInStart, room_along};
 ghost use Rattle.preorder_address.specs.Spots.{IsSpot};
 ghost use Rattle.tree_updates.specs.Fragments.{GetsBefore, IsCodeOf};
-ghost use Rattle.tree_updates.specs.Fronts.{IsSameBeforeFirst, StandsBehindFirst};
+ghost use Rattle.tree_updates.specs.Fronts.{IsSameBeforeFirst, StandsBehindFirst, first_keys};
 ghost use Rattle.tree_updates.specs.Numbered.{GetsSymbol, IsNodeIsolated, LosesNode};
 ghost use Rattle.tree_updates.specs.Ways.{LeadToNode};
 
@@ -116,11 +119,14 @@ pub fn relabel_node<L: Ledger>(
     ensures cells { length index.old.cells ≤ length index.new.cells }
     ensures steps { steps.new ≤ steps.old }
     ensures front { IsSameBeforeFirst spot.now.levels.items grammar.old.rules grammar.new.rules }
+    ensures moves { (names : List (Kind × List ℕ)) (number : ℕ) → IsSpot names grammar.old.rules number spot.now
+        → MovesBefore node_weight (first_keys spot.now.levels.items) number grammar.old.rules grammar.new.rules }
 {
     let at = isolate_node(grammar, index, spot, steps);
-    // The call tells what is true of every grammar.
+    // The calls tell what is true of every grammar.
     let _limit = grammar.limit();
     relabel_linked(grammar, index, at, symbol);
+    let _after = grammar.limit();
 }
 
 /// In the value the spot's node stands in the hole of a code, which comes in its place. There is room for the nodes of the bodies of the
@@ -181,6 +187,7 @@ pub(crate) fn isolate_node<L: Ledger>(
     ensures cells { length index.old.cells ≤ length index.new.cells }
     ensures steps { steps.new ≤ steps.old }
     ensures front { StandsBehindFirst spot.now.levels.items grammar.old.rules grammar.new.rules result }
+    ensures before { KeepsBefore (first_keys spot.now.levels.items) grammar.old.rules grammar.new.rules }
 {
     isolate_along(grammar, index, spot.way(), steps)
 }
@@ -211,6 +218,7 @@ fn isolate_along<W: Way, L: Ledger>(
     ensures cells { length index.old.cells ≤ length index.new.cells }
     ensures steps { steps.new ≤ steps.old + W.most way grammar.old.rules }
     ensures front { StandsBehindFirst (W.levels way grammar.old.rules) grammar.old.rules grammar.new.rules result }
+    ensures before { KeepsBefore (first_keys (W.levels way grammar.old.rules)) grammar.old.rules grammar.new.rules }
 {
     // The call tells what is true of every grammar.
     let _limit = grammar.limit();

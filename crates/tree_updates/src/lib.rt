@@ -4,7 +4,7 @@
 //! edits: `renaming`, `valuing`, `attribute_setting`, `deleting` with `deleting_between` where two texts meet, `appending` with
 //! `appending_joined` where two do, `inserting`, and `copying` with `copying_text` for texts and `copying_code` for what is below a node, which
 //! becomes a rule. `isolating` makes a node one of the start's body, and changes the value there; `taking_out` takes nodes out once the memory
-//! is there; `sweeping` drops the rules that nobody calls any more. The laws tie an edit of the tree to one change of its code and to one splice
+//! is there; `moving_marks` moves the marks with a change; `sweeping` drops the rules that nobody calls any more. The laws tie an edit of the tree to one change of its code and to one splice
 //! of its texts.
 //!
 //! Where nodes stand is told by spots, one descent each (`node_spots`): their places tell under what they stand (`spot_places`), whether a text
@@ -43,6 +43,7 @@ mod joining_three;
 mod kid_attributes;
 mod meeting;
 mod meeting_text;
+mod moving_marks;
 mod node_extent;
 mod node_spots;
 mod place_spots;

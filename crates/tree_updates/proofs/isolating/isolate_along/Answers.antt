@@ -2,6 +2,7 @@ use Rattle.std.proofs.Common.{List}
 use Rattle.slt_grammar.specs.declared.level.Level.{Level}
 use Rattle.tree_updates.proofs.Numbered.{leading, node-isolated}
 use Rattle.tree_updates.proofs.Fronts.{stands-behind}
+use Rattle.tree_updates.proofs.MovedMarks.{first-kept}
 use Rattle.tree_updates.proofs.isolating.isolate_along.Goals as goal
 
 pub isolate_linked-requires-clause-chain : goal.isolate_linked-requires-clause-chain
@@ -26,3 +27,11 @@ returns-clause-front g c =
     let lv : List Level = g.W.Way.levels c.args.way k.rules in
     let N = leading k c.limit-limit.ensures.keyed r.0 lv r.1 in
     stands-behind k.rules c.isolate_linked.new.grammar.rules lv N.places c.isolate_linked.result N.chain c.isolate_linked.ensures.values (c.isolate_linked.ensures.front N.places N.chain)
+
+pub returns-clause-before : goal.returns-clause-before
+returns-clause-before g c =
+    let k = c.args.grammar.now in
+    let r = c.requires.leads in
+    let lv : List Level = g.W.Way.levels c.args.way k.rules in
+    let N = leading k c.limit-limit.ensures.keyed r.0 lv r.1 in
+    first-kept k.rules c.isolate_linked.new.grammar.rules lv N.places N.chain c.isolate_linked.ensures.before

@@ -2,7 +2,8 @@ use Rattle.std.proofs.Common.{◌≤◌, ◌+◌, List, sym, subst}
 use Rattle.slt_grammar.specs.declared.level.Level.{Level}
 use Rattle.path_isolation.specs.Isolations.{room_along}
 use Rattle.tree_updates.proofs.Numbered.{spot-leads}
-use Rattle.tree_updates.specs.Fronts.{StandsBehindFirst}
+use Rattle.start_fronts.specs.Before.{KeepsBefore}
+use Rattle.tree_updates.specs.Fronts.{StandsBehindFirst, first_keys}
 use Rattle.tree_updates.proofs.isolating.isolate_node.Goals as goal
 
 pub isolate_along-requires-clause-leads : goal.isolate_along-requires-clause-leads
@@ -30,3 +31,6 @@ returns-clause-links g c =
 
 pub returns-clause-front : goal.returns-clause-front
 returns-clause-front g c = subst (λ (ls : List Level). StandsBehindFirst ls c.args.grammar.now.rules c.isolate_along.new.grammar.rules c.isolate_along.result) c.way.ensures c.isolate_along.ensures.front
+
+pub returns-clause-before : goal.returns-clause-before
+returns-clause-before g c = subst (λ (ls : List Level). KeepsBefore (first_keys ls) c.args.grammar.now.rules c.isolate_along.new.grammar.rules) c.way.ensures c.isolate_along.ensures.before

@@ -2,7 +2,9 @@ use Rattle.std.proofs.Common.{List, sym, ◌∙◌, arith}
 use Rattle.slt_grammar.specs.Keyed.{KeyedRule, rules_of}
 use Rattle.slt_grammar.proofs.KeyedLemmas.{length-rules_of}
 use Rattle.tree_updates.proofs.InStart.{differ-number, in-start, others-stay, same-value}
+use Rattle.tree_updates.specs.Fronts.{first_keys}
 use Rattle.tree_updates.proofs.Fronts.{front-relabelled}
+use Rattle.tree_updates.proofs.MovedMarks.{moves-renamed}
 use Rattle.tree_updates.proofs.isolating.relabel_node.Goals as goal
 
 pub relabel_linked-requires-clause-node : goal.relabel_linked-requires-clause-node
@@ -51,3 +53,13 @@ returns-clause-front g c =
     let h = c.isolate_node-at.new.grammar in
     let S = in-start h.rules r.1 c.isolate_node-at.result (E.node r.0 r.1 r.2) in
     front-relabelled c.args.spot.now.levels.items G h c.limit-limit.ensures.keyed c.isolate_node-at.result E.others.many E.front S.node.here c.args.symbol c.relabel_linked.new.grammar.rules (c.relabel_linked.ensures.values S) (c.relabel_linked.ensures.rules S.node.here)
+
+pub returns-clause-moves : goal.returns-clause-moves
+returns-clause-moves g c = λ names n s.
+    let E = c.isolate_node-at.ensures in
+    let G : List KeyedRule = c.args.grammar.now.rules in
+    let h = c.isolate_node-at.new.grammar in
+    let I = E.node names n s in
+    let v = same-value (rules_of G) (rules_of h.rules) (length-rules_of h.rules ∙ E.others.many ∙ sym (length-rules_of G)) E.values in
+    moves-renamed G (first_keys c.args.spot.now.levels.items) h c.limit-limit.ensures.keyed n c.isolate_node-at.result I v E.before c.relabel_linked.new.grammar c.limit-after.ensures.keyed c.args.symbol
+    (c.relabel_linked.ensures.rules (in-start h.rules n c.isolate_node-at.result I).node.here)

@@ -1,4 +1,4 @@
-use Rattle.std.proofs.Common.{◌-◌, ℕ, List, length, ap, sym, subst, arith, refl}
+use Rattle.std.proofs.Common.{◌≡◌, ◌-◌, ℕ, List, [], ◌∷◌, length, ap, sym, subst, arith, refl}
 use Rattle.std.proofs.lemmas.Result.{err_from_is_err_and}
 use Rattle.slt_grammar.specs.Grammars.{size}
 use Rattle.slt_grammar.specs.Keyed.{KeyedRule, rules_of}
@@ -9,8 +9,11 @@ use Rattle.preorder_address.specs.Spots.{IsSpot}
 use Rattle.tree_updates.specs.Numbered.{GetsSymbol}
 use Rattle.tree_updates.proofs.RenamedStores.{counts-after, refused-grown, renamed-store}
 use Rattle.preorder_address.specs.Marks.{AreMarks}
-use Rattle.tree_updates.specs.Fronts.{IsSameBeforeFirst}
-use Rattle.tree_updates.proofs.Fronts.{cut-stay}
+use Rattle.start_fronts.specs.Moved.{MovesBefore}
+use Rattle.segment_counts.specs.Counting.{AreCounts}
+use Rattle.segment_counts.specs.Weights.{node_weight}
+use Rattle.tree_updates.specs.Fronts.{first_keys}
+use Rattle.tree_updates.proofs.AppliedMarks.{names-same}
 use Rattle.tree_updates.specs.declared.store.EditError.TheVariants.{Memory}
 use Rattle.tree_updates.proofs.StoreLemmas.{refused-there}
 use Rattle.plain_tree.specs.NodePairs.{Pair}
@@ -75,11 +78,32 @@ returns-in_err-make_room-clause-marks g c =
 pub returns-clause-marks : goal.returns-clause-marks
 returns-clause-marks g c =
     let s = c.args.store.now in
-    let spot = c.in_ok-found.found.spot in
+    let a = c.in_ok-found.found in
+    let x = c.args.name.now in
+    let r = c.requires.store in
+    let n : ℕ = c.args.number in
+    let same = c.in_ok-make_room.ensures.rules in
+    let G : List KeyedRule = s.grammar.rules in
     let H : List KeyedRule = c.relabel_node.new.grammar.rules in
-    let front = subst (λ (R : List KeyedRule). IsSameBeforeFirst spot.levels.items R H) c.in_ok-make_room.ensures.rules c.relabel_node.ensures.front in
-    c.sweep_uncalled.ensures.marks s.names c.cut.new.self
-    (cut-stay s.names s.grammar spot.levels.items spot.first c.first.result c.find_nameable.new.marks c.cut.new.self c.cut.ensures c.limit-limit.ensures.keyed c.find_nameable.ensures.marks c.first.ensures c.in_ok-found.ensures.first H front)
+    let names : List Pair = c.intern.new.self in
+    let grown = interned s.names names a.kind x x refl c.in_ok-symbol.ensures.kept c.in_ok-symbol.ensures.added in
+    let spot = subst (λ (R : List KeyedRule). IsSpot s.names R n a.spot) (sym same) c.in_ok-found.ensures.spot in
+    let gets = subst (λ (R : List KeyedRule). GetsSymbol (rules_of R) (rules_of H) n c.in_ok-symbol.symbol) same (c.relabel_node.ensures.value s.names n spot) in
+    let others = subst (λ (R : List KeyedRule). HaveOtherValues (length (rules_of R) - 1) (rules_of R) (rules_of H)) same c.relabel_node.ensures.values in
+    let moves = subst (λ (R : List KeyedRule). MovesBefore node_weight (first_keys a.spot.levels.items) n R H) same (c.relabel_node.ensures.moves s.names n spot) in
+    let lawful = c.limit-limit.ensures.keyed.grammar in
+    let counts =
+    counts-after s r.0 r.1 n x c.requires.name (c.in_ok-found.ensures.allowed r.0 r.1) a.kind (c.in_ok-found.ensures.kind r.0 r.1) names grown lawful (rules_of H) c.in_ok-symbol.symbol c.in_ok-symbol.ensures.place gets others in
+    c.sweep_uncalled.ensures.marks s.names c.move_renamed.new.marks
+    (c.move_renamed.ensures s.names G H (λ few.
+    let none : names ≡ s.names = names-same s.names ((a.kind, x) ∷ []) names grown (omega (arith, few, c.len-named.ensures.value)) in (
+      c.find_nameable.ensures.marks,
+      moves,
+      r.1.counts,
+      lawful,
+      subst (λ (ns : List Pair). AreCounts ns (rules_of H) s.counts) none counts,
+      c.limit-after.ensures.keyed.grammar,
+    )))
 
 pub returns-in_err-symbol-clause-applies : goal.returns-in_err-symbol-clause-applies
 returns-in_err-symbol-clause-applies g c =

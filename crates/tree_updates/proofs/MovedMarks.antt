@@ -1,0 +1,41 @@
+-- Nodes that change, and the marks around them.
+use Rattle.std.proofs.Common.{refl, ◌≡◌, ℕ, ◌-◌, List, [], ◌∷◌, length, ap, sym, ◌∙◌, subst, append-nil, sum_by}
+use Rattle.rule_arena.specs.Terms.{labelled}
+use Rattle.rule_arena.specs.declared.key.Key.{Key}
+use Rattle.rule_arena.specs.declared.label.Label.TheVariants.{Symbol}
+use Rattle.slt_grammar.specs.Grammars.{value}
+use Rattle.slt_grammar.specs.Keyed.{IsKeyed, Keyed, KeyedRule, nodes_at, rules_of}
+use Rattle.slt_grammar.specs.KeyedEdits.{with_nodes}
+use Rattle.slt_grammar.specs.declared.level.Level.{Level}
+use Rattle.slt_grammar.proofs.KeyedLemmas.{key_at-within}
+use Rattle.segment_counts.specs.Weights.{node_weight}
+use Rattle.start_fronts.specs.Before.{KeepsBefore}
+use Rattle.start_fronts.specs.Moved.{MovesBefore, weight_before}
+use Rattle.start_fronts.proofs.Holes.{hole-behind}
+use Rattle.start_fronts.proofs.Moving.{kept-then-moved}
+use Rattle.start_fronts.proofs.Relabelled.{moves-relabelled}
+use Rattle.path_isolation.specs.Chains.{IsChain}
+use Rattle.tree_updates.specs.Fronts.{first_keys}
+use Rattle.tree_updates.specs.Numbered.{IsNodeIsolated}
+use Rattle.tree_updates.proofs.InStart.{in-start}
+
+-- the chain's first key is the first level's
+pub first-kept : (G H : List KeyedRule) (levels : List Level) (ps : List ℕ) → IsChain G levels ps → ((l : Level) (ls : List Level) → levels ≡ l ∷ ls → KeepsBefore (l.key ∷ []) G H) → KeepsBefore (first_keys levels) G H
+first-kept G H [] ps c f = absurd c
+first-kept G H (l ∷ ls) ps c f = f l ls refl
+
+module _ (G : List KeyedRule) (gone : List Key) (h : Keyed) (k : IsKeyed h) (n : ℕ) (key : Key) (I : IsNodeIsolated h.rules n key) (same : value (rules_of h.rules) ≡ value (rules_of G)) (keeps : KeepsBefore gone G h.rules) where
+  -- as much stands before the isolated node as its number says
+  number-before : weight_before node_weight h.rules I.place ≡ n
+  number-before =
+      let within = (key_at-within h.rules (length h.rules - 1) I.place key I.there).1 in
+      ap (sum_by node_weight) (sym (hole-behind h k I.place within)) ∙ I.before
+
+  -- a change there is one of the value before
+  moves-there : (L : List KeyedRule) → MovesBefore node_weight [] (weight_before node_weight h.rules I.place) h.rules L → MovesBefore node_weight gone n G L
+  moves-there L m =
+      subst (λ (ks : List Key). MovesBefore node_weight ks n G L) (append-nil gone)
+      (kept-then-moved node_weight gone [] n G h.rules L same keeps (subst (λ (i : ℕ). MovesBefore node_weight [] i h.rules L) number-before m))
+
+  pub moves-renamed : (new : Keyed) → IsKeyed new → (f : ℕ) → new.rules ≡ with_nodes h.rules (length h.rules - 1) (labelled (nodes_at h.rules (length h.rules - 1)) I.place (Symbol f)) → MovesBefore node_weight gone n G new.rules
+  moves-renamed new K f is = moves-there new.rules (moves-relabelled h new k K key f (in-start h.rules n key I) is node_weight)

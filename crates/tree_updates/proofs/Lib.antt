@@ -75,6 +75,5 @@ pub mod CopiedCodes
 pub mod CopiedNodes
 pub mod UncountedCopies
 pub mod Fronts
-pub mod SweptMarks
 pub mod AppliedMarks
 pub mod MovedMarks

@@ -1,19 +1,25 @@
 -- Nodes that change, and the marks around them.
-use Rattle.std.proofs.Common.{refl, ◌≡◌, ℕ, ◌-◌, List, [], ◌∷◌, length, ap, sym, ◌∙◌, subst, append-nil, sum_by}
+use Rattle.std.proofs.Common.{refl, ◌≡◌, ◌≢◌, ℕ, ◌-◌, List, [], ◌∷◌, length, ap, sym, ◌∙◌, subst, append-nil, sum_by}
+use Rattle.std.proofs.lemmas.List.Elements.{All-nil, All-weaker}
+use Rattle.plain_tree.specs.declared.kind.Kind.{Kind}
 use Rattle.rule_arena.specs.Terms.{labelled}
 use Rattle.rule_arena.specs.declared.key.Key.{Key}
 use Rattle.rule_arena.specs.declared.label.Label.TheVariants.{Symbol}
 use Rattle.slt_grammar.specs.Grammars.{value}
 use Rattle.slt_grammar.specs.Keyed.{IsKeyed, Keyed, KeyedRule, nodes_at, rules_of}
-use Rattle.slt_grammar.specs.KeyedEdits.{with_nodes}
+use Rattle.slt_grammar.specs.KeyedEdits.{lifted_nodes, with_nodes}
 use Rattle.slt_grammar.specs.declared.level.Level.{Level}
 use Rattle.slt_grammar.proofs.KeyedLemmas.{key_at-within}
 use Rattle.segment_counts.specs.Weights.{node_weight}
 use Rattle.start_fronts.specs.Before.{KeepsBefore}
 use Rattle.start_fronts.specs.Moved.{MovesBefore, weight_before}
 use Rattle.start_fronts.proofs.Holes.{hole-behind}
-use Rattle.start_fronts.proofs.Moving.{kept-then-moved}
+use Rattle.start_fronts.proofs.Lifted.{moves-lifted}
+use Rattle.start_fronts.proofs.Moving.{kept-then-moved, moved-then-kept}
 use Rattle.start_fronts.proofs.Relabelled.{moves-relabelled}
+use Rattle.preorder_address.specs.Marks.{AreMarks, IsMark}
+use Rattle.preorder_address.specs.declared.marks.Mark.{Mark}
+use Rattle.start_marks.proofs.Weights.{mark-stays}
 use Rattle.path_isolation.specs.Chains.{IsChain}
 use Rattle.tree_updates.specs.Fronts.{first_keys}
 use Rattle.tree_updates.specs.Numbered.{IsNodeIsolated}
@@ -39,3 +45,15 @@ module _ (G : List KeyedRule) (gone : List Key) (h : Keyed) (k : IsKeyed h) (n :
 
   pub moves-renamed : (new : Keyed) → IsKeyed new → (f : ℕ) → new.rules ≡ with_nodes h.rules (length h.rules - 1) (labelled (nodes_at h.rules (length h.rules - 1)) I.place (Symbol f)) → MovesBefore node_weight gone n G new.rules
   moves-renamed new K f is = moves-there new.rules (moves-relabelled h new k K key f (in-start h.rules n key I) is node_weight)
+
+  pub moves-lifted-out : (new : Keyed) → IsKeyed new → new.rules ≡ with_nodes h.rules (length h.rules - 1) (lifted_nodes (nodes_at h.rules (length h.rules - 1)) I.place) → MovesBefore node_weight gone n G new.rules
+  moves-lifted-out new K is = moves-there new.rules (moves-lifted h new k K key (in-start h.rules n key I) is node_weight)
+
+-- marks stay where what stands before the start's nodes was kept
+pub marks-kept : (names : List (Kind × List ℕ)) (G H : List KeyedRule) (marks : List Mark) → KeepsBefore [] G H → AreMarks names G marks → AreMarks names H marks
+marks-kept names G H marks keeps are = All-weaker (IsMark names G) (IsMark names H) (λ mark m. mark-stays names [] G H mark keeps m (All-nil (λ k. k ≢ mark.key))) marks are
+
+-- rules go behind a change that nobody calls any more
+pub moves-swept : (gone : List Key) (n : ℕ) (G H K : List KeyedRule) → value (rules_of K) ≡ value (rules_of H) → MovesBefore node_weight gone n G H → KeepsBefore [] H K → MovesBefore node_weight gone n G K
+moves-swept gone n G H K same moves keeps =
+    subst (λ (ks : List Key). MovesBefore node_weight ks n G K) (append-nil gone) (moved-then-kept node_weight gone [] n G H K same moves keeps)

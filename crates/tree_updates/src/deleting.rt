@@ -6,15 +6,18 @@ ghost use Rattle.plain_tree.specs.Edits.{edited, placed};
 ghost use Rattle.plain_tree.specs.Tree.{Tree};
 ghost use Rattle.slt_grammar.specs.Grammars.{size};
 ghost use Rattle.slt_grammar.specs.Keyed.{rules_of};
+ghost use Rattle.start_fronts.specs.Moved.{MovesBefore};
+ghost use Rattle.segment_counts.specs.Weights.{node_weight};
 ghost use Rattle.path_isolation.specs.Isolations.{room_along};
 ghost use Rattle.preorder_address.specs.Marks.{AreMarks};
 ghost use Rattle.preorder_address.specs.Spots.{IsSpot};
 ghost use Rattle.tree_updates.specs.Extents.{IsExtentOf, IsUnsweptFor, LeavesDocument};
-ghost use Rattle.tree_updates.specs.Fronts.{KeepsMarks};
+ghost use Rattle.tree_updates.specs.Fronts.{first_keys};
 ghost use Rattle.tree_updates.specs.Stores.{Applies, IsStoreFor};
 
 use crate::deleting_between::delete_between;
 use crate::meeting_text::meeting_texts;
+use crate::moving_marks::{move_marks, whole_weights};
 use crate::node_extent::{Extent, span_of};
 use crate::room::reserve_at;
 use crate::spare_node::spare_spot;
@@ -41,24 +44,20 @@ pub(crate) fn delete<L: Ledger>(
     ensures applies { (t : Tree) → IsStoreFor store.old t → Applies t (Delete number) store.old result store.new }
     ensures marks { AreMarks store.old.names store.new.grammar.rules marks.new }
 {
-    // The call tells what is true of every grammar.
-    let _limit = store.grammar.limit();
     let spot = spare_spot(alloc, store, marks, number, steps)?;
     let span = span_of(alloc, store, marks, number, &spot, steps)?;
     let extent = span.extent;
     let found = meeting_texts(alloc, store, marks, number, &spot, span, steps)?;
     match found {
-        None => {
-            marks.cut(spot.first());
-            delete_apart(store, number, &spot, extent, steps)
-        }
+        None => delete_apart(store, marks, number, &spot, extent, steps),
         Some(beside) => delete_between(alloc, store, marks, number, extent, &beside, steps),
     }
 }
 
-// Deletes the spot's node, which has this extent, and at which no texts meet. All memory is taken first.
+// Deletes the spot's node, which has this extent, and at which no texts meet. All memory is taken first. The marks behind it move.
 fn delete_apart<L: Ledger>(
     store: &mut Store,
+    marks: &mut Marks,
     number: u64,
     spot: &Spot,
     extent: Extent,
@@ -66,12 +65,18 @@ fn delete_apart<L: Ledger>(
 ) -> Result<(), EditError>
     requires store { (t : Tree) × IsStoreFor store.old t × IsAllowed t (Delete number) × IsExtentOf t number extent }
     requires spot { IsSpot store.old.names store.old.grammar.rules number spot.now }
+    requires marks { AreMarks store.old.names store.old.grammar.rules marks.old }
     ensures applies { (t : Tree) → IsStoreFor store.old t → IsAllowed t (Delete number) → IsExtentOf t number extent → edited t (Delete number) ≡ placed t (Delete number)
         → Applies t (Delete number) store.old result store.new }
-    ensures marks { KeepsMarks spot.now.levels.items store.old.grammar.rules store.new.grammar.rules }
+    ensures marks { AreMarks store.old.names store.new.grammar.rules marks.new }
 {
+    // The calls tell what is true of every grammar.
+    let _before = store.grammar.limit();
     reserve_at(store, spot, 0, 0, steps)?;
+    let had = whole_weights(&store.counts);
     delete_plain(store, number, spot, extent, steps);
+    let _after = store.grammar.limit();
+    move_marks(marks, spot, number, had, whole_weights(&store.counts));
     Ok(())
 }
 
@@ -92,7 +97,7 @@ fn delete_plain<L: Ledger>(
     ensures store { (t : Tree) → IsUnsweptFor store.old t → IsExtentOf t number extent → LeavesDocument t (Delete number) → IsStoreFor store.new (placed t (Delete number)) }
     ensures names { store.new.names ≡ store.old.names }
     ensures size { size (rules_of store.new.grammar.rules) ≤ 2 * size (rules_of store.old.grammar.rules) }
-    ensures marks { KeepsMarks spot.now.levels.items store.old.grammar.rules store.new.grammar.rules }
+    ensures moves { MovesBefore node_weight (first_keys spot.now.levels.items) number store.old.grammar.rules store.new.grammar.rules }
 {
     take_out(store, number, spot, extent, steps);
     sweep(store);

@@ -54,6 +54,8 @@ pub fn lift_node<L: Ledger>(
     ensures cells { length index.old.cells ≤ length index.new.cells }
     ensures steps { steps.new ≤ steps.old }
     ensures front { IsSameBeforeFirst spot.now.levels.items grammar.old.rules grammar.new.rules }
+    ensures moves { (names : List (Kind × List ℕ)) (number : ℕ) → IsSpot names grammar.old.rules number spot.now
+        → MovesBefore node_weight (first_keys spot.now.levels.items) number grammar.old.rules grammar.new.rules }
 {
     lift_along(grammar, index, spot.way(), steps);
 }
@@ -85,11 +87,14 @@ pub(crate) fn lift_along<W: Way, L: Ledger>(
     ensures cells { length index.old.cells ≤ length index.new.cells }
     ensures steps { steps.new ≤ steps.old + W.most way grammar.old.rules }
     ensures front { IsSameBeforeFirst (W.levels way grammar.old.rules) grammar.old.rules grammar.new.rules }
+    ensures moves { (number : ℕ) → LeadToNode grammar.old.rules (W.levels way grammar.old.rules) number
+        → MovesBefore node_weight (first_keys (W.levels way grammar.old.rules)) number grammar.old.rules grammar.new.rules }
 {
     let at = isolate_along(grammar, index, way, steps);
-    // The call tells what is true of every grammar.
+    // The calls tell what is true of every grammar.
     let _limit = grammar.limit();
     lift_linked(grammar, index, at);
+    let _after = grammar.limit();
 }
 
 /// In the value the spot's node gets another symbol. There is room for the nodes of the bodies of the spot's levels behind the first, for

@@ -1,9 +1,10 @@
 // Rules that nobody calls any more.
-ghost use Rattle.std.specs.Prelude.{◌≡◌, ◌≤◌, ℕ, List, length};
+ghost use Rattle.std.specs.Prelude.{◌≡◌, ◌≤◌, ℕ, List, [], length};
 ghost use Rattle.plain_tree.specs.declared.kind.Kind.{Kind};
 ghost use Rattle.plain_tree.specs.Tree.{Tree};
 ghost use Rattle.slt_grammar.specs.Grammars.{size, value, IsSwept};
 ghost use Rattle.slt_grammar.specs.Keyed.{rules_of};
+ghost use Rattle.start_fronts.specs.Before.{KeepsBefore};
 ghost use Rattle.digram_index.specs.Linked.{IsIndexOf};
 ghost use Rattle.segment_counts.specs.Counting.{AreCounts};
 ghost use Rattle.preorder_address.specs.declared.marks.Mark.{Mark};
@@ -35,6 +36,7 @@ pub fn sweep_uncalled(grammar: &mut Grammar, index: &mut Index, counts: &mut Cou
     ensures numbers { index.old.spare_rules ≤ index.new.spare_rules }
     ensures cells { length index.new.cells ≡ length index.old.cells }
     ensures room { length counts.new.rows ≡ length counts.old.rows }
+    ensures before { KeepsBefore [] grammar.old.rules grammar.new.rules }
     ensures marks { (names : List (Kind × List ℕ)) (marks : List Mark) → AreMarks names grammar.old.rules marks → AreMarks names grammar.new.rules marks }
 {
     // A rule calls earlier ones alone: once it is looked at, no later rule loses a call any more.
@@ -55,6 +57,8 @@ pub(crate) fn sweep(store: &mut Store)
     ensures store { (t : Tree) → IsUnsweptFor store.old t → IsStoreFor store.new t }
     ensures names { store.new.names ≡ store.old.names }
     ensures size { size (rules_of store.new.grammar.rules) ≤ size (rules_of store.old.grammar.rules) }
+    ensures value { value (rules_of store.new.grammar.rules) ≡ value (rules_of store.old.grammar.rules) }
+    ensures before { KeepsBefore [] store.old.grammar.rules store.new.grammar.rules }
     ensures marks { (names : List (Kind × List ℕ)) (marks : List Mark) → AreMarks names store.old.grammar.rules marks → AreMarks names store.new.grammar.rules marks }
 {
     sweep_uncalled(&mut store.grammar, &mut store.index, &mut store.counts);

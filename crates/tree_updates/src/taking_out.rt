@@ -9,6 +9,7 @@ ghost use Rattle.slt_grammar.specs.ChangedValues.{start_body};
 ghost use Rattle.slt_grammar.specs.Grammars.{size};
 ghost use Rattle.slt_grammar.specs.Keyed.{KeyedRule, rules_of};
 ghost use Rattle.slt_grammar.specs.Segments.{preorder};
+ghost use Rattle.start_fronts.specs.Moved.{MovesBefore};
 ghost use Rattle.segment_counts.specs.Counting.{AreCounts};
 ghost use Rattle.segment_counts.specs.Weights.{node_weight};
 ghost use Rattle.path_isolation.specs.Isolations.{DifferInStart, room_along};
@@ -17,7 +18,7 @@ ghost use Rattle.preorder_address.specs.Spots.{IsSpot};
 ghost use Rattle.preorder_address.specs.Starting.{started};
 ghost use Rattle.preorder_address.specs.Told.{AreTold, told_levels};
 ghost use Rattle.tree_updates.specs.Extents.{IsExtentOf, IsUnsweptFor, LeavesDocument};
-ghost use Rattle.tree_updates.specs.Fronts.{IsSameBeforeFirst};
+ghost use Rattle.tree_updates.specs.Fronts.{IsSameBeforeFirst, first_keys};
 ghost use Rattle.tree_updates.specs.Ways.{levels_to, room_to};
 
 use crate::isolating::{lift_along, lift_node};
@@ -53,6 +54,7 @@ pub(crate) fn take_out<L: Ledger>(
     ensures links { store.old.index.spare_links ≤ store.new.index.spare_links + (room_along store.old.grammar.rules spot.now.levels.items + 1) }
     ensures cells { store.new.grammar.limit ≤ length store.new.index.cells }
     ensures front { IsSameBeforeFirst spot.now.levels.items store.old.grammar.rules store.new.grammar.rules }
+    ensures moves { MovesBefore node_weight (first_keys spot.now.levels.items) number store.old.grammar.rules store.new.grammar.rules }
 {
     // The call tells what is true of every grammar.
     let _limit = store.grammar.limit();

@@ -10,7 +10,6 @@ use Rattle.tree_updates.specs.declared.node_extent.Span.{Span}
 use Rattle.tree_updates.specs.declared.store.Store.{Store}
 use Rattle.tree_updates.proofs.LeavingDocuments.{coded, unswept}
 use Rattle.tree_updates.proofs.SpareNodes.{number-some}
-use Rattle.tree_updates.proofs.Fronts.{cut-stay}
 use Rattle.tree_updates.proofs.deleting.delete.Goals as goal
 
 -- what was told of the texts beside the node, if there are any
@@ -57,9 +56,3 @@ returns-clause-applies g c = λ t i.
     let a = c.args.store.now in
     let x = c.in_ok-span.ensures.span t (coded a t (unswept a t i)) in
     c.delete_between.ensures.applies t i (c.in_ok-spot.ensures.answer t i) x.extent (beside-there c.args.store.now c.args.number c.in_ok-span.span c.in_ok-found.found c.in-Some.beside c.in-Some.is c.in_ok-found.ensures.meets t i x)
-
-pub returns-in-None-clause-marks : goal.returns-in-None-clause-marks
-returns-in-None-clause-marks g c =
-    let s = c.args.store.now in
-    c.delete_apart.ensures.marks s.names c.cut.new.self
-    (cut-stay s.names s.grammar c.in_ok-spot.spot.levels.items c.in_ok-spot.spot.first c.first.result c.meeting_texts.new.marks c.cut.new.self c.cut.ensures c.limit-limit.ensures.keyed c.meeting_texts.ensures.marks c.first.ensures c.in_ok-spot.ensures.first)

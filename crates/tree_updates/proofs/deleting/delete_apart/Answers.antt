@@ -5,8 +5,12 @@ use Rattle.slt_grammar.specs.Grammars.{size}
 use Rattle.slt_grammar.specs.Keyed.{KeyedRule, rules_of}
 use Rattle.tree_updates.specs.Stores.{IsStoreFor}
 use Rattle.tree_updates.proofs.LeavingDocuments.{doubled, leaves, unswept}
-use Rattle.tree_updates.specs.Fronts.{KeepsMarks}
-use Rattle.tree_updates.proofs.Fronts.{keeps-still}
+use Rattle.plain_tree.specs.NodePairs.{Pair}
+use Rattle.start_fronts.specs.Moved.{MovesBefore}
+use Rattle.segment_counts.specs.Counting.{AreCounts}
+use Rattle.segment_counts.specs.Weights.{node_weight}
+use Rattle.preorder_address.specs.Marks.{AreMarks}
+use Rattle.tree_updates.specs.Fronts.{first_keys}
 use Rattle.tree_updates.proofs.deleting.delete_apart.Goals as goal
 
 pub delete_plain-requires-clause-room : goal.delete_plain-requires-clause-room
@@ -33,8 +37,20 @@ returns-clause-applies g c = λ t s allowed x same.
 
 pub returns-in_err-reserve_at-clause-marks : goal.returns-in_err-reserve_at-clause-marks
 returns-in_err-reserve_at-clause-marks g c =
-    keeps-still c.args.store.now.names c.args.store.now.grammar.rules c.args.number c.args.spot.now c.requires.spot c.reserve_at.new.store.grammar.rules c.reserve_at.ensures.rules
+    subst (λ (R : List KeyedRule). AreMarks c.args.store.now.names R c.args.marks.now) (sym c.reserve_at.ensures.rules) c.requires.marks
 
 pub returns-clause-marks : goal.returns-clause-marks
 returns-clause-marks g c =
-    subst (λ (R : List KeyedRule). KeepsMarks c.args.spot.now.levels.items R c.delete_plain.new.store.grammar.rules) c.reserve_at.ensures.rules c.delete_plain.ensures.marks
+    let s = c.args.store.now in
+    let r = c.requires.store in
+    let between = c.reserve_at.new.store in
+    let after = c.delete_plain.new.store in
+    let G : List KeyedRule = s.grammar.rules in
+    let same = c.reserve_at.ensures.rules in
+    let document = r.1.stand.document in
+    let left = c.delete_plain.ensures.store r.0 (unswept between r.0 (c.reserve_at.ensures.store r.0 r.1)) r.3 (leaves r.0 document (Delete c.args.number) r.2 tt) in
+    let moves = subst (λ (R : List KeyedRule). MovesBefore node_weight (first_keys c.args.spot.now.levels.items) c.args.number R after.grammar.rules) same c.delete_plain.ensures.moves in
+    let had = subst (λ (ns : List Pair). AreCounts ns (rules_of between.grammar.rules) between.counts) c.reserve_at.ensures.names (c.reserve_at.ensures.store r.0 r.1).counts in
+    let had_there = subst (λ (R : List KeyedRule). AreCounts s.names (rules_of R) between.counts) same had in
+    let has = subst (λ (ns : List Pair). AreCounts ns (rules_of after.grammar.rules) after.counts) (c.delete_plain.ensures.names ∙ c.reserve_at.ensures.names) left.counts in
+    c.move_marks.ensures s.names G after.grammar.rules c.requires.marks moves (c.whole_weights-had.ensures s.names G had_there c.limit-before.ensures.keyed.grammar) (c.whole_weights.ensures s.names after.grammar.rules has c.limit-after.ensures.keyed.grammar)

@@ -2,7 +2,9 @@ use Rattle.std.proofs.Common.{List, sym, ◌∙◌, arith}
 use Rattle.slt_grammar.specs.Keyed.{KeyedRule, rules_of}
 use Rattle.slt_grammar.proofs.KeyedLemmas.{length-rules_of}
 use Rattle.tree_updates.proofs.InStart.{differ-number, in-start, lifted-others, others-stay, same-value}
+use Rattle.tree_updates.specs.Fronts.{first_keys}
 use Rattle.tree_updates.proofs.Fronts.{front-replaced}
+use Rattle.tree_updates.proofs.MovedMarks.{moves-lifted-out}
 use Rattle.slt_grammar.specs.declared.level.Level.{Level}
 use Rattle.tree_updates.proofs.isolating.lift_along.Goals as goal
 
@@ -59,3 +61,13 @@ returns-clause-front g c =
     let lv : List Level = g.W.Way.levels c.args.way G in
     let S = in-start h.rules r.0 c.isolate_along-at.result (E.node r.0 r.1) in
     front-replaced lv G h c.limit-limit.ensures.keyed c.isolate_along-at.result E.others.many E.front S.node.here _ c.lift_linked.new.grammar.rules c.lift_linked.ensures.values (c.lift_linked.ensures.rules S.node.here)
+
+pub returns-clause-moves : goal.returns-clause-moves
+returns-clause-moves g c = λ n l.
+    let E = c.isolate_along-at.ensures in
+    let G : List KeyedRule = c.args.grammar.now.rules in
+    let h = c.isolate_along-at.new.grammar in
+    let I = E.node n l in
+    let v = same-value (rules_of G) (rules_of h.rules) (length-rules_of h.rules ∙ E.others.many ∙ sym (length-rules_of G)) E.values in
+    moves-lifted-out G (first_keys (g.W.Way.levels c.args.way G)) h c.limit-limit.ensures.keyed n c.isolate_along-at.result I v E.before c.lift_linked.new.grammar c.limit-after.ensures.keyed
+    (c.lift_linked.ensures.rules (in-start h.rules n c.isolate_along-at.result I).node.here)

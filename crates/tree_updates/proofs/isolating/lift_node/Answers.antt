@@ -2,7 +2,9 @@ use Rattle.std.proofs.Common.{◌≤◌, ◌+◌, List, sym, subst}
 use Rattle.slt_grammar.specs.declared.level.Level.{Level}
 use Rattle.path_isolation.specs.Isolations.{room_along}
 use Rattle.tree_updates.proofs.Numbered.{spot-leads}
-use Rattle.tree_updates.specs.Fronts.{IsSameBeforeFirst}
+use Rattle.tree_updates.specs.Fronts.{IsSameBeforeFirst, first_keys}
+use Rattle.start_fronts.specs.Moved.{MovesBefore}
+use Rattle.segment_counts.specs.Weights.{node_weight}
 use Rattle.tree_updates.proofs.isolating.lift_node.Goals as goal
 
 pub lift_along-requires-clause-leads : goal.lift_along-requires-clause-leads
@@ -30,3 +32,8 @@ returns-clause-links g c =
 
 pub returns-clause-front : goal.returns-clause-front
 returns-clause-front g c = subst (λ (ls : List Level). IsSameBeforeFirst ls c.args.grammar.now.rules c.lift_along.new.grammar.rules) c.way.ensures c.lift_along.ensures.front
+
+pub returns-clause-moves : goal.returns-clause-moves
+returns-clause-moves g c = λ names n S.
+    subst (λ (ls : List Level). MovesBefore node_weight (first_keys ls) n c.args.grammar.now.rules c.lift_along.new.grammar.rules) c.way.ensures
+    (c.lift_along.ensures.moves n (spot-leads names c.args.grammar.now.rules n c.args.spot.now S _ c.way.ensures))

@@ -1,9 +1,12 @@
-use Rattle.std.proofs.Common.{◌≡◌, ◌∙◌, ◌+◌, ◌-◌, ◌<◌, ℕ, List, length, ap, sym, refl, subst, arith}
+use Rattle.std.proofs.Common.{◌≡◌, ◌∙◌, ◌+◌, ◌-◌, ◌<◌, ℕ, List, [], length, ap, sym, refl, subst, arith}
 use Rattle.slt_grammar.specs.Grammars.{calls_of}
 use Rattle.slt_grammar.specs.Keyed.{KeyedRule, rules_of}
 use Rattle.slt_grammar.proofs.KeyedLemmas.{length-rules_of}
 use Rattle.slt_grammar.proofs.KeyedRemovals.{called-on}
-use Rattle.tree_updates.proofs.SweptMarks.{marks-dropped}
+use Rattle.start_fronts.specs.Before.{KeepsBefore}
+use Rattle.start_fronts.proofs.Composing.{keeps-all, keeps-both}
+use Rattle.start_fronts.proofs.Renumbered.{keeps-dropping}
+use Rattle.tree_updates.proofs.MovedMarks.{marks-kept}
 use Rattle.tree_updates.proofs.sweeping.sweep_uncalled.Goals as goal
 
 pub loop-rule-init : goal.loop-rule-init
@@ -19,7 +22,7 @@ loop-rule-init c =
       some = omega (arith, s, v, n);
       called = λ q h k. absurd (omega (arith, v, n, s, h, k));
       counts = λ names a. a;
-      marks = λ names marks a. a;
+      before = keeps-all c.args.grammar.now.rules;
       spare_nodes = omega arith;
       spare_rules = omega arith;
       limit = refl;
@@ -54,7 +57,9 @@ loop-rule-preserved-then-calls-eq0 c =
       some = omega (arith, w.0, ap length e, h);
       called = λ q k l. subst (λ (G : List KeyedRule). 0 < calls_of (rules_of G) q) (sym e) (w.1 q k (omega (arith, l, ap length e)));
       counts = λ names a. c.remove_rule.ensures.counts names (rules_of c.drop_linked.new.grammar.rules) (rules_of c.loop-rule.grammar.rules) (I.counts names a) E.values;
-      marks = λ names marks a. marks-dropped names c.loop-rule.grammar c.limit-limit.ensures.keyed p h u c.drop_linked.new.grammar.rules e E.values marks (I.marks names marks a);
+      before =
+          keeps-both [] [] c.args.grammar.now.rules c.loop-rule.grammar.rules c.drop_linked.new.grammar.rules I.before
+          (subst (λ (K : List KeyedRule). KeepsBefore [] c.loop-rule.grammar.rules K) (sym e) (keeps-dropping c.loop-rule.grammar c.limit-limit.ensures.keyed p h u));
       spare_nodes = omega (arith, I.spare_nodes, E.spare_nodes);
       spare_rules = omega (arith, I.spare_rules, E.spare_rules);
       limit = E.limit ∙ I.limit;
@@ -63,3 +68,6 @@ loop-rule-preserved-then-calls-eq0 c =
       cells = E.cells ∙ I.cells;
       room = c.remove_rule.ensures.room ∙ I.room;
     }
+
+pub returns-clause-marks : goal.returns-clause-marks
+returns-clause-marks c = λ names marks a. marks-kept names c.args.grammar.now.rules c.loop-rule.grammar.rules marks c.loop-rule.invariant.before a

@@ -1,11 +1,10 @@
-use Rattle.std.proofs.Common.{◌≡◌, ◌+◌, ◌<◌, ◌≤◌, ℕ, List, length}
+use Rattle.std.proofs.Common.{◌≡◌, ◌+◌, ◌<◌, ◌≤◌, ℕ, List, [], length}
 use Rattle.plain_tree.specs.declared.kind.Kind.{Kind}
 use Rattle.slt_grammar.specs.Grammars.{calls_of, size, value}
 use Rattle.slt_grammar.specs.Keyed.{rules_of}
+use Rattle.start_fronts.specs.Before.{KeepsBefore}
 use Rattle.digram_index.specs.Linked.{IsIndexOf}
 use Rattle.segment_counts.specs.Counting.{AreCounts}
-use Rattle.preorder_address.specs.Marks.{AreMarks}
-use Rattle.preorder_address.specs.declared.marks.Mark.{Mark}
 use Rattle.tree_updates.proofs.sweeping.sweep_uncalled.Given as goal
 
 abbrev pub invariant-loop-rule : goal.invariant-loop-rule
@@ -17,7 +16,7 @@ invariant-loop-rule l = record {
   some : l.rule + 1 ≤ length l.grammar.rules;
   called : (q : ℕ) → l.rule ≤ q → q + 1 < length l.grammar.rules → 0 < calls_of (rules_of l.grammar.rules) q;
   counts : (names : List (Kind × List ℕ)) → AreCounts names (rules_of l.initial.grammar.rules) l.initial.counts → AreCounts names (rules_of l.grammar.rules) l.counts;
-  marks : (names : List (Kind × List ℕ)) (marks : List Mark) → AreMarks names l.initial.grammar.rules marks → AreMarks names l.grammar.rules marks;
+  before : KeepsBefore [] l.initial.grammar.rules l.grammar.rules;
   spare_nodes : l.initial.grammar.spare_nodes ≤ l.grammar.spare_nodes;
   spare_rules : l.initial.grammar.spare_rules ≤ l.grammar.spare_rules;
   limit : l.grammar.limit ≡ l.initial.grammar.limit;

@@ -61,3 +61,6 @@ returns-clause-store g c = λ t s x v.
 
 pub returns-clause-cells : goal.returns-clause-cells
 returns-clause-cells g c = omega (arith, c.requires.cells, c.lift_node.ensures.cells, c.lift_node.ensures.limit)
+
+pub returns-clause-moves : goal.returns-clause-moves
+returns-clause-moves g c = let q = c.requires.spot in c.lift_node.ensures.moves q.0 c.args.number q.1

@@ -87,6 +87,25 @@ value-spelt g K =
     ap (λ n. preorder (rules_of g.rules) (n - 1)) (length-rules_of g.rules)
     ∙ preorder-nodes g K s (omega (arith, some, length-rules_of g.rules)) ∙ sym (spread-stops (rules_of g.rules) (tour kids_of ([] ∷ []) (nodes_at g.rules s)) [])
 
+-- the value is what stands before a place of the start, and the rest
+value-split : (g : Keyed) → IsKeyed g → (place : ℕ)
+    → value_labels g.rules
+    ≡ labels_before g.rules (length g.rules - 1) place
+    ++ spelt (rules_of g.rules) (tour kids_of (opens kids_of ([] ∷ []) (take place (nodes_at g.rules (length g.rules - 1)))) (drop place (nodes_at g.rules (length g.rules - 1))))
+value-split g K place =
+    let R : List Rule = rules_of g.rules in
+    let ns : List Node = nodes_at g.rules (length g.rules - 1) in
+    value-spelt g K
+    ∙ ap (λ ms. spelt R (tour kids_of ([] ∷ []) ms)) (sym (take-append-drop place ns))
+    ∙ ap (spelt R) (tour-append kids_of ([] ∷ []) (take place ns) (drop place ns))
+    ∙ first-append R R (tour kids_of ([] ∷ []) (take place ns)) (tour kids_of (opens kids_of ([] ∷ []) (take place ns)) (drop place ns))
+
+pub nothing-moves : (w : Label → ℕ) (gone : List Key) (number : ℕ) (g : Keyed) → IsKeyed g → MovesBefore w gone number g.rules g.rules
+nothing-moves w gone number g K = record {
+  early = λ key place there apart h. record { now = place; there = there; same = refl };
+  late = λ key place there apart h l. record { now = place; there = there; rest = _; first = value-split g K place; second = value-split g K place };
+}
+
 module _ (g h : Keyed) (K : IsKeyed g) (M : IsKeyed h) (A W V T : List Node)
     (old-is : nodes_at g.rules (length g.rules - 1) ≡ A ++ (W ++ T)) (new-is : nodes_at h.rules (length h.rules - 1) ≡ A ++ (V ++ T))
     (values : (r : ℕ) → r < length g.rules - 1 → value_at (rules_of h.rules) r ≡ value_at (rules_of g.rules) r)

@@ -27,6 +27,10 @@ MovingThenKeeping =
     (w : Label → ℕ) (first second : List Key) (number : ℕ) (G H K : List KeyedRule)
     → value (rules_of K) ≡ value (rules_of H) → MovesBefore w first number G H → KeepsBefore second H K → MovesBefore w (first ++ second) number G K
 
+-- where nothing changed, all stays, whatever the number
+abbrev pub NothingMoves : Type 0
+NothingMoves = (w : Label → ℕ) (gone : List Key) (number : ℕ) (g : Keyed) → IsKeyed g → MovesBefore w gone number g.rules g.rules
+
 -- the keys that the start didn't have need not be told as gone
 abbrev pub OldKeysGo : Type 0
 OldKeysGo =

@@ -4,6 +4,7 @@ ghost use Rattle.start_fronts.specs.Edits.{
   KeepingThenMoving,
   LiftingMovesBefore,
   MovingThenKeeping,
+  NothingMoves,
   OldKeysGo,
   PlainBodiesHaveNone,
   RelabellingMovesBefore,
@@ -16,6 +17,7 @@ ghost use Rattle.start_fronts.specs.Isolating.{IsolatingBegins, IsolatingGoesOn}
 pub fn moves_compose()
     ensures kept { KeepingThenMoving }
     ensures moved { MovingThenKeeping }
+    ensures none { NothingMoves }
     ensures fewer { OldKeysGo }
 {}
 

@@ -5,7 +5,7 @@ use Rattle.rule_arena.specs.declared.label.Label.TheVariants.{Bottom, Symbol, Ca
 use Rattle.plain_tree.specs.NodePairs.{Pair}
 use Rattle.plain_tree.specs.Tree.{Tree, node, Trees, none, more, trees, node_count_all}
 use Rattle.slt_grammar.specs.Algebras.{meaning, ranks_of, all_meanings}
-use Rattle.slt_grammar.specs.Bodies.{real_nodes}
+use Rattle.slt_grammar.specs.Bodies.{CallsBelow, real_nodes}
 use Rattle.slt_grammar.specs.Coding.{CodesTo}
 use Rattle.slt_grammar.specs.Terms.{Term, Leaf, Node, Hole, holes, holes_of, term_algebra}
 use Rattle.slt_grammar.specs.Wrapping.{IsWrapper}
@@ -53,6 +53,10 @@ module _ (names : List Pair) where
     code-wrapper G =
         subst (IsWrapper G) (sym C.is)
         (record { earlier = labels-calls (length G - 1) C.front; term = labels-term (ranks_of G) C.front; linear = labels-params C.front ∙ ap length (fragment-hole names (trees F) C.front C.codes) })
+
+    -- and has no calls
+    pub code-plain : CallsBelow 0 body
+    code-plain = subst (CallsBelow 0) (sym C.is) (labels-calls 0 C.front)
 
     -- and means the code
     pub code-means : (G : List Rule) → meaning term_algebra (ranks_of G) (all_meanings term_algebra G) body (holes 0 1) ≡ C.front

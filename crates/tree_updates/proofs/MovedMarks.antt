@@ -4,10 +4,14 @@ use Rattle.std.proofs.lemmas.List.Elements.{All-nil, All-weaker}
 use Rattle.plain_tree.specs.declared.kind.Kind.{Kind}
 use Rattle.rule_arena.specs.Terms.{labelled}
 use Rattle.rule_arena.specs.declared.key.Key.{Key}
+use Rattle.rule_arena.specs.declared.label.Label.{Label}
 use Rattle.rule_arena.specs.declared.label.Label.TheVariants.{Symbol}
+use Rattle.slt_grammar.specs.Algebras.{ranks_of}
+use Rattle.slt_grammar.specs.Bodies.{CallsBelow}
 use Rattle.slt_grammar.specs.Grammars.{value}
 use Rattle.slt_grammar.specs.Keyed.{IsKeyed, Keyed, KeyedRule, nodes_at, rules_of}
 use Rattle.slt_grammar.specs.KeyedEdits.{lifted_nodes, with_nodes}
+use Rattle.slt_grammar.specs.Wrapping.{IsWrapped, IsWrapper}
 use Rattle.slt_grammar.specs.declared.level.Level.{Level}
 use Rattle.slt_grammar.proofs.KeyedLemmas.{key_at-within}
 use Rattle.segment_counts.specs.Weights.{node_weight}
@@ -17,6 +21,8 @@ use Rattle.start_fronts.proofs.Holes.{hole-behind}
 use Rattle.start_fronts.proofs.Lifted.{moves-lifted}
 use Rattle.start_fronts.proofs.Moving.{kept-then-moved, moved-then-kept}
 use Rattle.start_fronts.proofs.Relabelled.{moves-relabelled}
+use Rattle.start_fronts.proofs.Wrapped.{moves-wrapped, plain-leaves}
+use Rattle.linked_edits.specs.Endings.{EndsInParam}
 use Rattle.preorder_address.specs.Marks.{AreMarks, IsMark}
 use Rattle.preorder_address.specs.declared.marks.Mark.{Mark}
 use Rattle.start_marks.proofs.Weights.{mark-stays}
@@ -24,6 +30,7 @@ use Rattle.path_isolation.specs.Chains.{IsChain}
 use Rattle.tree_updates.specs.Fronts.{first_keys}
 use Rattle.tree_updates.specs.Numbered.{IsNodeIsolated}
 use Rattle.tree_updates.proofs.InStart.{in-start}
+use Rattle.tree_updates.proofs.WrappedNodes.{in-start-rule}
 
 -- the chain's first key is the first level's
 pub first-kept : (G H : List KeyedRule) (levels : List Level) (ps : List ℕ) → IsChain G levels ps → ((l : Level) (ls : List Level) → levels ≡ l ∷ ls → KeepsBefore (l.key ∷ []) G H) → KeepsBefore (first_keys levels) G H
@@ -48,6 +55,11 @@ module _ (G : List KeyedRule) (gone : List Key) (h : Keyed) (k : IsKeyed h) (n :
 
   pub moves-lifted-out : (new : Keyed) → IsKeyed new → new.rules ≡ with_nodes h.rules (length h.rules - 1) (lifted_nodes (nodes_at h.rules (length h.rules - 1)) I.place) → MovesBefore node_weight gone n G new.rules
   moves-lifted-out new K is = moves-there new.rules (moves-lifted h new k K key (in-start h.rules n key I) is node_weight)
+
+  pub moves-wrapped-around : (new : Keyed) → IsKeyed new → (body : List Label) → IsWrapper (rules_of h.rules) body → EndsInParam body → CallsBelow 0 body → IsWrapped h.rules new.rules (length h.rules - 1) I.place key body
+      → MovesBefore node_weight gone n G new.rules
+  moves-wrapped-around new K body W E plain is =
+      moves-there new.rules (moves-wrapped h new k K key E.front body (in-start-rule h.rules n key I) W E.is (plain-leaves (ranks_of (rules_of h.rules)) body plain) is node_weight)
 
 -- marks stay where what stands before the start's nodes was kept
 pub marks-kept : (names : List (Kind × List ℕ)) (G H : List KeyedRule) (marks : List Mark) → KeepsBefore [] G H → AreMarks names G marks → AreMarks names H marks

@@ -10,12 +10,14 @@ ghost use Rattle.plain_tree.specs.declared.kind.Kind.{Kind};
 ghost use Rattle.slt_grammar.specs.Bodies.{real_nodes};
 ghost use Rattle.slt_grammar.specs.Grammars.{size};
 ghost use Rattle.slt_grammar.specs.Keyed.{rules_of};
+ghost use Rattle.start_fronts.specs.Moved.{MovesBefore};
+ghost use Rattle.segment_counts.specs.Weights.{node_weight};
 ghost use Rattle.path_isolation.specs.Isolations.{room_along};
 ghost use Rattle.preorder_address.specs.Marks.{AreMarks, MarksFirst};
 ghost use Rattle.preorder_address.specs.Spots.{IsSpot};
 ghost use Rattle.tree_updates.specs.Extents.{IsUnsweptFor};
 ghost use Rattle.tree_updates.specs.Fragments.{IsCodeOf, MayComeBefore};
-ghost use Rattle.tree_updates.specs.Fronts.{IsSameBeforeFirst, KeepsMarks};
+ghost use Rattle.tree_updates.specs.Fronts.{first_keys};
 ghost use Rattle.tree_updates.specs.Joinings.{AreApart, MayInsert, MayJoin, back_value, ends, front_value, joined_edits, valued_texts};
 ghost use Rattle.tree_updates.specs.Stores.{Applies, IsStoreFor};
 
@@ -26,6 +28,7 @@ use crate::fragment_spots::spot_beside;
 use crate::isolating::wrap_node;
 use crate::joining::{Joined, Seams, ends, join_ends};
 use crate::joining_three::join_three;
+use crate::moving_marks::{move_where_named, whole_weights};
 use crate::room::reserve_at;
 use crate::store::{EditError, Store};
 use crate::sweeping::sweep;
@@ -81,16 +84,19 @@ pub(crate) fn insert_beside<L: Ledger>(
     ensures applies { (t : Tree) → IsStoreFor store.old t → IsAllowed t (Insert number fragment.now) → Applies t (Insert number fragment.now) store.old result store.new }
     ensures marks { AreMarks store.old.names store.new.grammar.rules marks.new }
 {
-    // The call tells what is true of every grammar.
+    // The calls tell what is true of every grammar.
     let _limit = store.grammar.limit();
     let seams = find_seams(alloc, store, marks, number, spot, fragment, steps)?;
     if !fits(alloc, store, fragment, seams)? {
         return Err(EditError::TooMany);
     }
     let rank = spot.text_rank();
+    let named = store.names.len();
+    let had = whole_weights(&store.counts);
     let coded = encode_in(alloc, store, fragment)?;
-    marks.cut(spot.first());
     put_fragment(alloc, store, number, spot, rank, seams, coded, steps)?;
+    let _after = store.grammar.limit();
+    move_where_named(marks, store, named, number, spot, had);
     Ok(())
 }
 
@@ -127,7 +133,7 @@ fn put_fragment<L: Ledger>(
     ensures texts { OnErr result (store.new.texts.texts ≡ store.old.texts.texts) }
     ensures names { store.new.names ≡ store.old.names }
     ensures size { OnOk result (size (rules_of store.new.grammar.rules) ≤ 2 * size (rules_of store.old.grammar.rules) + real_nodes coded.body) }
-    ensures marks { KeepsMarks spot.now.levels.items store.old.grammar.rules store.new.grammar.rules }
+    ensures moves { OnOk result (MovesBefore node_weight (first_keys spot.now.levels.items) number store.old.grammar.rules store.new.grammar.rules) }
 {
     if is_one_between(seams, coded.body.len()) {
         return join_three(alloc, store, number, spot, rank, &coded.texts, steps);
@@ -163,7 +169,7 @@ fn place_coded<L: Ledger>(
     ensures texts { OnErr result (store.new.texts.texts ≡ store.old.texts.texts) }
     ensures names { store.new.names ≡ store.old.names }
     ensures size { OnOk result (size (rules_of store.new.grammar.rules) ≤ 2 * size (rules_of store.old.grammar.rules) + real_nodes coded.body) }
-    ensures marks { KeepsMarks spot.now.levels.items store.old.grammar.rules store.new.grammar.rules }
+    ensures moves { OnOk result (MovesBefore node_weight (first_keys spot.now.levels.items) number store.old.grammar.rules store.new.grammar.rules) }
 {
     let joined = join_ends(alloc, &store.texts, rank, seams, coded)?;
     place(store, number, spot, rank, joined, steps)
@@ -186,7 +192,7 @@ fn place<L: Ledger>(
     ensures texts { OnErr result (store.new.texts.texts ≡ store.old.texts.texts) }
     ensures names { store.new.names ≡ store.old.names }
     ensures size { OnOk result (size (rules_of store.new.grammar.rules) ≤ 2 * size (rules_of store.old.grammar.rules) + real_nodes joined.rest.body) }
-    ensures marks { KeepsMarks spot.now.levels.items store.old.grammar.rules store.new.grammar.rules }
+    ensures moves { OnOk result (MovesBefore node_weight (first_keys spot.now.levels.items) number store.old.grammar.rules store.new.grammar.rules) }
 {
     let labels = count_labels(joined.rest.body.as_slice());
     let texts = (joined.rest.texts.len() as u64).saturating_add(2);
@@ -224,7 +230,7 @@ fn put_joined<L: Ledger>(
     ensures store { (t : Tree) (F : List Tree) → IsUnsweptFor store.old t → MayJoin store.old t number rank F joined → IsUnsweptFor store.new (in_turn t (joined_edits number joined.front joined.back F)) }
     ensures names { store.new.names ≡ store.old.names }
     ensures size { size (rules_of store.new.grammar.rules) ≤ 2 * size (rules_of store.old.grammar.rules) + real_nodes joined.rest.body }
-    ensures front { IsSameBeforeFirst spot.now.levels.items store.old.grammar.rules store.new.grammar.rules }
+    ensures moves { MovesBefore node_weight (first_keys spot.now.levels.items) number store.old.grammar.rules store.new.grammar.rules }
 {
     let Joined { front, back, rest } = joined;
     set_text(&mut store.texts, rank.saturating_sub(1), front);
@@ -263,8 +269,10 @@ fn put_rest<L: Ledger>(
         → IsUnsweptFor store.new (in_turn t (insert_any number F)) }
     ensures names { store.new.names ≡ store.old.names }
     ensures size { size (rules_of store.new.grammar.rules) ≤ 2 * size (rules_of store.old.grammar.rules) + real_nodes rest.body }
-    ensures front { IsSameBeforeFirst spot.now.levels.items store.old.grammar.rules store.new.grammar.rules }
+    ensures moves { MovesBefore node_weight (first_keys spot.now.levels.items) number store.old.grammar.rules store.new.grammar.rules }
 {
+    // The call tells what is true of every grammar.
+    let _limit = store.grammar.limit();
     if rest.body.len() == 1 {
         return;
     }
@@ -291,7 +299,7 @@ fn put_before<L: Ledger>(
     ensures store { (t : Tree) (F : List Tree) → IsUnsweptFor store.old t → MayComeBefore store.old t number rank F coded → IsUnsweptFor store.new (placed t (Insert number F)) }
     ensures names { store.new.names ≡ store.old.names }
     ensures size { size (rules_of store.new.grammar.rules) ≤ 2 * size (rules_of store.old.grammar.rules) + real_nodes coded.body }
-    ensures front { IsSameBeforeFirst spot.now.levels.items store.old.grammar.rules store.new.grammar.rules }
+    ensures moves { MovesBefore node_weight (first_keys spot.now.levels.items) number store.old.grammar.rules store.new.grammar.rules }
 {
     // The calls tell what is true of every grammar, and how few texts there are.
     let _limit = store.grammar.limit();

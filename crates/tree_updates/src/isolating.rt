@@ -160,11 +160,14 @@ pub fn wrap_node<L: Ledger>(
     ensures cells { length index.old.cells ≤ length index.new.cells }
     ensures steps { steps.new ≤ steps.old }
     ensures front { IsSameBeforeFirst spot.now.levels.items grammar.old.rules grammar.new.rules }
+    ensures moves { (names : List (Kind × List ℕ)) (number : ℕ) → IsSpot names grammar.old.rules number spot.now
+        → MovesBefore node_weight (first_keys spot.now.levels.items) number grammar.old.rules grammar.new.rules }
 {
     let at = isolate_node(grammar, index, spot, steps);
-    // The call tells what is true of every grammar.
+    // The calls tell what is true of every grammar.
     let _limit = grammar.limit();
     wrap_linked(grammar, index, at, body);
+    let _after = grammar.limit();
 }
 
 // Makes the spot's node a node of the start's body, and answers it. It takes no memory.

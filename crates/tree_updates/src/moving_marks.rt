@@ -1,6 +1,7 @@
 // Marks that move with a change of the value at a node.
-ghost use Rattle.std.specs.Prelude.{◌≡◌, ℕ, List};
+ghost use Rattle.std.specs.Prelude.{◌≡◌, ◌≤◌, ℕ, List, length};
 ghost use Rattle.plain_tree.specs.declared.kind.Kind.{Kind};
+ghost use Rattle.plain_tree.specs.NodePairs.{Pair};
 ghost use Rattle.slt_grammar.specs.Grammars.{IsGrammar};
 ghost use Rattle.slt_grammar.specs.Keyed.{KeyedRule, rules_of};
 ghost use Rattle.start_fronts.specs.Moved.{MovesBefore};
@@ -10,6 +11,7 @@ ghost use Rattle.preorder_address.specs.Marks.{AreMarks};
 ghost use Rattle.start_marks.specs.Moving.{AreWeightsOf};
 ghost use Rattle.tree_updates.specs.Fronts.{first_key, first_keys};
 
+use crate::store::Store;
 use preorder_address::{Marks, Numbering, Shift, Spot};
 use segment_counts::{Counts, Weights};
 use slt_grammar::Key;
@@ -33,6 +35,28 @@ pub(crate) fn move_marks(marks: &mut Marks, spot: &Spot, number: u64, had: Weigh
         has,
     };
     marks.shift(&shift, key_of_first(spot));
+}
+
+// Moves the marks with a change of the store's document at the spot's node, which has this number, by what the value weighed. Names that came
+// with it take all away: they are marks by the names that were there.
+pub(crate) fn move_where_named(
+    marks: &mut Marks,
+    store: &Store,
+    named: usize,
+    number: u64,
+    spot: &Spot,
+    had: Weights,
+)
+    ensures { (names : List Pair) (G H : List KeyedRule)
+        → (length store.now.names ≤ named → AreMarks names G marks.old × MovesBefore node_weight (first_keys spot.now.levels.items) number G H
+        × AreWeightsOf names G had × AreCounts names (rules_of H) store.now.counts × IsGrammar (rules_of H))
+        → AreMarks names H marks.new }
+{
+    if named < store.names.len() {
+        marks.clear();
+        return;
+    }
+    move_marks(marks, spot, number, had, whole_weights(&store.counts));
 }
 
 fn key_of_first(spot: &Spot) -> Option<Key>

@@ -3,25 +3,18 @@ ghost use Rattle.std.specs.Prelude.{◌≡◌, ◌↔◌, ◌+◌, ◌≤◌, If
 ghost use Rattle.plain_tree.specs.declared.kind.Kind.{Kind};
 ghost use Rattle.plain_tree.specs.Allowed.{IsAllowed};
 ghost use Rattle.plain_tree.specs.Lawful.{IsName};
-ghost use Rattle.plain_tree.specs.NodePairs.{Pair};
 ghost use Rattle.plain_tree.specs.Tree.{Tree};
 ghost use Rattle.plain_tree.specs.declared.edit.Edit.TheVariants.{Rename};
-ghost use Rattle.slt_grammar.specs.Grammars.{IsGrammar};
-ghost use Rattle.slt_grammar.specs.Keyed.{KeyedRule, rules_of};
-ghost use Rattle.start_fronts.specs.Moved.{MovesBefore};
-ghost use Rattle.segment_counts.specs.Counting.{AreCounts};
-ghost use Rattle.segment_counts.specs.Weights.{node_weight};
 ghost use Rattle.digram_index.specs.Linked.{IsIndexOf};
 ghost use Rattle.path_isolation.specs.Isolations.{room_along};
 ghost use Rattle.preorder_address.specs.Marks.{AreMarks, MarksFirst};
 ghost use Rattle.preorder_address.specs.Spots.{IsSpot};
 ghost use Rattle.preorder_address.specs.TreeNumbers.{kind_at};
-ghost use Rattle.tree_updates.specs.Fronts.{first_keys};
 ghost use Rattle.tree_updates.specs.Stores.{Applies, IsRefusedFor, IsStoreFor};
 
 use crate::isolating::relabel_node;
 use crate::kid_attributes::{element_of, find_attribute};
-use crate::moving_marks::{move_marks, whole_weights};
+use crate::moving_marks::{move_where_named, whole_weights};
 use crate::node_spots::spot_at;
 use crate::store::{EditError, Store};
 use crate::sweeping::sweep_uncalled;
@@ -64,6 +57,7 @@ pub(crate) fn rename<L: Ledger>(
     let _limit = store.grammar.limit();
     let found = find_nameable(alloc, store, marks, number, name, steps)?;
     let named = store.names.len();
+    let had = whole_weights(&store.counts);
     let symbol = store.names.intern(alloc, found.kind, name)?;
     make_room(&mut store.grammar, &mut store.index, &found.spot, steps)?;
     relabel_node(
@@ -74,25 +68,9 @@ pub(crate) fn rename<L: Ledger>(
         steps,
     );
     let _after = store.grammar.limit();
-    move_renamed(marks, store, named, number, &found.spot);
+    move_where_named(marks, store, named, number, &found.spot, had);
     sweep_uncalled(&mut store.grammar, &mut store.index, &mut store.counts);
     Ok(())
-}
-
-// Keeps the marks around the spot's node, which got another symbol of the same weights. A name that is new takes all away: they are marks by
-// the names that were there.
-fn move_renamed(marks: &mut Marks, store: &Store, named: usize, number: u64, spot: &Spot)
-    ensures { (names : List Pair) (G H : List KeyedRule)
-        → (length store.now.names ≤ named → AreMarks names G marks.old × MovesBefore node_weight (first_keys spot.now.levels.items) number G H
-        × AreCounts names (rules_of G) store.now.counts × IsGrammar (rules_of G) × AreCounts names (rules_of H) store.now.counts × IsGrammar (rules_of H))
-        → AreMarks names H marks.new }
-{
-    if named < store.names.len() {
-        marks.clear();
-        return;
-    }
-    let whole = whole_weights(&store.counts);
-    move_marks(marks, spot, number, whole, whole);
 }
 
 // Makes room for isolating a node and giving it another symbol.

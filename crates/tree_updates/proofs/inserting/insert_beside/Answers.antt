@@ -1,11 +1,11 @@
-use Rattle.std.proofs.Common.{◌*◌, List, ap, sym, ◌∙◌, subst, arith}
+use Rattle.std.proofs.Common.{◌≡◌, ◌*◌, List, ap, sym, ◌∙◌, subst, arith}
 use Rattle.std.proofs.lemmas.Result.{err_from_is_err_and}
 use Rattle.plain_tree.specs.declared.edit.Edit.TheVariants.{Insert}
 use Rattle.plain_tree.specs.Edits.{merged}
 use Rattle.plain_tree.specs.NodePairs.{Pair, pairs_of_trees}
 use Rattle.plain_tree.specs.Tree.{none, more, trees, node_count_all}
 use Rattle.slt_grammar.specs.Grammars.{size}
-use Rattle.slt_grammar.specs.Keyed.{Keyed, rules_of}
+use Rattle.slt_grammar.specs.Keyed.{Keyed, KeyedRule, rules_of}
 use Rattle.text_list.specs.RoomyTexts.{RoomyTexts}
 use Rattle.fcns_encoding.specs.Interning.{Interns}
 use Rattle.preorder_address.specs.Spots.{IsSpot}
@@ -18,8 +18,11 @@ use Rattle.tree_updates.proofs.SpareNodes.{insert-some}
 use Rattle.tree_updates.proofs.StoreLemmas.{refused-there}
 use Rattle.tree_updates.proofs.Texts.{rank_in}
 use Rattle.preorder_address.specs.Marks.{AreMarks}
-use Rattle.tree_updates.specs.Fronts.{KeepsMarks}
-use Rattle.tree_updates.proofs.Fronts.{cut-stay}
+use Rattle.start_fronts.specs.Moved.{MovesBefore}
+use Rattle.segment_counts.specs.Counting.{AreCounts}
+use Rattle.segment_counts.specs.Weights.{node_weight}
+use Rattle.tree_updates.specs.Fronts.{first_keys}
+use Rattle.tree_updates.proofs.AppliedMarks.{names-same}
 use Rattle.tree_updates.proofs.inserting.insert_beside.Goals as goal
 
 pub find_seams-requires-clause-behind : goal.find_seams-requires-clause-behind
@@ -94,14 +97,29 @@ returns-in_err-coded-clause-marks g c =
 
 pub returns-in_err-put_fragment-clause-marks : goal.returns-in_err-put_fragment-clause-marks
 returns-in_err-put_fragment-clause-marks g c =
-    let s = c.args.store.now in
-    let spot = c.args.spot.now in
-    subst (λ (k : Keyed). KeepsMarks spot.levels.items k.rules c.put_fragment.new.store.grammar.rules) c.encode_in.ensures.grammar c.put_fragment.ensures.marks s.names c.cut.new.self
-    (cut-stay s.names s.grammar spot.levels.items spot.first c.first.result c.find_seams.new.marks c.cut.new.self c.cut.ensures c.limit-limit.ensures.keyed c.find_seams.ensures.marks c.first.ensures c.requires.first)
+    subst (λ (R : List KeyedRule). AreMarks c.args.store.now.names R c.find_seams.new.marks) (sym (c.in_err-put_fragment.ensures.rules ∙ ap (λ (k : Keyed). k.rules) c.encode_in.ensures.grammar)) c.find_seams.ensures.marks
 
 pub returns-clause-marks : goal.returns-clause-marks
 returns-clause-marks g c =
     let s = c.args.store.now in
-    let spot = c.args.spot.now in
-    subst (λ (k : Keyed). KeepsMarks spot.levels.items k.rules c.put_fragment.new.store.grammar.rules) c.encode_in.ensures.grammar c.put_fragment.ensures.marks s.names c.cut.new.self
-    (cut-stay s.names s.grammar spot.levels.items spot.first c.first.result c.find_seams.new.marks c.cut.new.self c.cut.ensures c.limit-limit.ensures.keyed c.find_seams.ensures.marks c.first.ensures c.requires.first)
+    let r = c.requires.store in
+    let n = c.args.number in
+    let F = c.args.fragment.now in
+    let after = c.put_fragment.new.store in
+    let H : List KeyedRule = after.grammar.rules in
+    let gone = first_keys c.args.spot.now.levels.items in
+    let lawful = c.limit-limit.ensures.keyed.grammar in
+    let ranked = c.text_rank-rank.ensures s.names s.grammar.rules n r.0 c.requires.spot r.1.stand.code in
+    let come = may-insert s r.0 r.1 n F r.2 c.requires.fragment c.text_rank-rank.result ranked c.in_ok-seams.seams (c.in_ok-seams.ensures.seams r.0 r.1) c.in_ok-fits.field-0 (c.in_ok-fits.ensures r.0 r.1) c.if-not-branch.false
+    c.encode_in.new.store c.in_ok-coded.coded c.in_ok-coded.ensures.code c.in_ok-coded.ensures.values in
+    let stored = c.in_ok-put_fragment.ensures.store r.0 F (c.encode_in.ensures.store r.0 r.1) come in
+    let grown = subst (λ (ps : List Pair). Interns s.names (pairs_of_trees (trees F)) ps) (sym c.put_fragment.ensures.names) c.in_ok-coded.ensures.names in
+    let moves = subst (λ (k : Keyed). MovesBefore node_weight gone n k.rules H) c.encode_in.ensures.grammar c.in_ok-put_fragment.ensures.moves in
+    c.move_where_named.ensures s.names s.grammar.rules H (λ few.
+    let none : after.names ≡ s.names = names-same s.names (pairs_of_trees (trees F)) after.names grown (omega (arith, few, c.len-named.ensures.value)) in (
+      c.find_seams.ensures.marks,
+      moves,
+      c.whole_weights-had.ensures s.names s.grammar.rules r.1.counts lawful,
+      subst (λ (ns : List Pair). AreCounts ns (rules_of H) after.counts) none stored.counts,
+      c.limit-after.ensures.keyed.grammar,
+    ))

@@ -6,7 +6,10 @@ use Rattle.preorder_address.specs.Spots.{IsSpot}
 use Rattle.tree_updates.specs.Joinings.{joined_edits}
 use Rattle.tree_updates.proofs.InsertedEdits.{still-joins}
 use Rattle.tree_updates.proofs.LeavingDocuments.{unswept}
-use Rattle.tree_updates.proofs.Fronts.{keeps-still, keeps-swept}
+use Rattle.start_fronts.specs.Moved.{MovesBefore}
+use Rattle.segment_counts.specs.Weights.{node_weight}
+use Rattle.tree_updates.specs.Fronts.{first_keys}
+use Rattle.tree_updates.proofs.MovedMarks.{moves-swept}
 use Rattle.tree_updates.proofs.inserting.place.Goals as goal
 
 pub put_joined-requires-clause-comes : goal.put_joined-requires-clause-comes
@@ -42,11 +45,9 @@ returns-clause-store g c = λ t F i M.
     c.sweep.ensures.store (in_turn t (joined_edits c.args.number j.front j.back F))
     (c.put_joined.ensures.store t F (unswept c.reserve_at.new.store t (c.reserve_at.ensures.store t i)) (still-joins c.args.store.now c.reserve_at.new.store t c.args.number c.args.rank F j c.reserve_at.ensures.names M))
 
-pub returns-in_err-reserve_at-clause-marks : goal.returns-in_err-reserve_at-clause-marks
-returns-in_err-reserve_at-clause-marks g c =
-    let S = c.requires.spot in
-    keeps-still S.0 c.args.store.now.grammar.rules c.args.number c.args.spot.now S.1 c.reserve_at.new.store.grammar.rules c.reserve_at.ensures.rules
-
-pub returns-clause-marks : goal.returns-clause-marks
-returns-clause-marks g c =
-    keeps-swept c.args.spot.now.levels.items c.args.store.now.grammar.rules c.reserve_at.new.store.grammar.rules c.put_joined.new.store.grammar.rules c.sweep.new.store.grammar.rules c.reserve_at.ensures.rules c.put_joined.ensures.front c.sweep.ensures.marks
+pub returns-clause-moves : goal.returns-clause-moves
+returns-clause-moves g c =
+    let gone = first_keys c.args.spot.now.levels.items in
+    let K : List KeyedRule = c.sweep.new.store.grammar.rules in
+    let moves = moves-swept gone c.args.number c.reserve_at.new.store.grammar.rules c.put_joined.new.store.grammar.rules K c.sweep.ensures.value c.put_joined.ensures.moves c.sweep.ensures.before in
+    subst (λ (R : List KeyedRule). MovesBefore node_weight gone c.args.number R K) c.reserve_at.ensures.rules moves

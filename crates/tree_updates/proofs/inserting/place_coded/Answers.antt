@@ -1,4 +1,4 @@
-use Rattle.std.proofs.Common.{◌+◌, ◌≤◌, ℕ, length, ap, sym, subst, arith, refl}
+use Rattle.std.proofs.Common.{◌+◌, ◌≤◌, ℕ, length, ap, sym, subst, arith}
 use Rattle.std.proofs.lemmas.Result.{on_ok_weaker}
 use Rattle.plain_tree.specs.Tree.{trees, node_count_all}
 use Rattle.tree_updates.specs.Joinings.{back_value, ends, front_value}
@@ -6,7 +6,6 @@ use Rattle.tree_updates.specs.Stores.{IsStoreFor}
 use Rattle.tree_updates.proofs.CodeBodies.{code-last, code-real}
 use Rattle.tree_updates.proofs.JoinedCodes.{rest-fewer}
 use Rattle.tree_updates.proofs.JoinedInsertions.{comes-to, labels-fit-ends, left_trees, may-join, texts-fit-ends}
-use Rattle.tree_updates.proofs.Fronts.{keeps-still}
 use Rattle.tree_updates.proofs.inserting.place_coded.Goals as goal
 
 pub join_ends-requires-clause-last : goal.join_ends-requires-clause-last
@@ -57,6 +56,3 @@ returns-clause-size g c =
     let join = may-join a r.0 r.2 n c.args.rank r.1 r.3.edit_is r.3.rank_is r.4 c.args.seams r.3.seams c.args.coded r.3.code r.3.texts_are r.3.small j e.front e.back e.body e.rest in
     let fewer : node_count_all (trees left) ≤ node_count_all (trees r.1) = rest-fewer (front_value r.0 n r.1) (back_value r.0 n r.1) r.1 in
     on_ok_weaker c.place.result (λ told. omega (arith, told, fewer, code-real a.names left j.rest.body join.code, code-real a.names r.1 c.args.coded.body r.3.code)) c.place.ensures.size
-
-pub returns-in_err-joined-clause-marks : goal.returns-in_err-joined-clause-marks
-returns-in_err-joined-clause-marks g c = let S = c.requires.spot in keeps-still S.0 c.args.store.now.grammar.rules c.args.number c.args.spot.now S.1 c.args.store.now.grammar.rules refl

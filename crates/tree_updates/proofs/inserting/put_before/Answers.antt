@@ -49,3 +49,6 @@ returns-clause-store g c = λ t F u M.
           (λ m. c.raise_start.ensures.counts a.names (rules_of a.grammar.rules) H u.counts c.wrap_node.ensures.values m);
       index = c.wrap_node.ensures.index;
     }
+
+pub returns-clause-moves : goal.returns-clause-moves
+returns-clause-moves g c = let S = c.requires.spot in c.wrap_node.ensures.moves S.0 c.args.number S.1

@@ -1,7 +1,9 @@
 use Rattle.std.proofs.Common.{subst}
 use Rattle.tree_updates.specs.Extents.{IsUnsweptFor}
 use Rattle.tree_updates.proofs.JoinedStores.{any-placed, some-left}
-use Rattle.tree_updates.proofs.Fronts.{front-still}
+use Rattle.start_fronts.proofs.Windows.{nothing-moves}
+use Rattle.segment_counts.specs.Weights.{node_weight}
+use Rattle.tree_updates.specs.Fronts.{first_keys}
 use Rattle.tree_updates.proofs.inserting.put_rest.Goals as goal
 
 pub put_before-requires-clause-comes : goal.put_before-requires-clause-comes
@@ -15,5 +17,5 @@ returns-clause-store g c = λ t F u C come.
     let some = some-left c.args.store.now.names F c.args.rest.body C c.len.result c.len.ensures c.if-len-eq1.false in
     subst (IsUnsweptFor c.put_before.new.store) (any-placed t c.args.number F some) (c.put_before.ensures.store t F u (come some))
 
-pub returns-then-len-eq1-clause-front : goal.returns-then-len-eq1-clause-front
-returns-then-len-eq1-clause-front g c = let S = c.requires.spot in front-still S.0 c.args.store.now.grammar.rules c.args.number c.args.spot.now S.1
+pub returns-then-len-eq1-clause-moves : goal.returns-then-len-eq1-clause-moves
+returns-then-len-eq1-clause-moves g c = nothing-moves node_weight (first_keys c.args.spot.now.levels.items) c.args.number c.args.store.now.grammar c.limit-limit.ensures.keyed

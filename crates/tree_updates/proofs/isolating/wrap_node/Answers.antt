@@ -1,10 +1,12 @@
 use Rattle.std.proofs.Common.{List, sym, ◌∙◌, arith}
 use Rattle.slt_grammar.specs.Keyed.{KeyedRule, rules_of}
 use Rattle.slt_grammar.proofs.KeyedLemmas.{length-rules_of}
-use Rattle.tree_updates.proofs.CodeBodies.{code-last, code-means, code-wrapper}
+use Rattle.tree_updates.proofs.CodeBodies.{code-last, code-means, code-plain, code-wrapper}
 use Rattle.tree_updates.proofs.InStart.{others-stay, same-value}
 use Rattle.tree_updates.proofs.WrappedNodes.{gets-before, in-start-rule}
+use Rattle.tree_updates.specs.Fronts.{first_keys}
 use Rattle.tree_updates.proofs.Fronts.{front-wrapped}
+use Rattle.tree_updates.proofs.MovedMarks.{moves-wrapped-around}
 use Rattle.tree_updates.proofs.isolating.wrap_node.Goals as goal
 
 pub wrap_linked-requires-clause-there : goal.wrap_linked-requires-clause-there
@@ -53,3 +55,15 @@ returns-clause-front g c =
     let h = c.isolate_node-at.new.grammar in
     let S = in-start-rule h.rules r.1 c.isolate_node-at.result (E.node r.0 r.1 r.2) in
     front-wrapped c.args.spot.now.levels.items G h c.limit-limit.ensures.keyed c.isolate_node-at.result E.others.many E.front S.here c.wrap_linked.new.grammar.rules c.wrap_linked.ensures.values (c.wrap_linked.ensures.front S)
+
+pub returns-clause-moves : goal.returns-clause-moves
+returns-clause-moves g c = λ names n s.
+    let E = c.isolate_node-at.ensures in
+    let b = c.requires.body in
+    let body = c.args.body.now in
+    let G : List KeyedRule = c.args.grammar.now.rules in
+    let h = c.isolate_node-at.new.grammar in
+    let I = E.node names n s in
+    let v = same-value (rules_of G) (rules_of h.rules) (length-rules_of h.rules ∙ E.others.many ∙ sym (length-rules_of G)) E.values in
+    moves-wrapped-around G (first_keys c.args.spot.now.levels.items) h c.limit-limit.ensures.keyed n c.isolate_node-at.result I v E.before c.wrap_linked.new.grammar c.limit-after.ensures.keyed body
+    (code-wrapper b.0 b.1 body b.2 (rules_of h.rules)) (code-last b.0 b.1 body b.2) (code-plain b.0 b.1 body b.2) (c.wrap_linked.ensures.rules (in-start-rule h.rules n c.isolate_node-at.result I))

@@ -1,4 +1,4 @@
-use Rattle.std.proofs.Common.{◌-◌, ℕ, List, ap, ◌∙◌, subst, arith, length, refl}
+use Rattle.std.proofs.Common.{◌-◌, ℕ, List, ap, ◌∙◌, subst, arith, length}
 use Rattle.std.specs.Prelude.{slice_set}
 use Rattle.std.proofs.lemmas.Option.{slice_get_within}
 use Rattle.plain_tree.specs.declared.edit.Edit.TheVariants.{Delete}
@@ -7,7 +7,11 @@ use Rattle.tree_updates.specs.Stores.{IsStoreFor}
 use Rattle.tree_updates.proofs.JoinedThrees.{added-there, before-there, comes-to-edited, delete-leaves, here-extent, here-there, is-there, place-some, three-is, valued, valued-three}
 use Rattle.tree_updates.proofs.LeavingDocuments.{unswept}
 use Rattle.tree_updates.proofs.NodeExtents.{extent-is}
-use Rattle.tree_updates.proofs.Fronts.{keeps-still, keeps-swept}
+use Rattle.slt_grammar.specs.Keyed.{KeyedRule}
+use Rattle.start_fronts.specs.Moved.{MovesBefore}
+use Rattle.segment_counts.specs.Weights.{node_weight}
+use Rattle.tree_updates.specs.Fronts.{first_keys}
+use Rattle.tree_updates.proofs.MovedMarks.{moves-swept}
 use Rattle.tree_updates.proofs.joining_three.join_three.Goals as goal
 
 pub overflow_sub-rank : goal.overflow_sub-rank
@@ -87,14 +91,9 @@ returns-clause-store g c = λ t F i M.
     subst (IsStoreFor c.sweep.new.store) (comes-to-edited a t i n c.args.rank F c.args.added.now M)
     (c.sweep.ensures.store (placed one (Delete n)) (c.take_out.ensures.store one u (extent-is c.text_extent.result c.text_extent.ensures (here-extent a t i n c.args.rank F c.args.added.now M)) (delete-leaves a t i n c.args.rank F c.args.added.now M)))
 
-pub returns-in_err-value-clause-marks : goal.returns-in_err-value-clause-marks
-returns-in_err-value-clause-marks g c = let S = c.requires.spot in keeps-still S.0 c.args.store.now.grammar.rules c.args.number c.args.spot.now S.1 c.args.store.now.grammar.rules refl
-
-pub returns-in_err-reserve_at-clause-marks : goal.returns-in_err-reserve_at-clause-marks
-returns-in_err-reserve_at-clause-marks g c =
-    let S = c.requires.spot in
-    keeps-still S.0 c.args.store.now.grammar.rules c.args.number c.args.spot.now S.1 c.reserve_at.new.store.grammar.rules c.reserve_at.ensures.rules
-
-pub returns-clause-marks : goal.returns-clause-marks
-returns-clause-marks g c =
-    keeps-swept c.args.spot.now.levels.items c.args.store.now.grammar.rules c.reserve_at.new.store.grammar.rules c.take_out.new.store.grammar.rules c.sweep.new.store.grammar.rules c.reserve_at.ensures.rules c.take_out.ensures.front c.sweep.ensures.marks
+pub returns-clause-moves : goal.returns-clause-moves
+returns-clause-moves g c =
+    let gone = first_keys c.args.spot.now.levels.items in
+    let K : List KeyedRule = c.sweep.new.store.grammar.rules in
+    let moves = moves-swept gone c.args.number c.reserve_at.new.store.grammar.rules c.take_out.new.store.grammar.rules K c.sweep.ensures.value c.take_out.ensures.moves c.sweep.ensures.before in
+    subst (λ (R : List KeyedRule). MovesBefore node_weight gone c.args.number R K) c.reserve_at.ensures.rules moves

@@ -94,13 +94,12 @@ returns-clause-marks g c =
     let lawful = c.limit-limit.ensures.keyed.grammar in
     let counts =
     counts-after s r.0 r.1 n x c.requires.name (c.in_ok-found.ensures.allowed r.0 r.1) a.kind (c.in_ok-found.ensures.kind r.0 r.1) names grown lawful (rules_of H) c.in_ok-symbol.symbol c.in_ok-symbol.ensures.place gets others in
-    c.sweep_uncalled.ensures.marks s.names c.move_renamed.new.marks
-    (c.move_renamed.ensures s.names G H (λ few.
+    c.sweep_uncalled.ensures.marks s.names c.move_where_named.new.marks
+    (c.move_where_named.ensures s.names G H (λ few.
     let none : names ≡ s.names = names-same s.names ((a.kind, x) ∷ []) names grown (omega (arith, few, c.len-named.ensures.value)) in (
       c.find_nameable.ensures.marks,
       moves,
-      r.1.counts,
-      lawful,
+      c.whole_weights-had.ensures s.names G r.1.counts lawful,
       subst (λ (ns : List Pair). AreCounts ns (rules_of H) s.counts) none counts,
       c.limit-after.ensures.keyed.grammar,
     )))

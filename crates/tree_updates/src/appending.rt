@@ -1,5 +1,5 @@
 // A fragment that comes behind the last kid of a node.
-ghost use Rattle.std.specs.Prelude.{◌≡◌, IfOk, MatchResult};
+ghost use Rattle.std.specs.Prelude.{◌≡◌, IfOk, OnErr, OnOk, MatchResult};
 ghost use Rattle.plain_tree.specs.declared.edit.Edit.TheVariants.{Append};
 ghost use Rattle.plain_tree.specs.Allowed.{IsAllowed};
 ghost use Rattle.plain_tree.specs.EditLaws.{IsEditOf};
@@ -8,10 +8,12 @@ ghost use Rattle.plain_tree.specs.Lawful.{IsFragment};
 ghost use Rattle.plain_tree.specs.Tree.{Tree, trees};
 ghost use Rattle.preorder_address.specs.Marks.{AreMarks, MarksFirst};
 ghost use Rattle.preorder_address.specs.Spots.{IsSpot};
+ghost use Rattle.start_fronts.specs.Moved.{MovesBefore};
+ghost use Rattle.segment_counts.specs.Weights.{all_weight};
 ghost use Rattle.tree_updates.specs.CodePlaces.{IsPlaceSpot};
 ghost use Rattle.tree_updates.specs.Extents.{IsCodedBy};
 ghost use Rattle.tree_updates.specs.FragmentGrowths.{IsEndSite};
-ghost use Rattle.tree_updates.specs.Fronts.{KeepsMarks};
+ghost use Rattle.tree_updates.specs.Fronts.{first_keys};
 ghost use Rattle.tree_updates.specs.Stores.{Applies, IsRefusedFor, IsStoreFor};
 
 use crate::appending_joined::{append_joined, meeting_kid};
@@ -19,12 +21,13 @@ use crate::fragment_growing::{end_site, fragment_growth};
 use crate::fragment_kinds::may_stand_under;
 use crate::fragment_nodes::count_nodes;
 use crate::growing::{Site, TOO_MANY, grow};
+use crate::moving_marks::{move_marks, whole_weights};
 use crate::node_extent::extent_of;
 use crate::node_spots::spot_at;
 use crate::place_spots::{PlaceSpot, find_place};
 use crate::store::{EditError, Store};
 use plain_tree::Nodes;
-use preorder_address::{Marks, Spot};
+use preorder_address::{Marks, Numbering, Spot};
 use read_steps::Steps;
 use std::alloc::Global;
 use std::sync::ledger::Ledger;
@@ -54,10 +57,35 @@ pub(crate) fn append<L: Ledger>(
     let site = end_site(store, number, &spot, extent);
     let meeting = meeting_kid(alloc, store, marks, number, &spot, extent, fragment, steps)?;
     let end = find_place(alloc, store, marks, site.place, steps)?;
-    marks.cut(end.first());
+    let named = store.names.len();
+    let had = whole_weights(&store.counts);
     match meeting {
-        None => append_apart(alloc, store, number, site, &end, fragment, steps),
-        Some(last) => append_joined(alloc, store, number, &last, site, &end, fragment, steps),
+        None => {
+            append_apart(alloc, store, number, site, &end, fragment, steps)?;
+            move_marks(
+                marks,
+                store,
+                named,
+                Numbering::All,
+                site.place,
+                end.levels(),
+                had,
+            );
+            Ok(())
+        }
+        Some(last) => {
+            append_joined(alloc, store, number, &last, site, &end, fragment, steps)?;
+            move_marks(
+                marks,
+                store,
+                named,
+                Numbering::All,
+                site.place,
+                end.levels(),
+                had,
+            );
+            Ok(())
+        }
     }
 }
 
@@ -102,7 +130,8 @@ fn append_apart<L: Ledger>(
     requires spot { IsPlaceSpot store.old.grammar.rules site.place spot.now }
     ensures applies { (t : Tree) → IsStoreFor store.old t → IsEditOf t (Append number fragment.now) → edited t (Append number fragment.now) ≡ placed t (Append number fragment.now)
         → Applies t (Append number fragment.now) store.old result store.new }
-    ensures marks { KeepsMarks spot.now.levels.items store.old.grammar.rules store.new.grammar.rules }
+    ensures moves { OnOk result (MovesBefore all_weight (first_keys spot.now.levels.items) site.place store.old.grammar.rules store.new.grammar.rules) }
+    ensures rules { OnErr result (store.new.grammar.rules ≡ store.old.grammar.rules) }
 {
     // The call tells what is true of every grammar.
     let _limit = store.grammar.limit();

@@ -1,5 +1,5 @@
 // A fragment that comes behind the last kid of a node, where that kid and the fragment's first node are texts.
-ghost use Rattle.std.specs.Prelude.{◌≡◌, ◌++◌, ℕ, List, IfNone, IfOk, IfSome, Some};
+ghost use Rattle.std.specs.Prelude.{◌≡◌, ◌++◌, ℕ, List, IfNone, IfOk, IfSome, OnErr, OnOk, Some};
 ghost use Rattle.plain_tree.specs.declared.edit.Edit.TheVariants.{Append};
 ghost use Rattle.plain_tree.specs.EditLaws.{IsEditOf};
 ghost use Rattle.plain_tree.specs.Edits.{edited, placed};
@@ -8,9 +8,11 @@ ghost use Rattle.plain_tree.specs.Tree.{Tree, trees};
 ghost use Rattle.preorder_address.specs.Marks.{AreMarks};
 ghost use Rattle.preorder_address.specs.Spots.{IsSpot};
 ghost use Rattle.preorder_address.specs.TreeNumbers.{text_rank_at};
+ghost use Rattle.start_fronts.specs.Moved.{MovesBefore};
+ghost use Rattle.segment_counts.specs.Weights.{all_weight};
 ghost use Rattle.tree_updates.specs.CodePlaces.{IsPlaceSpot};
 ghost use Rattle.tree_updates.specs.Extents.{IsCodedBy, IsExtentOf};
-ghost use Rattle.tree_updates.specs.Fronts.{KeepsMarks};
+ghost use Rattle.tree_updates.specs.Fronts.{first_keys};
 ghost use Rattle.tree_updates.specs.FragmentGrowths.{IsEndSite, MeetsAtEnd};
 ghost use Rattle.tree_updates.specs.Stores.{Applies, IsStoreFor};
 
@@ -108,7 +110,8 @@ pub(crate) fn append_joined<L: Ledger>(
     requires spot { IsPlaceSpot store.old.grammar.rules site.place spot.now }
     ensures applies { (t : Tree) → IsStoreFor store.old t → IsEditOf t (Append number fragment.now) → MeetsAtEnd t number last.now.number fragment.now
         → Applies t (Append number fragment.now) store.old result store.new }
-    ensures marks { KeepsMarks spot.now.levels.items store.old.grammar.rules store.new.grammar.rules }
+    ensures moves { OnOk result (MovesBefore all_weight (first_keys spot.now.levels.items) site.place store.old.grammar.rules store.new.grammar.rules) }
+    ensures rules { OnErr result (store.new.grammar.rules ≡ store.old.grammar.rules) }
 {
     // The call tells what is true of every grammar.
     let _limit = store.grammar.limit();

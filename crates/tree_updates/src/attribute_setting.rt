@@ -11,20 +11,23 @@ ghost use Rattle.fcns_encoding.specs.Interning.{Interns};
 ghost use Rattle.preorder_address.specs.Marks.{AreMarks, MarksFirst};
 ghost use Rattle.preorder_address.specs.Spots.{IsSpot};
 ghost use Rattle.tree_updates.specs.ElementAttributes.{IsAttributePlace};
+ghost use Rattle.start_fronts.specs.Moved.{MovesBefore};
+ghost use Rattle.segment_counts.specs.Weights.{all_weight};
 ghost use Rattle.tree_updates.specs.CodePlaces.{IsPlaceSpot};
-ghost use Rattle.tree_updates.specs.Fronts.{KeepsMarks};
+ghost use Rattle.tree_updates.specs.Fronts.{first_keys};
 ghost use Rattle.tree_updates.specs.NewAttributes.{IsAttributeBody, IsAttributeGrowth, IsAttributeSite};
 ghost use Rattle.tree_updates.specs.Stores.{Applies, IsRefusedFor, IsStoreFor};
 
 use crate::growing::{Growth, Site, TOO_MANY, grow};
 use crate::kid_attributes::{AttributePlace, find_attribute};
+use crate::moving_marks::{move_marks, whole_weights};
 use crate::node_spots::spot_at;
 use crate::place_spots::{PlaceSpot, find_place};
 use crate::spare_node::is_element;
 use crate::store::{EditError, Store};
 use crate::valuing::put_value;
 use plain_tree::{Bytes, Kind, Names, Texts};
-use preorder_address::{Marks, Spot};
+use preorder_address::{Marks, Numbering, Spot};
 use read_steps::Steps;
 use slt_grammar::{Body, Label};
 use std::alloc::{AllocError, Global};
@@ -60,8 +63,19 @@ pub(crate) fn set_attribute<L: Ledger>(
     }
     let site = attribute_site(store, number, &spot, place, name);
     let end = find_place(alloc, store, marks, site.place, steps)?;
-    marks.cut(end.first());
-    add_attribute(alloc, store, site, &end, name, value, steps)
+    let named = store.names.len();
+    let had = whole_weights(&store.counts);
+    add_attribute(alloc, store, site, &end, name, value, steps)?;
+    move_marks(
+        marks,
+        store,
+        named,
+        Numbering::All,
+        site.place,
+        end.levels(),
+        had,
+    );
+    Ok(())
 }
 
 // The spot of the element with this number.
@@ -125,7 +139,8 @@ fn add_attribute<L: Ledger>(
     requires spot { IsPlaceSpot store.old.grammar.rules site.place spot.now }
     ensures applies { (t : Tree) (n : ℕ) → IsStoreFor store.old t → IsEditOf t (Attr n name.now value.now) → IsAttributeSite t n name.now value.now site
         → Applies t (Attr n name.now value.now) store.old result store.new }
-    ensures marks { KeepsMarks spot.now.levels.items store.old.grammar.rules store.new.grammar.rules }
+    ensures moves { OnOk result (MovesBefore all_weight (first_keys spot.now.levels.items) site.place store.old.grammar.rules store.new.grammar.rules) }
+    ensures rules { OnErr result (store.new.grammar.rules ≡ store.old.grammar.rules) }
 {
     // The call tells what is true of every grammar.
     let _limit = store.grammar.limit();

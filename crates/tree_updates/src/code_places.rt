@@ -6,10 +6,13 @@ ghost use Rattle.slt_grammar.specs.Grammars.{size, value_at};
 ghost use Rattle.slt_grammar.specs.Keyed.{rules_of};
 ghost use Rattle.slt_grammar.specs.RuleValues.{HaveOtherValues};
 ghost use Rattle.slt_grammar.specs.Terms.{Term};
+ghost use Rattle.start_fronts.specs.Before.{KeepsBefore};
+ghost use Rattle.start_fronts.specs.Moved.{MovesBefore};
+ghost use Rattle.segment_counts.specs.Weights.{all_weight};
 ghost use Rattle.digram_index.specs.Linked.{IsIndexOf};
 ghost use Rattle.path_isolation.specs.Isolations.{DifferInStart, room_along};
 ghost use Rattle.tree_updates.specs.CodePlaces.{ComesAround, IsBodyOf, IsPlaceIsolated, LeadToPlace};
-ghost use Rattle.tree_updates.specs.Fronts.{IsSameBeforeFirst, StandsBehindFirst};
+ghost use Rattle.tree_updates.specs.Fronts.{first_keys};
 
 use digram_index::Index;
 use linked_edits::wrap_linked;
@@ -41,12 +44,14 @@ pub(crate) fn wrap_place<W: Way, L: Ledger>(
     ensures most { size (rules_of grammar.new.rules) + real_nodes (start_body (rules_of grammar.old.rules))
         ≤ 2 * size (rules_of grammar.old.rules) + real_nodes body.now }
     ensures index { IsIndexOf grammar.new index.new }
-    ensures front { IsSameBeforeFirst (W.levels way grammar.old.rules) grammar.old.rules grammar.new.rules }
+    ensures moves { (place : ℕ) → LeadToPlace grammar.old.rules (W.levels way grammar.old.rules) place
+        → MovesBefore all_weight (first_keys (W.levels way grammar.old.rules)) place grammar.old.rules grammar.new.rules }
 {
     let at = isolate_place(grammar, index, way, steps);
-    // The call tells what is true of every grammar.
+    // The calls tell what is true of every grammar.
     let _limit = grammar.limit();
     wrap_linked(grammar, index, at, body);
+    let _after = grammar.limit();
 }
 
 // Makes the label at the place to which a way leads one of the start's body, and answers its node. There is room for the nodes of the bodies
@@ -72,7 +77,7 @@ fn isolate_place<W: Way, L: Ledger>(
     ensures limit { grammar.new.limit ≡ grammar.old.limit }
     ensures links { index.old.spare_links ≤ index.new.spare_links + room_along grammar.old.rules (W.levels way grammar.old.rules) }
     ensures cells { length index.old.cells ≤ length index.new.cells }
-    ensures front { StandsBehindFirst (W.levels way grammar.old.rules) grammar.old.rules grammar.new.rules result }
+    ensures before { KeepsBefore (first_keys (W.levels way grammar.old.rules)) grammar.old.rules grammar.new.rules }
 {
     // The call tells what is true of every grammar.
     let _limit = grammar.limit();

@@ -24,7 +24,7 @@ use crate::spare_node::spare_spot;
 use crate::store::{EditError, Store};
 use crate::sweeping::sweep;
 use crate::taking_out::take_out;
-use preorder_address::{Marks, Spot};
+use preorder_address::{Marks, Numbering, Spot};
 use read_steps::Steps;
 use std::alloc::Global;
 use std::sync::ledger::Ledger;
@@ -70,13 +70,21 @@ fn delete_apart<L: Ledger>(
         → Applies t (Delete number) store.old result store.new }
     ensures marks { AreMarks store.old.names store.new.grammar.rules marks.new }
 {
-    // The calls tell what is true of every grammar.
-    let _before = store.grammar.limit();
+    // The call tells what is true of every grammar.
+    let _limit = store.grammar.limit();
     reserve_at(store, spot, 0, 0, steps)?;
+    let named = store.names.len();
     let had = whole_weights(&store.counts);
     delete_plain(store, number, spot, extent, steps);
-    let _after = store.grammar.limit();
-    move_marks(marks, spot, number, had, whole_weights(&store.counts));
+    move_marks(
+        marks,
+        store,
+        named,
+        Numbering::Nodes,
+        number,
+        spot.levels(),
+        had,
+    );
     Ok(())
 }
 

@@ -4,9 +4,11 @@ ghost use Rattle.plain_tree.specs.Tree.{Tree, node_count};
 ghost use Rattle.slt_grammar.specs.Bodies.{real_nodes};
 ghost use Rattle.slt_grammar.specs.Grammars.{size};
 ghost use Rattle.slt_grammar.specs.Keyed.{rules_of};
+ghost use Rattle.start_fronts.specs.Moved.{MovesBefore};
+ghost use Rattle.segment_counts.specs.Weights.{all_weight};
 ghost use Rattle.tree_updates.specs.CodePlaces.{IsPlaceSpot, room_to_place};
 ghost use Rattle.tree_updates.specs.Extents.{IsUnsweptFor};
-ghost use Rattle.tree_updates.specs.Fronts.{IsSameBeforeFirst, KeepsMarks};
+ghost use Rattle.tree_updates.specs.Fronts.{first_keys};
 ghost use Rattle.tree_updates.specs.Growths.{GetsText, GrowsInto};
 ghost use Rattle.tree_updates.specs.Stores.{IsStoreFor};
 
@@ -61,7 +63,7 @@ pub(crate) fn grow<L: Ledger>(
     ensures kept { OnErr result ((t : Tree) → IsStoreFor store.old t → IsStoreFor store.new t) }
     ensures rules { OnErr result (store.new.grammar.rules ≡ store.old.grammar.rules) }
     ensures texts { OnErr result (store.new.texts.texts ≡ store.old.texts.texts) }
-    ensures marks { KeepsMarks spot.now.levels.items store.old.grammar.rules store.new.grammar.rules }
+    ensures moves { OnOk result (MovesBefore all_weight (first_keys spot.now.levels.items) growth.site.place store.old.grammar.rules store.new.grammar.rules) }
 {
     // The call tells what is true of every grammar.
     let _limit = store.grammar.limit();
@@ -87,7 +89,7 @@ pub(crate) fn grow_joined<L: Ledger>(
     ensures kept { OnErr result ((t : Tree) → IsStoreFor store.old t → IsStoreFor store.new t) }
     ensures rules { OnErr result (store.new.grammar.rules ≡ store.old.grammar.rules) }
     ensures texts { OnErr result (store.new.texts.texts ≡ store.old.texts.texts) }
-    ensures marks { KeepsMarks spot.now.levels.items store.old.grammar.rules store.new.grammar.rules }
+    ensures moves { OnOk result (MovesBefore all_weight (first_keys spot.now.levels.items) growth.site.place store.old.grammar.rules store.new.grammar.rules) }
 {
     // The call tells what is true of every grammar.
     let _limit = store.grammar.limit();
@@ -140,7 +142,7 @@ fn put_in<L: Ledger>(store: &mut Store, growth: Growth, spot: &PlaceSpot, steps:
     ensures store { (t u : Tree) → IsUnsweptFor store.old t → GrowsInto store.old.names t u growth → IsUnsweptFor store.new u }
     ensures names { store.new.names ≡ store.old.names }
     ensures size { size (rules_of store.new.grammar.rules) ≤ 2 * size (rules_of store.old.grammar.rules) + real_nodes growth.body }
-    ensures front { IsSameBeforeFirst spot.now.levels.items store.old.grammar.rules store.new.grammar.rules }
+    ensures moves { MovesBefore all_weight (first_keys spot.now.levels.items) growth.site.place store.old.grammar.rules store.new.grammar.rules }
 {
     // The call tells what is true of every grammar.
     let _limit = store.grammar.limit();

@@ -28,13 +28,13 @@ use crate::fragment_spots::spot_beside;
 use crate::isolating::wrap_node;
 use crate::joining::{Joined, Seams, ends, join_ends};
 use crate::joining_three::join_three;
-use crate::moving_marks::{move_where_named, whole_weights};
+use crate::moving_marks::{move_marks, whole_weights};
 use crate::room::reserve_at;
 use crate::store::{EditError, Store};
 use crate::sweeping::sweep;
 use fcns_encoding::Coded;
 use plain_tree::{Bytes, Nodes};
-use preorder_address::{Marks, Spot};
+use preorder_address::{Marks, Numbering, Spot};
 use read_steps::Steps;
 use slt_grammar::Label;
 use std::alloc::{AllocError, Global};
@@ -84,7 +84,7 @@ pub(crate) fn insert_beside<L: Ledger>(
     ensures applies { (t : Tree) → IsStoreFor store.old t → IsAllowed t (Insert number fragment.now) → Applies t (Insert number fragment.now) store.old result store.new }
     ensures marks { AreMarks store.old.names store.new.grammar.rules marks.new }
 {
-    // The calls tell what is true of every grammar.
+    // The call tells what is true of every grammar.
     let _limit = store.grammar.limit();
     let seams = find_seams(alloc, store, marks, number, spot, fragment, steps)?;
     if !fits(alloc, store, fragment, seams)? {
@@ -95,8 +95,8 @@ pub(crate) fn insert_beside<L: Ledger>(
     let had = whole_weights(&store.counts);
     let coded = encode_in(alloc, store, fragment)?;
     put_fragment(alloc, store, number, spot, rank, seams, coded, steps)?;
-    let _after = store.grammar.limit();
-    move_where_named(marks, store, named, number, spot, had);
+    let levels = spot.levels();
+    move_marks(marks, store, named, Numbering::Nodes, number, levels, had);
     Ok(())
 }
 

@@ -1,4 +1,4 @@
-// Marks that move with a change of the value at a node.
+// Marks that move with a change of the value at one node or place.
 ghost use Rattle.std.specs.Prelude.{◌≡◌, ◌≤◌, ℕ, List, length};
 ghost use Rattle.plain_tree.specs.declared.kind.Kind.{Kind};
 ghost use Rattle.plain_tree.specs.NodePairs.{Pair};
@@ -6,15 +6,16 @@ ghost use Rattle.slt_grammar.specs.Grammars.{IsGrammar};
 ghost use Rattle.slt_grammar.specs.Keyed.{KeyedRule, rules_of};
 ghost use Rattle.start_fronts.specs.Moved.{MovesBefore};
 ghost use Rattle.segment_counts.specs.Counting.{AreCounts};
-ghost use Rattle.segment_counts.specs.Weights.{node_weight};
+ghost use Rattle.segment_counts.specs.Weights.{weigh};
 ghost use Rattle.preorder_address.specs.Marks.{AreMarks};
+ghost use Rattle.preorder_address.specs.Numberings.{measure_of};
 ghost use Rattle.start_marks.specs.Moving.{AreWeightsOf};
 ghost use Rattle.tree_updates.specs.Fronts.{first_key, first_keys};
 
 use crate::store::Store;
-use preorder_address::{Marks, Numbering, Shift, Spot};
+use preorder_address::{Marks, Numbering, Shift};
 use segment_counts::{Counts, Weights};
-use slt_grammar::Key;
+use slt_grammar::{Key, Level};
 
 // What the value weighs whose counts these are.
 pub(crate) fn whole_weights(counts: &Counts) -> Weights
@@ -23,46 +24,41 @@ pub(crate) fn whole_weights(counts: &Counts) -> Weights
     counts.at(counts.rules().saturating_sub(1), 0)
 }
 
-// Moves the marks with a change at the spot's node, which has this number, by what the value weighed and weighs.
-pub(crate) fn move_marks(marks: &mut Marks, spot: &Spot, number: u64, had: Weights, has: Weights)
-    ensures { (names : List (Kind × List ℕ)) (G H : List KeyedRule) → AreMarks names G marks.old → MovesBefore node_weight (first_keys spot.now.levels.items) number G H
-        → AreWeightsOf names G had → AreWeightsOf names H has → AreMarks names H marks.new }
-{
-    let shift = Shift {
-        by: Numbering::Nodes,
-        number,
-        had,
-        has,
-    };
-    marks.shift(&shift, key_of_first(spot));
-}
-
-// Moves the marks with a change of the store's document at the spot's node, which has this number, by what the value weighed. Names that came
-// with it take all away: they are marks by the names that were there.
-pub(crate) fn move_where_named(
+// Moves the marks with a change of the store's document at the node or place with this number, to which the levels led, by what the value
+// weighed before. Names that came with the change take all marks away: they are marks by so many names.
+pub(crate) fn move_marks(
     marks: &mut Marks,
     store: &Store,
     named: usize,
+    by: Numbering,
     number: u64,
-    spot: &Spot,
+    levels: &[Level],
     had: Weights,
 )
-    ensures { (names : List Pair) (G H : List KeyedRule)
-        → (length store.now.names ≤ named → AreMarks names G marks.old × MovesBefore node_weight (first_keys spot.now.levels.items) number G H
-        × AreWeightsOf names G had × AreCounts names (rules_of H) store.now.counts × IsGrammar (rules_of H))
-        → AreMarks names H marks.new }
+    ensures { (names : List Pair) (G : List KeyedRule)
+        → (length store.now.names ≤ named → AreMarks names G marks.old × MovesBefore (weigh names (measure_of by)) (first_keys levels.now) number G store.now.grammar.rules
+        × AreWeightsOf names G had × AreCounts names (rules_of store.now.grammar.rules) store.now.counts)
+        → AreMarks names store.now.grammar.rules marks.new }
 {
     if named < store.names.len() {
         marks.clear();
         return;
     }
-    move_marks(marks, spot, number, had, whole_weights(&store.counts));
+    // The call tells what is true of every grammar.
+    let _limit = store.grammar.limit();
+    let shift = Shift {
+        by,
+        number,
+        had,
+        has: whole_weights(&store.counts),
+    };
+    marks.shift(&shift, key_of_first(levels));
 }
 
-fn key_of_first(spot: &Spot) -> Option<Key>
-    ensures { result ≡ first_key spot.now.levels.items }
+fn key_of_first(levels: &[Level]) -> Option<Key>
+    ensures { result ≡ first_key levels.now }
 {
-    match spot.levels().first() {
+    match levels.first() {
         Some(level) => Some(level.key),
         None => None,
     }

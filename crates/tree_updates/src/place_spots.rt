@@ -3,23 +3,22 @@ ghost use Rattle.std.specs.Prelude.{◌≡◌, ◌<◌, ◌++◌, refl, drop, �
 ghost use Rattle.slt_grammar.specs.Keyed.{KeyedRule, rules_of};
 ghost use Rattle.segment_counts.specs.Counting.{AreCounts};
 ghost use Rattle.preorder_address.specs.Descents.{IsInside, levels_of};
-ghost use Rattle.preorder_address.specs.Marks.{AreMarks, MarksFirst};
+ghost use Rattle.preorder_address.specs.Marks.{AreMarks};
 ghost use Rattle.preorder_address.specs.Numberings.{AreCountsOf};
 ghost use Rattle.tree_updates.specs.CodePlaces.{IsPlaceSpot, places_in};
 
 use crate::store::Store;
-use preorder_address::{Descent, Mark, Marks, PlaceStart, begin_place};
+use preorder_address::{Descent, Marks, PlaceStart, begin_place};
 use read_steps::Steps;
 use segment_counts::Counts;
 use slt_grammar::{Grammar, Level, Way};
 use std::alloc::{AllocError, Global};
 use std::sync::ledger::Ledger;
 
-// The levels that lead to a place, the start rule's first, and the mark of its node.
+// The levels that lead to a place, the start rule's first.
 #[derive(Drop)]
 pub(crate) struct PlaceSpot {
     levels: Vec<Level>,
-    first: Option<Mark>,
 }
 
 // The levels of a place's spot, one after another. It reads neither rules nor counts.
@@ -42,9 +41,8 @@ pub(crate) fn find_place<L: Ledger>(
     requires low { place < places_in store.now.grammar.rules }
     ensures spot { IfOk result (IsPlaceSpot store.now.grammar.rules place) }
     ensures marks { AreMarks store.now.names store.now.grammar.rules marks.new }
-    ensures first { IfOk result (λ spot. MarksFirst store.now.names store.now.grammar.rules spot.levels.items spot.first) }
 {
-    let PlaceStart { level, first, rest } = begin_place(
+    let PlaceStart { level, rest, .. } = begin_place(
         &store.grammar,
         &store.counts,
         &store.names,
@@ -55,7 +53,7 @@ pub(crate) fn find_place<L: Ledger>(
     let mut levels = Vec::new(alloc);
     levels.push(level)?;
     push_levels(&store.grammar, &store.counts, rest, &mut levels, steps)?;
-    Ok(PlaceSpot { levels, first })
+    Ok(PlaceSpot { levels })
 }
 
 // Puts the levels that a descent still gives behind others.
@@ -88,11 +86,11 @@ impl PlaceSpot {
         }
     }
 
-    // The mark of the first level's node.
-    pub(crate) fn first(&self) -> Option<Mark>
-        ensures { result ≡ self.now.first }
+    // The levels, the start rule's first.
+    pub(crate) fn levels(&self) -> &[Level]
+        ensures { result.now ≡ self.now.levels.items }
     {
-        self.first
+        self.levels.as_slice()
     }
 }
 

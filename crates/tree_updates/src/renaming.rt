@@ -14,14 +14,14 @@ ghost use Rattle.tree_updates.specs.Stores.{Applies, IsRefusedFor, IsStoreFor};
 
 use crate::isolating::relabel_node;
 use crate::kid_attributes::{element_of, find_attribute};
-use crate::moving_marks::{move_where_named, whole_weights};
+use crate::moving_marks::{move_marks, whole_weights};
 use crate::node_spots::spot_at;
 use crate::store::{EditError, Store};
 use crate::sweeping::sweep_uncalled;
 use digram_index::Index;
 use path_isolation::nodes_along;
 use plain_tree::Kind;
-use preorder_address::{Marks, Spot};
+use preorder_address::{Marks, Numbering, Spot};
 use read_steps::Steps;
 use slt_grammar::Grammar;
 use std::alloc::{AllocError, Global};
@@ -53,7 +53,7 @@ pub(crate) fn rename<L: Ledger>(
     ensures applies { (t : Tree) → IsStoreFor store.old t → Applies t (Rename number name.now) store.old result store.new }
     ensures marks { AreMarks store.old.names store.new.grammar.rules marks.new }
 {
-    // The calls tell what is true of every grammar.
+    // The call tells what is true of every grammar.
     let _limit = store.grammar.limit();
     let found = find_nameable(alloc, store, marks, number, name, steps)?;
     let named = store.names.len();
@@ -67,8 +67,8 @@ pub(crate) fn rename<L: Ledger>(
         symbol,
         steps,
     );
-    let _after = store.grammar.limit();
-    move_where_named(marks, store, named, number, &found.spot, had);
+    let levels = found.spot.levels();
+    move_marks(marks, store, named, Numbering::Nodes, number, levels, had);
     sweep_uncalled(&mut store.grammar, &mut store.index, &mut store.counts);
     Ok(())
 }

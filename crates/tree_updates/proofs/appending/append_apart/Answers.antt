@@ -1,4 +1,4 @@
-use Rattle.std.proofs.Common.{◌≡◌, ◌+◌, ◌<◌, ◌^◌, List, take, ap, sym, subst, arith, refl}
+use Rattle.std.proofs.Common.{◌≡◌, ◌+◌, ◌<◌, ◌^◌, List, take, ap, sym, subst, arith}
 use Rattle.std.proofs.lemmas.Result.{err_from_is_err_and}
 use Rattle.plain_tree.specs.declared.edit.Edit.TheVariants.{Append}
 use Rattle.plain_tree.specs.Edits.{placed}
@@ -14,7 +14,9 @@ use Rattle.tree_updates.proofs.LeavingDocuments.{coded, unswept}
 use Rattle.tree_updates.proofs.StoreLemmas.{refused-there, total-is}
 use Rattle.tree_updates.specs.CodePlaces.{IsPlaceSpot}
 use Rattle.tree_updates.specs.declared.growing.Site.{Site}
-use Rattle.tree_updates.proofs.Fronts.{keeps-same, place-still}
+use Rattle.start_fronts.specs.Moved.{MovesBefore}
+use Rattle.segment_counts.specs.Weights.{all_weight}
+use Rattle.tree_updates.specs.Fronts.{first_keys}
 use Rattle.tree_updates.proofs.appending.append_apart.Goals as goal
 
 pub overflow_sub-total : goal.overflow_sub-total
@@ -104,20 +106,7 @@ returns-in_err-count-clause-applies g c =
     let p = err_from_is_err_and c.from_residual.result c.from_residual.ensures.1 in
     rw (p.1, p.2) (λ t i edit same. refused-there t (Append c.args.number c.args.fragment.now) Memory c.args.store.now tt i)
 
-pub returns-in_err-count-clause-marks : goal.returns-in_err-count-clause-marks
-returns-in_err-count-clause-marks g c =
-    let G = c.args.store.now.grammar in
-    let ls = c.args.spot.now.levels.items in
-    keeps-same ls G.rules G.rules (place-still G c.limit-limit.ensures.keyed c.args.site.place ls c.requires.spot) refl
-
-pub returns-then-count-total-clause-marks : goal.returns-then-count-total-clause-marks
-returns-then-count-total-clause-marks g c =
-    let G = c.args.store.now.grammar in
-    let ls = c.args.spot.now.levels.items in
-    keeps-same ls G.rules G.rules (place-still G c.limit-limit.ensures.keyed c.args.site.place ls c.requires.spot) refl
-
-pub returns-in_err-growth-clause-marks : goal.returns-in_err-growth-clause-marks
-returns-in_err-growth-clause-marks g c =
-    let G = c.args.store.now.grammar in
-    let ls = c.args.spot.now.levels.items in
-    keeps-same ls G.rules G.rules (place-still G c.limit-limit.ensures.keyed c.args.site.place ls c.requires.spot) refl
+pub returns-clause-moves : goal.returns-clause-moves
+returns-clause-moves g c =
+    let s = c.args.store.now in
+    subst (λ (w : Site). MovesBefore all_weight (first_keys c.args.spot.now.levels.items) w.place s.grammar.rules c.grow.new.store.grammar.rules) c.in_ok-growth.ensures.growth.site_is c.in_ok-grow.ensures.moves

@@ -1,4 +1,4 @@
-use Rattle.std.proofs.Common.{◌≡◌, ◌++◌, ◌+◌, ◌<◌, ◌^◌, ℕ, suc, List, take, ap, sym, ◌∙◌, subst, arith, refl}
+use Rattle.std.proofs.Common.{◌≡◌, ◌++◌, ◌+◌, ◌<◌, ◌^◌, ℕ, suc, List, take, ap, sym, ◌∙◌, subst, arith}
 use Rattle.std.proofs.lemmas.Result.{err_from_is_err_and}
 use Rattle.plain_tree.specs.declared.edit.Edit.TheVariants.{Append, Value}
 use Rattle.plain_tree.specs.declared.nodes.Node.{Node}
@@ -14,7 +14,9 @@ use Rattle.tree_updates.proofs.BroughtNames.{all-named, edited-named, named, ref
 use Rattle.tree_updates.proofs.StoreLemmas.{refused-there, total-is}
 use Rattle.tree_updates.specs.CodePlaces.{IsPlaceSpot}
 use Rattle.tree_updates.specs.declared.growing.Site.{Site}
-use Rattle.tree_updates.proofs.Fronts.{keeps-same, place-still}
+use Rattle.start_fronts.specs.Moved.{MovesBefore}
+use Rattle.segment_counts.specs.Weights.{all_weight}
+use Rattle.tree_updates.specs.Fronts.{first_keys}
 use Rattle.tree_updates.proofs.appending_joined.append_joined.Goals as goal
 
 pub returns-in_err-count-clause-applies : goal.returns-in_err-count-clause-applies
@@ -126,26 +128,7 @@ returns-clause-applies g c =
     edited-named s t i (Append n F) edit G new kept (c.in_ok-grow_joined.ensures.grown t (placed t (Value last (M.before ++ M.first))) (edited t (Append n F)) again joined grows)
     (omega (arith, c.in_ok-grow_joined.ensures.size, real-fragment names M.others c.in_ok-count.count c.args.site c.in_ok-growth.growth x, ap (λ (ts : List Tree). node_count_all (trees ts)) M.begins))
 
-pub returns-in_err-count-clause-marks : goal.returns-in_err-count-clause-marks
-returns-in_err-count-clause-marks g c =
-    let G = c.args.store.now.grammar in
-    let ls = c.args.spot.now.levels.items in
-    keeps-same ls G.rules G.rules (place-still G c.limit-limit.ensures.keyed c.args.site.place ls c.requires.spot) refl
-
-pub returns-then-count-total-clause-marks : goal.returns-then-count-total-clause-marks
-returns-then-count-total-clause-marks g c =
-    let G = c.args.store.now.grammar in
-    let ls = c.args.spot.now.levels.items in
-    keeps-same ls G.rules G.rules (place-still G c.limit-limit.ensures.keyed c.args.site.place ls c.requires.spot) refl
-
-pub returns-in_err-joined-clause-marks : goal.returns-in_err-joined-clause-marks
-returns-in_err-joined-clause-marks g c =
-    let G = c.args.store.now.grammar in
-    let ls = c.args.spot.now.levels.items in
-    keeps-same ls G.rules G.rules (place-still G c.limit-limit.ensures.keyed c.args.site.place ls c.requires.spot) refl
-
-pub returns-in_err-growth-clause-marks : goal.returns-in_err-growth-clause-marks
-returns-in_err-growth-clause-marks g c =
-    let G = c.args.store.now.grammar in
-    let ls = c.args.spot.now.levels.items in
-    keeps-same ls G.rules G.rules (place-still G c.limit-limit.ensures.keyed c.args.site.place ls c.requires.spot) refl
+pub returns-clause-moves : goal.returns-clause-moves
+returns-clause-moves g c =
+    let s = c.args.store.now in
+    subst (λ (w : Site). MovesBefore all_weight (first_keys c.args.spot.now.levels.items) w.place s.grammar.rules c.grow_joined.new.store.grammar.rules) c.in_ok-growth.ensures.growth.site_is c.in_ok-grow_joined.ensures.moves

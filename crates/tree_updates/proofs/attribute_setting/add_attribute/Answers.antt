@@ -1,4 +1,4 @@
-use Rattle.std.proofs.Common.{◌+◌, ◌<◌, ◌^◌, List, [], ◌∷◌, ap, sym, subst, arith, refl}
+use Rattle.std.proofs.Common.{◌+◌, ◌<◌, ◌^◌, List, [], ◌∷◌, ap, sym, subst, arith}
 use Rattle.std.proofs.lemmas.Result.{err_from_is_err_and}
 use Rattle.plain_tree.specs.declared.edit.Edit.TheVariants.{Attr}
 use Rattle.plain_tree.specs.declared.kind.Kind.TheVariants.{Attribute}
@@ -13,7 +13,9 @@ use Rattle.tree_updates.proofs.BroughtNames.{all-named, edited-named, refused-la
 use Rattle.tree_updates.proofs.StoreLemmas.{refused-there, total-is}
 use Rattle.tree_updates.specs.CodePlaces.{IsPlaceSpot}
 use Rattle.tree_updates.specs.declared.growing.Site.{Site}
-use Rattle.tree_updates.proofs.Fronts.{keeps-same, place-still}
+use Rattle.start_fronts.specs.Moved.{MovesBefore}
+use Rattle.segment_counts.specs.Weights.{all_weight}
+use Rattle.tree_updates.specs.Fronts.{first_keys}
 use Rattle.tree_updates.proofs.attribute_setting.add_attribute.Goals as goal
 
 pub returns-then-total-clause-applies : goal.returns-then-total-clause-applies
@@ -80,14 +82,7 @@ returns-clause-applies g c =
     (c.in_ok-grow.ensures.grown t (edited t (Attr n x w)) (all-named s t i (Attr n x w) edit G names c.in_ok-growth.ensures.grown) (attribute-grows t n x w edit names c.args.site h c.in_ok-growth.growth k few))
     (omega (arith, c.in_ok-grow.ensures.size, ap real_nodes k.body.2))
 
-pub returns-then-total-clause-marks : goal.returns-then-total-clause-marks
-returns-then-total-clause-marks g c =
-    let G = c.args.store.now.grammar in
-    let ls = c.args.spot.now.levels.items in
-    keeps-same ls G.rules G.rules (place-still G c.limit-limit.ensures.keyed c.args.site.place ls c.requires.spot) refl
-
-pub returns-in_err-growth-clause-marks : goal.returns-in_err-growth-clause-marks
-returns-in_err-growth-clause-marks g c =
-    let G = c.args.store.now.grammar in
-    let ls = c.args.spot.now.levels.items in
-    keeps-same ls G.rules G.rules (place-still G c.limit-limit.ensures.keyed c.args.site.place ls c.requires.spot) refl
+pub returns-clause-moves : goal.returns-clause-moves
+returns-clause-moves g c =
+    let s = c.args.store.now in
+    subst (λ (w : Site). MovesBefore all_weight (first_keys c.args.spot.now.levels.items) w.place s.grammar.rules c.grow.new.store.grammar.rules) c.in_ok-growth.ensures.growth.site_is c.in_ok-grow.ensures.moves

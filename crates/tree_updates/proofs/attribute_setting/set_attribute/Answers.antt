@@ -1,4 +1,4 @@
-use Rattle.std.proofs.Common.{◌+◌, length, ap, arith}
+use Rattle.std.proofs.Common.{◌+◌, List, length, ap, sym, subst, arith}
 use Rattle.plain_tree.specs.declared.edit.Edit.TheVariants.{Attr}
 use Rattle.plain_tree.specs.EditLaws.{IsEditOf}
 use Rattle.tree_updates.proofs.AttributePlaces.{before-low, element-other, place-fits}
@@ -9,7 +9,13 @@ use Rattle.tree_updates.proofs.ValuedStores.{rank-within}
 use Rattle.std.proofs.lemmas.Result.{err_from_is_err_and}
 use Rattle.tree_updates.specs.declared.store.EditError.TheVariants.{Memory}
 use Rattle.tree_updates.proofs.StoreLemmas.{refused-there}
-use Rattle.tree_updates.proofs.Fronts.{cut-stay}
+use Rattle.slt_grammar.specs.Keyed.{KeyedRule}
+use Rattle.slt_grammar.specs.declared.level.Level.{Level}
+use Rattle.start_fronts.specs.Moved.{MovesBefore}
+use Rattle.segment_counts.specs.Weights.{all_weight}
+use Rattle.preorder_address.specs.Marks.{AreMarks}
+use Rattle.tree_updates.specs.Fronts.{first_keys}
+use Rattle.tree_updates.proofs.MovedMarks.{edited-counts}
 use Rattle.tree_updates.proofs.IsolatedPlaces.{places-coded}
 use Rattle.tree_updates.proofs.attribute_setting.set_attribute.Goals as goal
 
@@ -99,7 +105,7 @@ returns-clause-applies g c = λ t i.
     let x = c.args.name.now in
     let w = c.args.value.now in
     let edit : IsEditOf t (Attr c.args.number x w) = record { document_is = i.stand.document; allowed = c.in_ok-spot.ensures.answer t x w i; parts = (c.requires.name, c.requires.chars) } in
-    c.add_attribute.ensures.applies t c.args.number i edit (c.attribute_site-site.ensures t w i edit (c.in_ok-place.ensures.place t i (element-other t c.args.number x w (c.in_ok-spot.ensures.answer t x w i))))
+    c.in_ok-add_attribute.ensures.applies t c.args.number i edit (c.attribute_site-site.ensures t w i edit (c.in_ok-place.ensures.place t i (element-other t c.args.number x w (c.in_ok-spot.ensures.answer t x w i))))
 
 pub returns-in_err-place-clause-applies : goal.returns-in_err-place-clause-applies
 returns-in_err-place-clause-applies g c =
@@ -124,9 +130,32 @@ returns-in_err-end-clause-applies g c =
     let p = err_from_is_err_and c.from_residual-in_err-end.result c.from_residual-in_err-end.ensures.1 in
     rw (p.1, p.2) (λ t i. refused-there t (Attr c.args.number c.args.name.now c.args.value.now) Memory c.args.store.now tt i)
 
+pub returns-in_err-add_attribute-clause-applies : goal.returns-in_err-add_attribute-clause-applies
+returns-in_err-add_attribute-clause-applies g c =
+    let p = err_from_is_err_and c.from_residual-in_err-add_attribute.result c.from_residual-in_err-add_attribute.ensures.1 in
+    rw (p.1, p.2) (λ t i.
+    let x = c.args.name.now in
+    let w = c.args.value.now in
+    let edit : IsEditOf t (Attr c.args.number x w) = record { document_is = i.stand.document; allowed = c.in_ok-spot.ensures.answer t x w i; parts = (c.requires.name, c.requires.chars) } in
+    c.in_err-add_attribute.ensures.applies t c.args.number i edit (c.attribute_site-site.ensures t w i edit (c.in_ok-place.ensures.place t i (element-other t c.args.number x w (c.in_ok-spot.ensures.answer t x w i)))))
+
+pub returns-in_err-add_attribute-clause-marks : goal.returns-in_err-add_attribute-clause-marks
+returns-in_err-add_attribute-clause-marks g c =
+    subst (λ (R : List KeyedRule). AreMarks c.args.store.now.names R c.find_place.new.marks) (sym c.in_err-add_attribute.ensures.rules) c.find_place.ensures.marks
+
 pub returns-clause-marks : goal.returns-clause-marks
 returns-clause-marks g c =
+    let x = c.args.name.now in
+    let w = c.args.value.now in
+    let edit : IsEditOf c.requires.store.0 (Attr c.args.number x w) = record { document_is = c.requires.store.1.stand.document; allowed = c.in_ok-spot.ensures.answer c.requires.store.0 x w c.requires.store.1; parts = (c.requires.name, c.requires.chars) } in
+    let site = c.attribute_site-site.ensures c.requires.store.0 w c.requires.store.1 edit (c.in_ok-place.ensures.place c.requires.store.0 c.requires.store.1 (element-other c.requires.store.0 c.args.number x w (c.in_ok-spot.ensures.answer c.requires.store.0 x w c.requires.store.1))) in
     let s = c.args.store.now in
+    let new = c.add_attribute.new.store in
+    let r = c.requires.store in
+    let place = c.attribute_site-site.result.place in
     let end = c.in_ok-end.end in
-    c.add_attribute.ensures.marks s.names c.cut.new.self
-    (cut-stay s.names s.grammar end.levels.items end.first c.first.result c.find_place.new.marks c.cut.new.self c.cut.ensures c.limit-limit.ensures.keyed c.find_place.ensures.marks c.first.ensures c.in_ok-end.ensures.first)
+    let e = Attr c.args.number x w in
+    let lawful = c.limit-limit.ensures.keyed.grammar in
+    let E = c.in_ok-add_attribute.ensures.applies r.0 c.args.number r.1 edit site in
+    let moves = subst (λ (ls : List Level). MovesBefore all_weight (first_keys ls) place s.grammar.rules new.grammar.rules) (sym c.levels.ensures) c.in_ok-add_attribute.ensures.moves in
+    c.move_marks.ensures s.names s.grammar.rules (λ few. (c.find_place.ensures.marks, moves, c.whole_weights-had.ensures s.names s.grammar.rules r.1.counts lawful, edited-counts r.0 e s new E (omega (arith, few, c.len-named.ensures.value))))

@@ -1,7 +1,7 @@
 use Rattle.std.proofs.Common.{List}
 use Rattle.slt_grammar.specs.declared.level.Level.{Level}
 use Rattle.tree_updates.proofs.IsolatedPlaces.{leading-place, place-isolated}
-use Rattle.tree_updates.proofs.Fronts.{stands-behind}
+use Rattle.tree_updates.proofs.MovedMarks.{first-kept}
 use Rattle.tree_updates.proofs.code_places.isolate_place.Goals as goal
 
 pub isolate_linked-requires-clause-chain : goal.isolate_linked-requires-clause-chain
@@ -19,10 +19,10 @@ returns-clause-isolated g c = λ n L.
     let N = leading-place k K n lv L in
     place-isolated k K n lv L c.isolate_linked.new.grammar.rules c.isolate_linked.result c.isolate_linked.ensures.others.many (c.isolate_linked.ensures.node N.places N.chain)
 
-pub returns-clause-front : goal.returns-clause-front
-returns-clause-front g c =
+pub returns-clause-before : goal.returns-clause-before
+returns-clause-before g c =
     let k = c.args.grammar.now in
     let r = c.requires.leads in
     let lv : List Level = g.W.Way.levels c.args.way k.rules in
     let N = leading-place k c.limit-limit.ensures.keyed r.0 lv r.1 in
-    stands-behind k.rules c.isolate_linked.new.grammar.rules lv N.places c.isolate_linked.result N.chain c.isolate_linked.ensures.values (c.isolate_linked.ensures.front N.places N.chain)
+    first-kept k.rules c.isolate_linked.new.grammar.rules lv N.places N.chain c.isolate_linked.ensures.before

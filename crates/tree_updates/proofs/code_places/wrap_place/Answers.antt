@@ -3,8 +3,8 @@ use Rattle.slt_grammar.specs.Keyed.{KeyedRule, rules_of}
 use Rattle.slt_grammar.proofs.KeyedLemmas.{length-rules_of}
 use Rattle.tree_updates.proofs.InStart.{others-stay, same-value}
 use Rattle.tree_updates.proofs.IsolatedPlaces.{around-place, body-wraps, place-in-start}
-use Rattle.tree_updates.proofs.Fronts.{front-wrapped}
-use Rattle.slt_grammar.specs.declared.level.Level.{Level}
+use Rattle.tree_updates.specs.Fronts.{first_keys}
+use Rattle.tree_updates.proofs.MovedMarks.{moves-place}
 use Rattle.tree_updates.proofs.code_places.wrap_place.Goals as goal
 
 pub isolate_place-at-requires-clause-room : goal.isolate_place-at-requires-clause-room
@@ -50,12 +50,14 @@ returns-clause-values g c =
 pub returns-clause-most : goal.returns-clause-most
 returns-clause-most g c = omega (arith, c.wrap_linked.ensures.size, c.isolate_place-at.ensures.most)
 
-pub returns-clause-front : goal.returns-clause-front
-returns-clause-front g c =
-    let r = c.requires.leads in
+pub returns-clause-moves : goal.returns-clause-moves
+returns-clause-moves g c = λ n l.
     let E = c.isolate_place-at.ensures in
+    let b = c.requires.body in
+    let body = c.args.body.now in
     let G : List KeyedRule = c.args.grammar.now.rules in
     let h = c.isolate_place-at.new.grammar in
-    let lv : List Level = g.W.Way.levels c.args.way G in
-    let S = place-in-start h.rules r.0 c.isolate_place-at.result (E.isolated r.0 r.1) in
-    front-wrapped lv G h c.limit-limit.ensures.keyed c.isolate_place-at.result E.others.many E.front S.here c.wrap_linked.new.grammar.rules c.wrap_linked.ensures.values (c.wrap_linked.ensures.front S)
+    let I = E.isolated n l in
+    let v = same-value (rules_of G) (rules_of h.rules) (length-rules_of h.rules ∙ E.others.many ∙ sym (length-rules_of G)) E.values in
+    moves-place G (first_keys (g.W.Way.levels c.args.way G)) h c.limit-limit.ensures.keyed n c.isolate_place-at.result I v E.before c.wrap_linked.new.grammar c.limit-after.ensures.keyed body
+    (body-wraps (rules_of h.rules) b.0 body b.1) b.1.last b.1.plain (c.wrap_linked.ensures.rules (place-in-start h.rules n c.isolate_place-at.result I))

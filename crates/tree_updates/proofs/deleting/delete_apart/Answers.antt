@@ -6,6 +6,7 @@ use Rattle.slt_grammar.specs.Keyed.{KeyedRule, rules_of}
 use Rattle.tree_updates.specs.Stores.{IsStoreFor}
 use Rattle.tree_updates.proofs.LeavingDocuments.{doubled, leaves, unswept}
 use Rattle.plain_tree.specs.NodePairs.{Pair}
+use Rattle.slt_grammar.specs.declared.level.Level.{Level}
 use Rattle.start_fronts.specs.Moved.{MovesBefore}
 use Rattle.segment_counts.specs.Counting.{AreCounts}
 use Rattle.segment_counts.specs.Weights.{node_weight}
@@ -53,4 +54,5 @@ returns-clause-marks g c =
     let had = subst (λ (ns : List Pair). AreCounts ns (rules_of between.grammar.rules) between.counts) c.reserve_at.ensures.names (c.reserve_at.ensures.store r.0 r.1).counts in
     let had_there = subst (λ (R : List KeyedRule). AreCounts s.names (rules_of R) between.counts) same had in
     let has = subst (λ (ns : List Pair). AreCounts ns (rules_of after.grammar.rules) after.counts) (c.delete_plain.ensures.names ∙ c.reserve_at.ensures.names) left.counts in
-    c.move_marks.ensures s.names G after.grammar.rules c.requires.marks moves (c.whole_weights-had.ensures s.names G had_there c.limit-before.ensures.keyed.grammar) (c.whole_weights.ensures s.names after.grammar.rules has c.limit-after.ensures.keyed.grammar)
+    c.move_marks.ensures s.names G (λ few.
+    (c.requires.marks, subst (λ (ls : List Level). MovesBefore node_weight (first_keys ls) c.args.number G after.grammar.rules) (sym c.levels.ensures) moves, c.whole_weights-had.ensures s.names G had_there c.limit-limit.ensures.keyed.grammar, has))

@@ -4,7 +4,10 @@ use Rattle.tree_updates.specs.Growths.{GrowsInto}
 use Rattle.tree_updates.proofs.GrownStores.{growth-few, text-stays, with-text}
 use Rattle.slt_grammar.specs.Keyed.{KeyedRule}
 use Rattle.tree_updates.specs.CodePlaces.{IsPlaceSpot}
-use Rattle.tree_updates.proofs.Fronts.{keeps-same, keeps-swept, place-still}
+use Rattle.start_fronts.specs.Moved.{MovesBefore}
+use Rattle.segment_counts.specs.Weights.{all_weight}
+use Rattle.tree_updates.specs.Fronts.{first_keys}
+use Rattle.tree_updates.proofs.MovedMarks.{moves-swept}
 use Rattle.tree_updates.proofs.growing.grow_joined.Goals as goal
 
 pub reserve_growth-requires-clause-few : goal.reserve_growth-requires-clause-few
@@ -49,12 +52,10 @@ pub put_in-requires-clause-spot : goal.put_in-requires-clause-spot
 put_in-requires-clause-spot g c =
     subst (λ (R : List KeyedRule). IsPlaceSpot R c.args.growth.site.place c.args.spot.now) (sym c.reserve_growth.ensures.rules) c.requires.spot
 
-pub returns-in_err-reserve_growth-clause-marks : goal.returns-in_err-reserve_growth-clause-marks
-returns-in_err-reserve_growth-clause-marks g c =
-    let G = c.args.store.now.grammar in
-    let ls = c.args.spot.now.levels.items in
-    keeps-same ls G.rules c.reserve_growth.new.store.grammar.rules (place-still G c.limit-limit.ensures.keyed c.args.growth.site.place ls c.requires.spot) c.reserve_growth.ensures.rules
-
-pub returns-clause-marks : goal.returns-clause-marks
-returns-clause-marks g c =
-    keeps-swept c.args.spot.now.levels.items c.args.store.now.grammar.rules c.reserve_growth.new.store.grammar.rules c.put_in.new.store.grammar.rules c.sweep.new.store.grammar.rules c.reserve_growth.ensures.rules c.put_in.ensures.front c.sweep.ensures.marks
+pub returns-clause-moves : goal.returns-clause-moves
+returns-clause-moves g c =
+    let gone = first_keys c.args.spot.now.levels.items in
+    let place = c.args.growth.site.place in
+    let K : List KeyedRule = c.sweep.new.store.grammar.rules in
+    let moves = moves-swept all_weight gone place c.reserve_growth.new.store.grammar.rules c.put_in.new.store.grammar.rules K c.sweep.ensures.value c.put_in.ensures.moves c.sweep.ensures.before in
+    subst (λ (R : List KeyedRule). MovesBefore all_weight gone place R K) c.reserve_growth.ensures.rules moves

@@ -7,7 +7,9 @@ use Rattle.segment_counts.specs.Changes.{HasMore}
 use Rattle.path_isolation.specs.Isolations.{room_along}
 use Rattle.tree_updates.specs.CodePlaces.{LeadToPlace}
 use Rattle.tree_updates.proofs.GrownStores.{all-come, grown-more, grown-stands, nodes-come, rank-fits, texts-come}
-use Rattle.tree_updates.specs.Fronts.{IsSameBeforeFirst}
+use Rattle.start_fronts.specs.Moved.{MovesBefore}
+use Rattle.segment_counts.specs.Weights.{all_weight}
+use Rattle.tree_updates.specs.Fronts.{first_keys}
 use Rattle.tree_updates.proofs.growing.put_in.Goals as goal
 
 pub wrap_place-requires-clause-leads : goal.wrap_place-requires-clause-leads
@@ -66,5 +68,9 @@ returns-clause-store g c = λ t u s x.
       index = c.wrap_place.ensures.index;
     }
 
-pub returns-clause-front : goal.returns-clause-front
-returns-clause-front g c = subst (λ (ls : List Level). IsSameBeforeFirst ls c.args.store.now.grammar.rules c.wrap_place.new.grammar.rules) c.way.ensures c.wrap_place.ensures.front
+pub returns-clause-moves : goal.returns-clause-moves
+returns-clause-moves g c =
+    let G = c.args.store.now.grammar.rules in
+    let place = c.args.growth.site.place in
+    let lead : LeadToPlace G _ place = record { located = c.way.ensures ∙ c.requires.spot.located; low = c.requires.spot.low } in
+    subst (λ (ls : List Level). MovesBefore all_weight (first_keys ls) place G c.wrap_place.new.grammar.rules) c.way.ensures (c.wrap_place.ensures.moves place lead)

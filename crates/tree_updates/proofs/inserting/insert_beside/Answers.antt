@@ -6,6 +6,7 @@ use Rattle.plain_tree.specs.NodePairs.{Pair, pairs_of_trees}
 use Rattle.plain_tree.specs.Tree.{none, more, trees, node_count_all}
 use Rattle.slt_grammar.specs.Grammars.{size}
 use Rattle.slt_grammar.specs.Keyed.{Keyed, KeyedRule, rules_of}
+use Rattle.slt_grammar.specs.declared.level.Level.{Level}
 use Rattle.text_list.specs.RoomyTexts.{RoomyTexts}
 use Rattle.fcns_encoding.specs.Interning.{Interns}
 use Rattle.preorder_address.specs.Spots.{IsSpot}
@@ -115,11 +116,10 @@ returns-clause-marks g c =
     let stored = c.in_ok-put_fragment.ensures.store r.0 F (c.encode_in.ensures.store r.0 r.1) come in
     let grown = subst (λ (ps : List Pair). Interns s.names (pairs_of_trees (trees F)) ps) (sym c.put_fragment.ensures.names) c.in_ok-coded.ensures.names in
     let moves = subst (λ (k : Keyed). MovesBefore node_weight gone n k.rules H) c.encode_in.ensures.grammar c.in_ok-put_fragment.ensures.moves in
-    c.move_where_named.ensures s.names s.grammar.rules H (λ few.
+    c.move_marks.ensures s.names s.grammar.rules (λ few.
     let none : after.names ≡ s.names = names-same s.names (pairs_of_trees (trees F)) after.names grown (omega (arith, few, c.len-named.ensures.value)) in (
       c.find_seams.ensures.marks,
-      moves,
+      subst (λ (ls : List Level). MovesBefore node_weight (first_keys ls) n s.grammar.rules H) (sym c.levels-levels.ensures) moves,
       c.whole_weights-had.ensures s.names s.grammar.rules r.1.counts lawful,
       subst (λ (ns : List Pair). AreCounts ns (rules_of H) after.counts) none stored.counts,
-      c.limit-after.ensures.keyed.grammar,
     ))

@@ -95,5 +95,5 @@ pub returns-clause-moves : goal.returns-clause-moves
 returns-clause-moves g c =
     let gone = first_keys c.args.spot.now.levels.items in
     let K : List KeyedRule = c.sweep.new.store.grammar.rules in
-    let moves = moves-swept gone c.args.number c.reserve_at.new.store.grammar.rules c.take_out.new.store.grammar.rules K c.sweep.ensures.value c.take_out.ensures.moves c.sweep.ensures.before in
+    let moves = moves-swept node_weight gone c.args.number c.reserve_at.new.store.grammar.rules c.take_out.new.store.grammar.rules K c.sweep.ensures.value c.take_out.ensures.moves c.sweep.ensures.before in
     subst (λ (R : List KeyedRule). MovesBefore node_weight gone c.args.number R K) c.reserve_at.ensures.rules moves

@@ -1,7 +1,6 @@
-use Rattle.std.proofs.Common.{◌∷◌, [], List, ap, sym, ◌∙◌, subst, ◌++◌}
+use Rattle.std.proofs.Common.{◌∷◌, [], List, ap, sym, ◌∙◌, ◌++◌}
 use Rattle.slt_grammar.specs.declared.level.Level.{Level}
 use Rattle.preorder_address.specs.Descents.{levels_of}
-use Rattle.preorder_address.specs.Marks.{MarksFirst}
 use Rattle.tree_updates.proofs.place_spots.find_place.Goals as goal
 
 pub returns-clause-spot : goal.returns-clause-spot
@@ -9,10 +8,3 @@ returns-clause-spot g c =
     let rest = levels_of c.args.store.now.grammar.rules c.begin_place-level.result.rest in
     let is = c.in_ok-push_levels.ensures.levels ∙ ap (λ (ls : List Level). ls ++ rest) (c.in_ok-push.ensures.items ∙ ap (λ (ls : List Level). ls ++ c.begin_place-level.result.level ∷ []) c.new-levels.ensures.items) in
     record { located = is ∙ sym c.begin_place-level.ensures.levels; low = c.requires.low }
-
-pub returns-clause-first : goal.returns-clause-first
-returns-clause-first g c =
-    let a = c.args.store.now in
-    let rest = levels_of a.grammar.rules c.begin_place-level.result.rest in
-    let is = c.in_ok-push_levels.ensures.levels ∙ ap (λ (ls : List Level). ls ++ rest) (c.in_ok-push.ensures.items ∙ ap (λ (ls : List Level). ls ++ c.begin_place-level.result.level ∷ []) c.new-levels.ensures.items) in
-    subst (λ (ls : List Level). MarksFirst a.names a.grammar.rules ls c.begin_place-level.result.first) (sym is) c.begin_place-level.ensures.first

@@ -3,6 +3,7 @@ use Rattle.std.proofs.lemmas.Result.{err_from_is_err_and}
 use Rattle.slt_grammar.specs.Grammars.{size}
 use Rattle.slt_grammar.specs.Keyed.{KeyedRule, rules_of}
 use Rattle.slt_grammar.specs.RuleValues.{HaveOtherValues}
+use Rattle.slt_grammar.specs.declared.level.Level.{Level}
 use Rattle.slt_grammar.specs.declared.rules.Rule.{Rule}
 use Rattle.fcns_encoding.proofs.InternLemmas.{interned}
 use Rattle.preorder_address.specs.Spots.{IsSpot}
@@ -94,14 +95,13 @@ returns-clause-marks g c =
     let lawful = c.limit-limit.ensures.keyed.grammar in
     let counts =
     counts-after s r.0 r.1 n x c.requires.name (c.in_ok-found.ensures.allowed r.0 r.1) a.kind (c.in_ok-found.ensures.kind r.0 r.1) names grown lawful (rules_of H) c.in_ok-symbol.symbol c.in_ok-symbol.ensures.place gets others in
-    c.sweep_uncalled.ensures.marks s.names c.move_where_named.new.marks
-    (c.move_where_named.ensures s.names G H (λ few.
+    c.sweep_uncalled.ensures.marks s.names c.move_marks.new.marks
+    (c.move_marks.ensures s.names G (λ few.
     let none : names ≡ s.names = names-same s.names ((a.kind, x) ∷ []) names grown (omega (arith, few, c.len-named.ensures.value)) in (
       c.find_nameable.ensures.marks,
-      moves,
+      subst (λ (ls : List Level). MovesBefore node_weight (first_keys ls) n G H) (sym c.levels-levels.ensures) moves,
       c.whole_weights-had.ensures s.names G r.1.counts lawful,
       subst (λ (ns : List Pair). AreCounts ns (rules_of H) s.counts) none counts,
-      c.limit-after.ensures.keyed.grammar,
     )))
 
 pub returns-in_err-symbol-clause-applies : goal.returns-in_err-symbol-clause-applies

@@ -110,6 +110,29 @@ walk-begins ms ns p next here found s t e n none =
     first : (k : Key) (rest : List Key) → here ∷ [] ≡ k ∷ rest → k ≡ here
     first k rest q = let z : Some here ≡ Some k = ap (λ (xs : List Key). slice_get xs 0) q in cc
 
+-- behind the body's last node no term is left, so that the walk in the term may rest anywhere
+none-left : (ms : List Node) (q : ℕ) (ks : List Key) → key_in ms q ≡ None → AreTerms kids_of (length ks) (drop q ms) → ks ≡ []
+none-left ms q [] e t = refl
+none-left [] zero (k ∷ ks) e t = absurd t
+none-left [] (suc q) (k ∷ ks) e t = absurd t
+none-left (m ∷ ms) zero (k ∷ ks) e t = absurd (let z : Some m.key ≡ None = e in cc)
+none-left (m ∷ ms) (suc q) (k ∷ ks) e t = none-left ms q (k ∷ ks) e t
+
+pub walk-rests : (ms ns : List Node) (p : ℕ) (next : Option Key) (here then : Key) (found : List Key) → next ≡ None → (W : Walk ms ns p next here found) → (V : Walk ms ns p next then found) × (V.passed ≡ W.passed)
+walk-rests ms ns p next here then found e W = (
+  record {
+    passed = W.passed;
+    size = W.size;
+    left = W.left;
+    matched = W.matched;
+    few = W.few;
+    at = W.at;
+    open_terms = W.open_terms;
+    head = λ k rest q. absurd (let z : [] ≡ k ∷ rest = sym (none-left ms W.passed W.left (W.at ∙ e) W.open_terms) ∙ q in cc);
+  },
+  refl,
+)
+
 -- all of the body was matched
 pub walk-ends : (ms ns : List Node) (p : ℕ) (here : Key) (found : List Key) → Walk ms ns p None here found → IsBodyOver ms (subterm kids_of ns p) found
 walk-ends ms ns p here found W =

@@ -34,7 +34,8 @@ impl Grammar {
         }
     }
 
-    // Whether the term at a node is a rule's body over some terms, whose roots are put into a list.
+    // Whether the term at a node is a rule's body over some terms, whose roots are put into a list. Behind the body's last node nothing is
+    // passed by: to leave a term that ends long lists takes a climb over all of them.
     fn match_body<L: Ledger>(
         &self,
         at: Key,
@@ -60,13 +61,17 @@ impl Grammar {
             next = self.next_in_preorder(node, steps);
             if label == Label::Param {
                 found.push(here);
-                here = self.next_past_term(here, steps).unwrap_or(here);
+                if next.is_some() {
+                    here = self.next_past_term(here, steps).unwrap_or(here);
+                }
                 continue;
             }
             if self.label(here, steps) != label {
                 return false;
             }
-            here = self.next_in_preorder(here, steps).unwrap_or(here);
+            if next.is_some() {
+                here = self.next_in_preorder(here, steps).unwrap_or(here);
+            }
         }
         true
     }

@@ -179,8 +179,8 @@ impl TextList {
         let loose = self.loose.len();
         let texts = self.kept.len().saturating_add(loose);
         let chunks = self.places.chunks();
-        loose > LEAST_LOOSE.max(len / 2)
-            || texts > LEAST_LOOSE + len * 2
+        loose > LEAST_LOOSE.max(len / 16)
+            || texts > LEAST_LOOSE + len + len / 4
             || chunks > LEAST_CHUNKS + len / MOST_NUMBERS * 3
     }
 
@@ -252,7 +252,7 @@ impl TextList {
 const LEAST_LOOSE: usize = 4096;
 
 // For no more chunks than this a list isn't made anew.
-const LEAST_CHUNKS: usize = 2048;
+const LEAST_CHUNKS: usize = 32;
 
 // The text of a number: a kept one, or behind them a loose one.
 pub(crate) fn text_of<'a>(kept: &'a Blob, loose: &'a [Bytes], number: usize) -> Option<&'a [u8]>

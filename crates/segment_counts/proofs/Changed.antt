@@ -24,8 +24,7 @@ use Rattle.segment_counts.specs.declared.counts.Measure.TheVariants.{Nodes, Text
 use Rattle.segment_counts.specs.declared.counts.Weights.{Weights}
 use Rattle.slt_grammar.proofs.TourLemmas.{segment-others}
 use Rattle.segment_counts.proofs.Cuts.{padded}
-use Rattle.segment_counts.proofs.Numbers.{all-listed, texts-few}
-use Rattle.segment_counts.proofs.Rows.{length-row}
+use Rattle.segment_counts.proofs.Rows.{few-row, length-row}
 use Rattle.segment_counts.proofs.Telling.{closed-value, segment-whole, total-told}
 
 nodes-behind : (t : Term) (k : List Label) → sum_by node_weight (listed t k) ≡ sum_by node_weight (listed t []) + sum_by node_weight k
@@ -202,20 +201,12 @@ module _ (names : List (Kind × List ℕ)) where
         small Texts = omega (arith, b Texts)
         small All = omega (arith, b All)
 
-  few-row : (t : Term) (R : List Weights) → ((m : Measure) (i : ℕ) → weight_by m (get_or R i no_weights) ≡ sum_by (weigh names m) (segment i (listed t []))) → sum_by node_weight (listed t []) < 2 ^ 63 → IsRowOf names t R
-  few-row t R f h = record { each = f; small = small }
-    where
-      small : (m : Measure) → sum_by (weigh names m) (listed t []) < 2 ^ 64
-      small Nodes = omega (arith, h)
-      small Texts = omega (arith, h, texts-few names (listed t []))
-      small All = omega (arith, h, all-listed t [])
-
   -- one rule was counted anew
   pub recounted : (rule : ℕ) (G : List Rule) (C D : CountTable) (R : List Weights) → AreCountsBut names rule G C → rule < length G → D.rows ≡ set C.rows rule R → D.rules ≡ C.rules → length D.rows ≡ length C.rows
       → ((m : Measure) (i : ℕ) → weight_by m (get_or R i no_weights) ≡ count (weigh names m) G rule i) → sum_by node_weight (preorder G rule) < 2 ^ 63 → AreCounts names G D
   recounted rule G C D R a h e n l f b =
       let there : get_or D.rows rule no_row ≡ R = ap (λ (X : List (List Weights)). get_or X rule no_row) e ∙ get_or-set_same C.rows rule R no_row (omega (arith, h, a.room)) in
-      counted-with rule G D (but-set rule G G C D a (same-values rule G) R e n l) (subst (λ (S : List Weights). IsRowOf names (value_at G rule) S) (sym there) (few-row (value_at G rule) R f b))
+      counted-with rule G D (but-set rule G G C D a (same-values rule G) R e n l) (subst (λ (S : List Weights). IsRowOf names (value_at G rule) S) (sym there) (few-row names (value_at G rule) R f b))
 
 -- all rules but the last were counted, and the last one's value is that of the start whose row was there
 module _ (names : List (Kind × List ℕ)) (G H : List Rule) (C : CountTable) (a : AreCounts names G C) (g : IsGrammar G) (same : value H ≡ value G) where

@@ -10,3 +10,5 @@ pub mod Changed
 pub mod Weighed
 pub mod Telling
 pub mod Coded
+pub mod Forgotten
+pub mod Followed

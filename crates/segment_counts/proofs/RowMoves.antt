@@ -13,14 +13,14 @@ use Rattle.segment_counts.proofs.Cuts.{cut-narrow, padded, row_at, row_within, r
 
 -- rows behind a moved place stay
 module _ (ws ws' : List Weights) (from to : ℕ) (same : (k : ℕ) → from ≤ k → k ≤ length ws → drop (moved from to k) ws' ≡ drop k ws) where
-  rows-moved : (start : ℕ) (ends : List ℕ) → from ≤ start → AreCut start ws ends → cut_rows (moved from to start) ws' (map (moved from to) ends) ≡ cut_rows start ws ends
+  pub rows-moved : (start : ℕ) (ends : List ℕ) → from ≤ start → AreCut start ws ends → cut_rows (moved from to start) ws' (map (moved from to) ends) ≡ cut_rows start ws ends
   rows-moved start [] h c = refl
   rows-moved start (e ∷ es) h c =
       let wide : moved from to e - moved from to start ≡ e - start = omega (arith, h, c.0) in
       ap (λ (x : List Weights). x ∷ cut_rows (moved from to e) ws' (map (moved from to) es)) (ap (λ n. take n (drop (moved from to start) ws')) wide ∙ ap (take (e - start)) (same start h (omega (arith, c.0, c.2))))
       ∙ ap (λ (xs : List (List Weights)). take (e - start) (drop start ws) ∷ xs) (rows-moved e es (omega (arith, h, c.0)) c.3)
 
-  cut-moved : length ws' ≡ moved from to (length ws) → (start : ℕ) (ends : List ℕ) → from ≤ start → AreCut start ws ends → AreCut (moved from to start) ws' (map (moved from to) ends)
+  pub cut-moved : length ws' ≡ moved from to (length ws) → (start : ℕ) (ends : List ℕ) → from ≤ start → AreCut start ws ends → AreCut (moved from to start) ws' (map (moved from to) ends)
   cut-moved n start [] h c = omega (arith, n, c)
   cut-moved n start (e ∷ es) h c = (omega (arith, h, c.0), omega (arith, h, c.0, c.1), omega (arith, n, h, c.0, c.2), cut-moved n e es (omega (arith, h, c.0)) c.3)
 

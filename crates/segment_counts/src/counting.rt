@@ -1,5 +1,5 @@
 // Counting along the tours of the bodies.
-ghost use Rattle.std.specs.Prelude.{◌≡◌, ◌<◌, ◌≤◌, ◌*◌, ◌-◌, ◌^◌, ℕ, List, [], length, get_or, set, sum_by, IfOk, IfSome, IfNone, Err, OnOk, true, false};
+ghost use Rattle.std.specs.Prelude.{◌≡◌, ◌<◌, ◌≤◌, ◌*◌, ◌-◌, ◌^◌, ℕ, List, [], drop, length, get_or, set, sum_by, IfOk, IfSome, IfNone, Err, OnOk, true, false};
 ghost use Rattle.slt_grammar.specs.Grammars.{IsGrammar, IsSwept, value};
 ghost use Rattle.slt_grammar.specs.declared.rules.Rule.{Rule};
 ghost use Rattle.slt_grammar.specs.Keyed.{IsKeyed, rules_of};
@@ -108,7 +108,7 @@ fn recount<L: Ledger>(
     ensures room { length counts.new.rows ≡ length counts.old.rows }
 {
     let mut steps: Steps<L> = Steps::new(blank);
-    let Some(tallies) = tally_rule(grammar, names, counts, rule, &mut steps) else {
+    let Some(tallies) = tally_rule(grammar, names, counts, 0, rule, &mut steps) else {
         unreachable!()
     };
     counts.set_row(rule, tallies.row());
@@ -137,7 +137,7 @@ fn count_first<L: Ledger>(
     let _limit = grammar.limit();
     counts.clear();
     for rule in 0..rules {
-        match tally_rule(grammar, names, counts, rule, &mut steps) {
+        match tally_rule(grammar, names, counts, 0, rule, &mut steps) {
             Some(tallies) => counts.push(tallies.row()),
             None => return false,
         }
@@ -145,16 +145,17 @@ fn count_first<L: Ledger>(
     true
 }
 
-// The numbers of a rule's segments, and None where its value has too many nodes.
-fn tally_rule<L: Ledger>(
+// The numbers of a rule's segments, and None where its value has too many nodes. The rows of the rules before it begin behind so many others.
+pub(crate) fn tally_rule<L: Ledger>(
     grammar: &Grammar,
     names: &Names,
     counts: &Counts,
+    from: usize,
     rule: usize,
     steps: &mut Steps<L>,
 ) -> Option<Tallies>
     requires keyed { IsKeyed grammar.now }
-    requires counts { AreCountsBelow names.now rule (rules_of grammar.now.rules) counts.now.rows }
+    requires counts { AreCountsBelow names.now rule (rules_of grammar.now.rules) (drop from counts.now.rows) }
     requires rule { rule < length grammar.now.rules }
     ensures place { IfSome result (λ tallies. tallies.at < MOST_SEGMENTS) }
     ensures row { IfSome result (λ tallies. (m : Measure) (i : ℕ) → weight_by m (get_or (row_of tallies) i no_weights) ≡ count (weigh names.now m) (rules_of grammar.now.rules) rule i) }
@@ -165,7 +166,7 @@ fn tally_rule<L: Ledger>(
     let mut tallies = Tallies::new();
     'stops: loop {
         let site = grammar.site(walk.key, steps);
-        let weights = counts.weights(names, site.label, walk.part);
+        let weights = counts.weights_behind(names, from, site.label, walk.part);
         if !tallies.add(site.label, weights) {
             return None;
         }

@@ -1,19 +1,17 @@
 // The numbers that are kept of each rule's segments.
-ghost use Rattle.std.specs.Prelude.{◌≡◌, ◌<◌, ◌≤◌, ◌+◌, ◌-◌, ◌*◌, ◌^◌, ℕ, List, [], ◌∷◌, ◌++◌, get_or, length, set, sum_by, IsOk, OnErr, OnOk};
+ghost use Rattle.std.specs.Prelude.{◌≡◌, ◌<◌, ◌≤◌, ◌+◌, ◌-◌, ◌*◌, ◌^◌, ℕ, List, [], ◌∷◌, ◌++◌, drop, get_or, length, replicate, set, sum_by, IsOk, OnErr, OnOk};
 ghost use Rattle.std.specs.List.{insert, remove};
 ghost use Rattle.plain_tree.specs.declared.kind.Kind.{Kind};
 ghost use Rattle.slt_grammar.specs.Bodies.{CallsBelow};
-ghost use Rattle.slt_grammar.specs.Grammars.{IsGrammar, value, value_at};
+ghost use Rattle.slt_grammar.specs.Grammars.{IsGrammar, value};
 ghost use Rattle.slt_grammar.specs.Segments.{listed, part_of};
 ghost use Rattle.slt_grammar.specs.declared.rules.Rule.{Rule};
-ghost use Rattle.slt_grammar.specs.RuleValues.{HasRuleMore, HaveOtherValues};
-ghost use Rattle.segment_counts.specs.Changes.{AreCountsBut, HasMore, IsWeighed, leaf_weights, lowered, raised, start_weights};
 ghost use Rattle.segment_counts.specs.Counting.{AreCounts, AreCountsBelow, no_row, no_weights, told, told_before, weight_by};
 ghost use Rattle.segment_counts.specs.Cuts.{AreCut, cut_rows};
 ghost use Rattle.segment_counts.specs.Weights.{all_weight, count, node_weight, text_weight, weigh};
 ghost use Rattle.segment_counts.specs.declared.counts.Measure.TheVariants.{Nodes, Texts, All};
 
-use crate::row_moves::{move_ends, put_between};
+use crate::row_moves::{keep_from, move_ends, put_between};
 use crate::tally::texts_of;
 use plain_tree::Names;
 use slt_grammar::Label;
@@ -193,13 +191,36 @@ impl Counts {
         sum
     }
 
+    // The same of a rule so many places behind another one.
+    fn at_behind(&self, from: usize, rule: usize, segment: usize) -> Weights
+        ensures { result ≡ get_or (get_or (drop from self.now.rows) rule no_row) segment no_weights }
+    {
+        // The call tells that the rows' number fits.
+        let _room = self.room();
+        self.at(from.saturating_add(rule), segment)
+    }
+
     /// What a part of a node weighs: a call's parts are the segments of the called rule, and another node's first part is the node.
     pub fn weights(&self, names: &Names, label: Label, part: usize) -> Weights
         ensures { (m : Measure) (k : ℕ) (G : List Rule) → AreCountsBelow names.now k G self.now.rows → CallsBelow k (label ∷ [])
             → weight_by m result ≡ sum_by (weigh names.now m) (part_of G label part) }
     {
+        self.weights_behind(names, 0, label, part)
+    }
+
+    // The same where the rules' rows begin behind so many others.
+    pub(crate) fn weights_behind(
+        &self,
+        names: &Names,
+        from: usize,
+        label: Label,
+        part: usize,
+    ) -> Weights
+        ensures { (m : Measure) (k : ℕ) (G : List Rule) → AreCountsBelow names.now k G (drop from self.now.rows) → CallsBelow k (label ∷ [])
+            → weight_by m result ≡ sum_by (weigh names.now m) (part_of G label part) }
+    {
         match (label, part) {
-            (Label::Call(rule), _) => self.at(rule, part),
+            (Label::Call(rule), _) => self.at_behind(from, rule, part),
             (Label::Symbol(symbol), 0) => Weights {
                 nodes: 1,
                 texts: texts_of(names, symbol),
@@ -246,92 +267,35 @@ impl Counts {
         self.ends.push_reserved(end as u32);
     }
 
-    /// Makes room for the row of a rule that was put in at a place. It takes no memory.
-    pub fn insert_rule(&mut self, place: usize)
-        requires place { place ≤ self.old.rules }
+    // Takes in the row of a rule that was counted once more, behind the others.
+    pub(crate) fn push_again(&mut self, rule: usize)
+        requires rule { rule < self.old.rules }
         requires room { self.old.rules < length self.old.rows }
-        ensures rows { self.new.rows ++ no_row ∷ [] ≡ insert self.old.rows place no_row }
-        ensures room { length self.new.rows ≡ length self.old.rows }
+        ensures rows { self.new.rows ≡ set self.old.rows self.old.rules (get_or self.old.rows rule no_row) }
         ensures rules { self.new.rules ≡ self.old.rules + 1 }
-        ensures counts { (names : List (Kind × List ℕ)) (G H : List Rule) → AreCounts names G self.old → HasRuleMore place G H → AreCountsBut names place H self.new }
     {
-        self.open_row(place);
+        let from = start_of(self.ends.as_slice(), rule);
+        let to = self.ends[rule] as usize;
+        let end = self.segments.as_slice().len() + (to - from);
+        self.segments.extend_from_within(from..to).unwrap();
+        self.ends.push_reserved(end as u32);
     }
 
-    /// Takes out the row of a rule that went. The room stays.
-    pub fn remove_rule(&mut self, rule: usize)
-        requires { rule < self.old.rules }
-        ensures rows { self.new.rows ≡ remove self.old.rows rule ++ no_row ∷ [] }
+    // Takes out the rows of the first so many rules. The room stays.
+    pub(crate) fn forget_first(&mut self, rules: usize)
+        requires { rules ≤ self.old.rules }
+        ensures rows { self.new.rows ≡ drop rules self.old.rows ++ replicate rules no_row }
         ensures room { length self.new.rows ≡ length self.old.rows }
-        ensures rules { self.new.rules + 1 ≡ self.old.rules }
-        ensures counts { (names : List (Kind × List ℕ)) (G H : List Rule) → AreCounts names H self.old → HasRuleMore rule G H → AreCounts names G self.new }
+        ensures rules { self.new.rules + rules ≡ self.old.rules }
     {
-        self.set_row(rule, &[]);
-        self.close_row(rule);
-    }
-
-    /// Puts in the row of a rule without parameters that was put in at a place, by how many nodes its value has and how many of them
-    /// have a text. It takes no memory.
-    pub fn insert_leaf(&mut self, rule: usize, nodes: u64, texts: u64)
-        requires rule { rule ≤ self.old.rules }
-        requires room { self.old.rules < length self.old.rows }
-        requires few { nodes < 2 ^ 63 }
-        ensures rows { self.new.rows ++ no_row ∷ [] ≡ insert self.old.rows rule (leaf_weights nodes texts ∷ []) }
-        ensures room { length self.new.rows ≡ length self.old.rows }
-        ensures rules { self.new.rules ≡ self.old.rules + 1 }
-        ensures counts { (names : List (Kind × List ℕ)) (G H : List Rule) → AreCounts names G self.old → HasRuleMore rule G H → IsWeighed names (value_at H rule) nodes texts → AreCounts names H self.new }
-    {
-        let row = [Weights {
-            nodes,
-            texts,
-            all: 2 * nodes + 1,
-        }];
-        self.open_row(rule);
-        self.set_row(rule, &row);
-    }
-
-    /// Takes in that the last rule's value has more nodes, and so many more texts. It takes no memory.
-    pub fn raise_start(&mut self, nodes: u64, texts: u64)
-        requires some { 0 < self.old.rules }
-        requires all { (start_weights self.old).all + 2 * nodes < 2 ^ 64 }
-        requires nodes { (start_weights self.old).nodes + nodes < 2 ^ 64 }
-        requires texts { (start_weights self.old).texts + texts < 2 ^ 64 }
-        ensures rows { self.new.rows ≡ set self.old.rows (self.old.rules - 1) (raised (start_weights self.old) nodes texts ∷ []) }
-        ensures rules { self.new.rules ≡ self.old.rules }
-        ensures counts { (names : List (Kind × List ℕ)) (G H : List Rule) → AreCounts names G self.old → HaveOtherValues (length G - 1) G H → HasMore names (value G) (value H) nodes texts → AreCounts names H self.new }
-    {
-        let start = self.rules() - 1;
-        let weights = self.at(start, 0);
-        let row = [Weights {
-            nodes: weights.nodes + nodes,
-            texts: weights.texts + texts,
-            all: weights.all + 2 * nodes,
-        }];
-        self.set_row(start, &row);
-    }
-
-    /// Takes in that it has fewer.
-    pub fn lower_start(&mut self, nodes: u64, texts: u64)
-        requires some { 0 < self.old.rules }
-        requires nodes { nodes ≤ (start_weights self.old).nodes }
-        requires all { 2 * nodes ≤ (start_weights self.old).all }
-        requires texts { texts ≤ (start_weights self.old).texts }
-        ensures rows { self.new.rows ≡ set self.old.rows (self.old.rules - 1) (lowered (start_weights self.old) nodes texts ∷ []) }
-        ensures rules { self.new.rules ≡ self.old.rules }
-        ensures counts { (names : List (Kind × List ℕ)) (G H : List Rule) → AreCounts names G self.old → HaveOtherValues (length G - 1) G H → HasMore names (value H) (value G) nodes texts → AreCounts names H self.new }
-    {
-        let start = self.rules() - 1;
-        let weights = self.at(start, 0);
-        let row = [Weights {
-            nodes: weights.nodes - nodes,
-            texts: weights.texts - texts,
-            all: weights.all - 2 * nodes,
-        }];
-        self.set_row(start, &row);
+        let end = start_of(self.ends.as_slice(), rules);
+        keep_from(&mut self.segments, end);
+        keep_from(&mut self.ends, rules);
+        move_ends(&mut self.ends, 0, end, 0);
     }
 
     // Puts in an empty row. It takes no memory.
-    fn open_row(&mut self, place: usize)
+    pub(crate) fn open_row(&mut self, place: usize)
         requires place { place ≤ self.old.rules }
         requires room { self.old.rules < length self.old.rows }
         ensures rows { self.new.rows ++ no_row ∷ [] ≡ insert self.old.rows place no_row }
@@ -343,7 +307,7 @@ impl Counts {
     }
 
     // Takes out an empty row.
-    fn close_row(&mut self, rule: usize)
+    pub(crate) fn close_row(&mut self, rule: usize)
         requires rule { rule < self.old.rules }
         requires empty { get_or self.old.rows rule no_row ≡ no_row }
         ensures rows { self.new.rows ≡ remove self.old.rows rule ++ no_row ∷ [] }

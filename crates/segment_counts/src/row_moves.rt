@@ -26,6 +26,17 @@ fn bring_forward(segments: &mut [Weights], before: usize, count: usize)
     segments[before..].rotate_right(count);
 }
 
+// Keeps what stands from a place on. It takes no memory.
+pub(crate) fn keep_from<T: Copy + Drop>(items: &mut Vec<T>, from: usize)
+    requires { from ≤ length items.old.items }
+    ensures items { items.new.items ≡ drop from items.old.items }
+    ensures capacity { vec_capacity items.new ≡ vec_capacity items.old }
+{
+    let count = items.len() - from;
+    items.as_mut_slice().copy_within(from.., 0);
+    items.truncate(count);
+}
+
 // Moves the ends from a rule's on, as one of them moves.
 pub(crate) fn move_ends(ends: &mut Vec<u32>, rule: usize, from: usize, to: usize)
     requires rule { rule ≤ length ends.old.items }

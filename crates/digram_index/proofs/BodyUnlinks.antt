@@ -15,6 +15,7 @@ use Rattle.digram_index.specs.Partly.{IsPartOf}
 use Rattle.digram_index.proofs.CopyLinks.{IsAhead, ahead-here, ahead-next, ahead-still, at-next, copy-next, copy-stands, is-copy, length-drop-item}
 use Rattle.digram_index.proofs.NearInlines.{each-args}
 use Rattle.digram_index.proofs.NodeLinks.{stays-free}
+use Rattle.digram_index.proofs.Numbered.{fewer-same}
 
 -- an index of the grammar is right of each node
 pub whole-part : (g : Keyed) (I : Linked) → IsIndexOf g I → IsPartOf g I
@@ -81,7 +82,7 @@ module _ (g : Keyed) (K : IsKeyed g) (at : Key) (q : ℕ) (old : Linked) (A : Is
     rules = refl;
     room = refl;
     spares = (refl, refl);
-    marks = λ n m. m;
+    marks = fewer-same old;
   }
 
   module _ (now : Linked) (node : Key) (copy : Option Key) (arguments : List Key) (B : BeginsWith g.rules at q arguments) (begin then : ℕ)

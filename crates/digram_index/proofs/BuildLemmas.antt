@@ -19,6 +19,7 @@ use Rattle.digram_index.specs.Building.{IsNumberIn, IsLinking, IsUnlinking, IsBu
 use Rattle.digram_index.proofs.ParentLemmas.{keyed_place, parent-key}
 use Rattle.digram_index.proofs.LevelLemmas.{same_some}
 use Rattle.digram_index.proofs.Apartness.{one-key}
+use Rattle.digram_index.proofs.Numbered.{fewer-both, fewer-same}
 
 under-some : (ranks : List ℕ) (up : Node) (c : ℕ) (l : Label) → l ≢ Param → (o : Cell) × (occurrence_under ranks up c l ≡ Some o)
 under-some ranks up c Bottom n = (_, refl)
@@ -86,7 +87,7 @@ linking-next g K r key next old now new begin n L N linked others rules room spa
   spare_rules = spare.1 ∙ L.spare_rules;
   within = let w = key_at-within g.rules r L.place key L.there in omega (arith, w.1);
   counted = let c = L.counted in omega arith;
-  marks = λ k m. L.marks k (fewer k m);
+  marks = fewer-both old now new L.marks fewer;
 }
   where
     done' : (p : ℕ) (m : Key) → p < L.place + 1 → key_at g.rules r p ≡ Some m → (p ≡ L.place) ⊎ (p ≡ L.place → ⊥) → cell new m.number ≡ occurrence_at g.rules r p
@@ -129,7 +130,7 @@ unlinking-next g K r key next old now new begin n L N free others rules room spa
   spare = spares.0 ∙ L.spare;
   spare_rules = spares.1 ∙ L.spare_rules;
   counted = let c = L.counted in omega arith;
-  marks = λ k m. L.marks k (fewer k m);
+  marks = fewer-both old now new L.marks fewer;
 }
   where
     done' : (p : ℕ) (m : Key) → p < L.place + 1 → key_at g.rules r p ≡ Some m → (p ≡ L.place) ⊎ (p ≡ L.place → ⊥) → cell new m.number ≡ None
@@ -189,7 +190,7 @@ building-begins G I rules free = record {
   built = record { rules = rules; done = λ r p key h k. absurd (omega arith); todo = λ r p key h k. free key.number; only = λ k x. absurd (x (free k)) };
   room = omega arith;
   spare = omega arith;
-  marks = λ k m. m;
+  marks = fewer-same I;
 }
 
 before-next : (G : List KeyedRule) (r : ℕ) → nodes_before G (suc r) ≡ nodes_before G r + length (nodes_at G r)
@@ -224,7 +225,7 @@ building-next g K r old now new B linked others only rules room spare fewer = re
       let w = before-next g.rules r in
       let e : nodes_before g.rules (r + 1) ≡ nodes_before g.rules (suc r) = ap (nodes_before g.rules) (let y : r + 1 ≡ suc r = omega arith in y) in
       omega arith;
-  marks = λ k m. B.marks k (fewer k m);
+  marks = fewer-both old now new B.marks fewer;
 }
 
 pub clearing-begins : (g : Keyed) (I : Linked) → IsIndexOf g I → IsClearing g.rules 0 I I
@@ -234,7 +235,7 @@ clearing-begins g I A = record {
   room = refl;
   spare = refl;
   spare_rules = refl;
-  marks = λ k m. m;
+  marks = fewer-same I;
 }
 
 -- one rule fewer
@@ -252,7 +253,7 @@ clearing-next G r old now new C free others rules room spares fewer = record {
   room = room ∙ C.room;
   spare = spares.0 ∙ C.spare;
   spare_rules = spares.1 ∙ C.spare_rules;
-  marks = λ k m. C.marks k (fewer k m);
+  marks = fewer-both old now new C.marks fewer;
 }
   where
     gone : (k : ℕ) → IsNumberIn G r k → cell new k ≡ None

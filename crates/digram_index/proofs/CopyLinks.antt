@@ -18,6 +18,7 @@ use Rattle.digram_index.specs.Partly.{IsPartOf, IsRight}
 use Rattle.digram_index.proofs.NodeLinks.{kept-right}
 use Rattle.digram_index.specs.Copies.{AreEachTerms, IsCopyLinked, Meets, end_of, width}
 use Rattle.digram_index.proofs.CopyPlaces.{Kind, as_copy, as_argument, kind-of, copied-first, each-drop, first-of, length-drop-holes, piece-argument, piece-width, rest-of, some-wide}
+use Rattle.digram_index.proofs.Numbered.{fewer-both, fewer-same}
 
 -- a list from the place of an item on
 pub drop-item : {X : Type 0} (xs : List X) (i : ℕ) (x : X) → slice_get xs i ≡ Some x → drop i xs ≡ x ∷ drop (i + 1) xs
@@ -73,7 +74,7 @@ module _ (g : Keyed) (K : IsKeyed g) (q : ℕ) where
   pub walking-begins : (I : Linked) (root : Key) (first : Option Key) (begin : ℕ) → key_at g.rules q 0 ≡ Some root → IsCopyLinked g I q (Some root) first → IsWalking g q I I (Some root) first begin begin
   walking-begins I root first begin e V =
       let o = (K.once root q V.at q 0 V.model_at e).1 in
-      record { left = V; cells = omega arith; spare = omega arith; spare_rules = refl; counted = omega (arith, o); marks = λ k m. m }
+      record { left = V; cells = omega arith; spare = omega arith; spare_rules = refl; counted = omega (arith, o); marks = fewer-same I }
 
   module _ (I : Linked) (node : Key) (copy : Option Key) (W : IsCopyLinked g I q (Some node) copy) (label : Label)
       (told : (p : ℕ) → key_at g.rules q p ≡ Some node → (n : ℕ) × (slice_get (nodes_at g.rules q) p ≡ Some (record { key = node; label = label; kids = n }))) where
@@ -200,7 +201,7 @@ module _ (g : Keyed) (K : IsKeyed g) (q : ℕ) where
         pub walking-next : (old : Linked) (begin now then : ℕ) → length old.cells ≤ length I.cells → old.spare_links ≤ I.spare_links + W.at → now ≡ begin + (W.at + W.at)
             → length I.cells ≤ length J.cells → I.spare_links ≤ J.spare_links + 1 → I.spare_rules ≡ old.spare_rules → J.spare_rules ≡ I.spare_rules → then ≡ now + 1 + 1 → MarksFewer old I → MarksFewer I J → IsWalking g q old J model next begin then
         unfolding copy-next
-        walking-next old begin now then a b c d e u v f s t = record { left = copy-next; cells = omega (arith, a, d); spare = omega (arith, b, e); spare_rules = v ∙ u; counted = omega (arith, c, f); marks = λ k m. s k (t k m) }
+        walking-next old begin now then a b c d e u v f s t = record { left = copy-next; cells = omega (arith, a, d); spare = omega (arith, b, e); spare_rules = v ∙ u; counted = omega (arith, c, f); marks = fewer-both old I J s t }
 
   -- behind the last node of the body nothing is left to link
   pub copy-ends : (I : Linked) (copy : Option Key) → IsCopyLinked g I q None copy → IsIndexOf g I

@@ -8,6 +8,7 @@ use Rattle.digram_index.specs.Marking.{MarksFewer}
 use Rattle.digram_index.specs.Partly.{IsPartOf, IsRight}
 use Rattle.digram_index.proofs.LevelLemmas.{same_some}
 use Rattle.digram_index.proofs.NodeLinks.{kept-right}
+use Rattle.digram_index.proofs.Numbered.{fewer-both}
 
 -- the first so many of these nodes are linked, and what was right still is
 pub record AreLinked (g : Keyed) (keys : List Key) (old new : Linked) (count : ℕ) : Type 0 where
@@ -28,7 +29,7 @@ linked-next g keys old now new i key A there part right others cells spare rules
   cells = let c = A.cells in omega (arith, c, cells);
   spare = let s = A.spare in omega (arith, s, spare);
   spare_rules = rules ∙ A.spare_rules;
-  marks = λ n m. A.marks n (fewer n m);
+  marks = fewer-both old now new A.marks fewer;
 }
   where
     by : (j : ℕ) (k : Key) → j < i + 1 → slice_get keys j ≡ Some k → (j ≡ i) ⊎ (j ≡ i → ⊥) → IsRight g.rules new k

@@ -7,25 +7,24 @@ use Rattle.rule_arena.specs.declared.label.Label.{Label}
 use Rattle.rule_arena.specs.declared.label.Label.TheVariants.{Bottom, Symbol, Call, Param}
 use Rattle.slt_grammar.specs.Calling.{BeginsWith}
 use Rattle.slt_grammar.specs.Copying.{copied, copied_node, hole}
-use Rattle.slt_grammar.specs.Keyed.{KeyedRule, nodes_at}
+use Rattle.slt_grammar.specs.Grammars.{value_at}
+use Rattle.slt_grammar.specs.Keyed.{KeyedRule, nodes_at, rules_of}
 use Rattle.start_fronts.specs.Before.{KeepsBefore, copied_keys}
 use Rattle.digram_index.specs.Calls.{IsOfBody}
 use Rattle.digram_index.specs.Copies.{Meets, width}
 use Rattle.digram_index.specs.Linked.{Linked, cell, is_marked}
-use Rattle.digram_index.specs.Marking.{KeepsMarked, MarksFewer}
+use Rattle.digram_index.specs.Marking.{KeepsMarked, KeepsRules, MarksFewer, MarksNoMore}
 use Rattle.digram_index.proofs.BodyUnlinks.{take-drop}
 use Rattle.digram_index.proofs.CopyLinks.{key-drop}
-
-pub fewer-both : (I J K : Linked) → MarksFewer I J → MarksFewer J K → MarksFewer I K
-fewer-both I J K a b k m = a k (b k m)
+use Rattle.digram_index.proofs.Numbered.{fewer-both, rules-still, rules-then, rules-valued}
 
 -- while the grammar is the same
 pub keeps-still : (G : List KeyedRule) (I J : Linked) → MarksFewer I J → KeepsMarked G I G J
-keeps-still G I J fewer = record { fewer = fewer; stays = λ key place there m. record { now = place; there = there; same = refl } }
+keeps-still G I J fewer = record { fewer = fewer.fewer; stays = λ key place there m. record { now = place; there = there; same = refl }; rules = rules-still G I J fewer }
 
 -- where nothing is marked any more
-pub keeps-none : (G H : List KeyedRule) (I J : Linked) → ((k : ℕ) → is_marked J k ≡ false) → KeepsMarked G I H J
-keeps-none G H I J none = record { fewer = λ k m. absurd (no k m); stays = λ key place there m. absurd (no key.number m) }
+pub keeps-none : (G H : List KeyedRule) (I J : Linked) → ((k : ℕ) → is_marked J k ≡ false) → KeepsRules G I H J → KeepsMarked G I H J
+keeps-none G H I J none rules = record { fewer = λ k m. absurd (no k m); stays = λ key place there m. absurd (no key.number m); rules = rules }
   where
     no : (k : ℕ) → IsTrue (is_marked J k) → ⊥
     no k m = let z : true ≡ false = sym m ∙ none k in cc
@@ -38,18 +37,23 @@ keeps-then G H K I J L a b = record {
       let s = a.stays key place there (b.fewer key.number m) in
       let t = b.stays key s.now s.there m in
       record { now = t.now; there = t.there; same = t.same ∙ s.same };
+  rules = rules-then G H K I J L a.rules b.rules;
 }
 
 -- a change that keeps what stands before all nodes but those that aren't marked any more
-pub keeps-by : (gone : List Key) (G H : List KeyedRule) (I J : Linked) → KeepsBefore gone G H → MarksFewer I J → All (λ k. IsTrue (is_marked J k.number) → ⊥) gone → KeepsMarked G I H J
-keeps-by gone G H I J keeps fewer none = record {
+pub keeps-by : (gone : List Key) (G H : List KeyedRule) (I J : Linked) → KeepsBefore gone G H → MarksNoMore I J → All (λ k. IsTrue (is_marked J k.number) → ⊥) gone → KeepsRules G I H J → KeepsMarked G I H J
+keeps-by gone G H I J keeps fewer none rules = record {
   fewer = fewer;
   stays = λ key place there m. keeps key place there (λ i d h e. none i d h (ap (λ (k : Key). is_marked J k.number) e ∙ m));
+  rules = rules;
 }
 
--- the same where they were unlinked before
-pub keeps-unlinked : (gone : List Key) (G H : List KeyedRule) (I mid J : Linked) → KeepsBefore gone G H → MarksFewer I mid → MarksFewer mid J → All (λ k. IsTrue (is_marked mid k.number) → ⊥) gone → KeepsMarked G I H J
-keeps-unlinked gone G H I mid J keeps first second none = keeps-by gone G H I J keeps (fewer-both I mid J first second) (λ i d h m. none i d h (second (get_or gone i d).number m))
+-- the same where they were unlinked before, and no value changes
+pub keeps-unlinked : (gone : List Key) (G H : List KeyedRule) (I mid J : Linked) → KeepsBefore gone G H → MarksFewer I mid → MarksFewer mid J → All (λ k. IsTrue (is_marked mid k.number) → ⊥) gone
+    → length H ≡ length G → ((r : ℕ) → value_at (rules_of H) r ≡ value_at (rules_of G) r) → KeepsMarked G I H J
+keeps-unlinked gone G H I mid J keeps first second none many values =
+    let both = fewer-both I mid J first second in
+    keeps-by gone G H I J keeps both.fewer (λ i d h m. none i d h (second.fewer (get_or gone i d).number m)) (rules-valued G H I J both many values)
 
 pub all-none : {X : Type 0} (P : X → Type 0) → All P []
 all-none P i d h = absurd (omega (arith, h))

@@ -12,6 +12,7 @@ use Rattle.digram_index.specs.Partly.{IsRight, IsAmong, IsPartOf}
 use Rattle.digram_index.proofs.Apartness.{one-key}
 use Rattle.digram_index.proofs.BuildLemmas.{linked-told}
 use Rattle.digram_index.proofs.LevelLemmas.{same_some}
+use Rattle.digram_index.proofs.Numbered.{fewer-both}
 
 -- the first so many of these nodes are not linked, and nothing else changed
 pub record AreUnlinked (keys : List Key) (old new : Linked) (count : ℕ) : Type 0 where
@@ -40,7 +41,7 @@ unlinked-next keys old now new i key A there free others rules room spares fewer
   rules = rules ∙ A.rules;
   room = room ∙ A.room;
   spares = (spares.0 ∙ A.spares.0, spares.1 ∙ A.spares.1);
-  marks = λ n m. A.marks n (fewer n m);
+  marks = fewer-both old now new A.marks fewer;
 }
   where
     by : (j : ℕ) (k : Key) → j < i + 1 → slice_get keys j ≡ Some k → (j ≡ i) ⊎ (j ≡ i → ⊥) → cell new k.number ≡ None

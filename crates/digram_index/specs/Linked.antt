@@ -15,10 +15,13 @@ use Rattle.digram_index.specs.Numbers.{Numbering, place_of, IsGiven}
 use Rattle.digram_index.specs.Spots.{Spot, Entered, spot_at}
 use Rattle.digram_index.specs.Digrams.{Cell, occurrence_at}
 
--- how many rules the index knows, for each number of a node the occurrence that is linked there and whether the node is marked, and
--- for how many more occurrences and rules there is room
+-- how many rules the index knows, for each rule the number that it has for life, below which number all were given so far, for each
+-- number of a node the occurrence that is linked there and whether the node is marked, and for how many more occurrences and rules there
+-- is room
 pub record Linked : Type 0 where
   pub rules : ℕ
+  pub numbers : List ℕ
+  pub given : ℕ
   pub cells : List (Option Cell)
   pub marked : List Bool
   pub spare_links : ℕ
@@ -26,6 +29,10 @@ pub record Linked : Type 0 where
 
 abbrev pub cell : Linked → ℕ → Option Cell
 cell I k = get_or I.cells k None
+
+-- the number of the rule at a place
+abbrev pub number_at : Linked → ℕ → ℕ
+number_at I r = get_or I.numbers r 0
 
 -- whether the node with a number is marked
 abbrev pub is_marked : Linked → ℕ → Bool

@@ -26,6 +26,13 @@ pub fn clear(flags: &mut Vec<bool>, number: usize)
     }
 }
 
+/// Takes all flags away.
+pub fn clear_all(flags: &mut Vec<bool>)
+    ensures { (k : ℕ) → get_or flags.new.items k false ≡ false }
+{
+    flags.fill(false);
+}
+
 /// Whether the flag of a number is set.
 pub fn is_set(flags: &[bool], number: usize) -> bool
     ensures { result ≡ get_or flags.now number false }

@@ -39,6 +39,8 @@ impl Model for Index {
 
     ghost view = { λ a. record {
       rules = length a.numbers.numbers;
+      numbers = a.numbers.numbers;
+      given = a.numbers.given;
       cells = map (cell_of a.numbers.numbers) a.entries.spots;
       marked = a.marked.items;
       spare_links = a.entries.spare;
@@ -64,7 +66,8 @@ impl Index {
     ghost use Rattle.digram_index.specs.Frequency.{IsMostFrequent};
     ghost use Rattle.digram_index.specs.Keeping.{AreOccurrences};
     ghost use Rattle.digram_index.specs.Linked.{IsCallLinked, IsIndexOf, cell, cell_count, shifted_cell, unshifted_cell, Lacks};
-    ghost use Rattle.digram_index.specs.Marking.{MarksFewer};
+    ghost use Rattle.digram_index.specs.Marking.{HasNumberLess, HasNumberMore, MarksFewer, MarksNoMore};
+    ghost use Rattle.digram_index.specs.Numbers.{AreBelow, AreDistinct};
     ghost use Rattle.digram_index.specs.Settled.{HasApart, HasTwoDisjoint, IsWithin};
 
     /// An index in which nothing is linked.
@@ -353,7 +356,9 @@ impl Index {
         ensures room { length self.new.cells ≡ length self.old.cells }
         ensures spare { (self.old.spare_rules ≤ self.new.spare_rules + 1) × (self.new.spare_links ≡ self.old.spare_links) }
         ensures succeeds { 0 < self.old.spare_rules → IsOk result }
-        ensures marks { MarksFewer self.old self.new }
+        ensures marks { MarksNoMore self.old self.new }
+        ensures numbers { OnOk result (HasNumberMore place self.old self.new) }
+        ensures refused { OnErr result (MarksFewer self.old self.new) }
     {
         self.entries.reserve_callees(self.numbers.given(), 1)?;
         self.numbers.insert(place)
@@ -367,8 +372,19 @@ impl Index {
         ensures cells { (k : ℕ) → cell self.new k ≡ unshifted_cell place (cell self.old k) }
         ensures room { length self.new.cells ≡ length self.old.cells }
         ensures spare { (self.old.spare_rules ≤ self.new.spare_rules) × (self.new.spare_links ≡ self.old.spare_links) }
-        ensures marks { MarksFewer self.old self.new }
+        ensures marks { MarksNoMore self.old self.new }
+        ensures numbers { HasNumberLess place self.old self.new }
     {
         self.numbers.remove(place);
+    }
+
+    /// The number of each rule, which the rule keeps while others come and go before it. No other rule has it, then or later.
+    pub fn numbers(&self) -> &[usize]
+        ensures value { result.now ≡ self.now.numbers }
+        ensures length { length self.now.numbers ≡ self.now.rules }
+        ensures distinct { AreDistinct self.now.numbers }
+        ensures below { AreBelow self.now.numbers self.now.given }
+    {
+        self.numbers.as_slice()
     }
 }

@@ -10,9 +10,9 @@
 //! of a rule or of a grammar. `inlining` keeps the index while a call gives way to a body, whose copy `copying` links, `calling` while a
 //! term gives way to a call, and `dropping` while a rule goes; `reading` reads what stands around a node, and `roots` finds roots and what
 //! has them. `touched` keeps the nodes that were linked last, as a hint. `marking` marks nodes, by `flags` of their numbers, until they are
-//! unlinked: so a marked node has stood since it was marked, and what keeps each rule's value keeps what stands before it in the start
-//! (`specs/Marking.antt`). Contracts see the cells by node number (`specs/Linked.antt`) and compare them with the occurrences of a grammar
-//! (`specs/Digrams.antt`).
+//! unlinked: so a marked node has stood since it was marked, and what keeps each rule's value keeps what stands before it in the start; a
+//! rule that has the same number before and behind has the same value (`specs/Marking.antt`). Contracts see the cells by node number
+//! (`specs/Linked.antt`) and compare them with the occurrences of a grammar (`specs/Digrams.antt`).
 #![tactic(auto)]
 
 mod alike;

@@ -1,8 +1,8 @@
 // Nodes that are marked until they are unlinked.
-ghost use Rattle.std.specs.Prelude.{◌≡◌, ◌≢◌, ℕ, None, IsTrue, MatchBool, true};
+ghost use Rattle.std.specs.Prelude.{◌≡◌, ◌≢◌, ℕ, None, IsTrue, MatchBool, false, true};
 ghost use Rattle.digram_index.specs.Linked.{cell, is_marked};
 
-use crate::flags::{is_set, set};
+use crate::flags::{clear_all, is_set, set};
 use crate::index::Index;
 use slt_grammar::Key;
 
@@ -17,6 +17,14 @@ impl Index {
             return false;
         }
         set(&mut self.marked, key.number())
+    }
+
+    /// Marks no node any more.
+    pub fn unmark_all(&mut self)
+        ensures none { (k : ℕ) → is_marked self.new k ≡ false }
+        ensures index { self.new ≡ record self.old { marked = self.new.marked } }
+    {
+        clear_all(&mut self.marked);
     }
 
     /// Whether a node is marked.

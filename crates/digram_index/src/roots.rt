@@ -2,7 +2,9 @@
 ghost use Rattle.std.specs.Prelude.{◌≡◌, ◌+◌, ◌<◌, ℕ, IfSome, IsTrue, Some, length};
 ghost use Rattle.slt_grammar.specs.Keyed.{key_at};
 ghost use Rattle.slt_grammar.specs.KeyedEdits.{Stands};
+ghost use Rattle.digram_index.specs.Marking.{MarksStart};
 
+use crate::index::Index;
 use crate::nodes::site;
 use slt_grammar::{Grammar, Key};
 
@@ -20,13 +22,22 @@ pub fn root_of(grammar: &Grammar, key: Key) -> Key
     here
 }
 
-/// Whether a node stands in the start's body. It climbs.
-pub fn stands_in_start(grammar: &Grammar, key: Key) -> bool
-    requires { Stands grammar.now.rules key }
+/// Whether a node stands in the start's body. It climbs, no further than to a node that is marked: only nodes of the start are.
+pub fn stands_in_start(grammar: &Grammar, index: &Index, key: Key) -> bool
+    requires there { Stands grammar.now.rules key }
+    requires marked { MarksStart grammar.now.rules index.now }
     ensures { IsTrue result → (S : Stands grammar.now.rules key) → S.rule + 1 ≡ length grammar.now.rules }
 {
+    // The call tells that the bodies are terms.
     let _limit = grammar.limit();
-    root_of(grammar, key) == grammar.root(grammar.rules() - 1)
+    let mut here = key;
+    while !index.is_marked(here) {
+        let Some((upper, _)) = site(grammar, here).parent else {
+            return here == grammar.root(grammar.rules() - 1);
+        };
+        here = upper;
+    }
+    true
 }
 
 /// The rule before the start whose body has this root. It looks at one rule after another.

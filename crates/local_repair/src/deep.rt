@@ -5,7 +5,7 @@ ghost use Rattle.slt_grammar.specs.Grammars.{IsSwept, value};
 ghost use Rattle.slt_grammar.specs.Keyed.{rules_of};
 ghost use Rattle.slt_grammar.specs.Ranks.{greatest_rank};
 
-use crate::settling::settle_touched;
+use crate::settling::settle_edited;
 use digram_index::build;
 use rule_pruning::dissolve;
 use slt_grammar::Grammar;
@@ -30,5 +30,5 @@ pub fn settle_deeply(alloc: Global, grammar: &mut Grammar, bound: usize) -> Resu
     let most = grammar.size().saturating_mul(GROWTH);
     let mut index = build(alloc, grammar)?;
     dissolve(grammar, &mut index, most)?;
-    settle_touched(alloc, grammar, &mut index, bound)
+    settle_edited(alloc, grammar, &mut index, bound)
 }

@@ -6,7 +6,7 @@ ghost use Rattle.slt_grammar.specs.Keyed.{rules_of};
 ghost use Rattle.slt_grammar.specs.KeyedEdits.{Stands};
 ghost use Rattle.slt_grammar.specs.Ranks.{greatest_rank};
 ghost use Rattle.digram_index.specs.Linked.{IsIndexOf, cell};
-ghost use Rattle.digram_index.specs.Marking.{KeepsMarked};
+ghost use Rattle.digram_index.specs.Marking.{KeepsMarked, MarksStart};
 ghost use Rattle.local_repair.specs.Settling.{IsNoLarger};
 ghost use Rattle.local_repair.specs.Reusing.{BeginsWithin};
 
@@ -28,7 +28,8 @@ const LOOKS: usize = 8;
 /// last settling: an edit exposes copies of bodies in the start. The value stays, and the grammar isn't larger. It fails where memory is
 /// refused, and the grammar is as told then too.
 pub(crate) fn reuse_rules(grammar: &mut Grammar, index: &mut Index) -> Result<(), AllocError>
-    requires { IsIndexOf grammar.old index.old }
+    requires index { IsIndexOf grammar.old index.old }
+    requires marked { MarksStart grammar.old.rules index.old }
     ensures kept { IsNoLarger (rules_of grammar.old.rules) (rules_of grammar.new.rules) }
     ensures ranks { greatest_rank (rules_of grammar.new.rules) ≡ greatest_rank (rules_of grammar.old.rules) }
     ensures index { IsIndexOf grammar.new index.new }
@@ -49,6 +50,7 @@ pub(crate) fn reuse_rules(grammar: &mut Grammar, index: &mut Index) -> Result<()
 fn reuse_at(grammar: &mut Grammar, index: &mut Index, lower: Key) -> Result<(), AllocError>
     requires index { IsIndexOf grammar.old index.old }
     requires linked { cell index.old lower.number ≢ None }
+    requires marked { MarksStart grammar.old.rules index.old }
     ensures kept { IsNoLarger (rules_of grammar.old.rules) (rules_of grammar.new.rules) }
     ensures ranks { greatest_rank (rules_of grammar.new.rules) ≡ greatest_rank (rules_of grammar.old.rules) }
     ensures index { IsIndexOf grammar.new index.new }
@@ -61,7 +63,7 @@ fn reuse_at(grammar: &mut Grammar, index: &mut Index, lower: Key) -> Result<(), 
     let Some(found) = find_rule(grammar, index, lower, upper) else {
         return Ok(());
     };
-    if !stands_in_start(grammar, upper) {
+    if !stands_in_start(grammar, index, upper) {
         return Ok(());
     }
     grammar.reserve(9, 0)?;

@@ -5,7 +5,7 @@ ghost use Rattle.slt_grammar.specs.Grammars.{size};
 ghost use Rattle.slt_grammar.specs.Keyed.{rules_of};
 ghost use Rattle.slt_grammar.specs.Ranks.{greatest_rank};
 ghost use Rattle.digram_index.specs.Linked.{IsIndexOf};
-ghost use Rattle.digram_index.specs.Marking.{KeepsMarked};
+ghost use Rattle.digram_index.specs.Marking.{KeepsMarked, MarksStart};
 ghost use Rattle.local_repair.specs.Settling.{IsLargerAtMost, IsNoLarger};
 ghost use Rattle.slt_grammar.specs.declared.digram.Digram.{Digram};
 
@@ -33,7 +33,28 @@ pub fn settle(alloc: Global, grammar: &mut Grammar, bound: usize) -> Result<(), 
 }
 
 /// The same over an index of the grammar, which is kept. Before, terms of the start of which a node was linked since the last settling
-/// become calls of rules that are there, where they begin with their bodies.
+/// become calls of rules that are there, where they begin with their bodies. A term is known to stand in the start by the next node above it
+/// that is marked: only nodes of the start may be.
+pub fn settle_edited(
+    alloc: Global,
+    grammar: &mut Grammar,
+    index: &mut Index,
+    bound: usize,
+) -> Result<(), AllocError>
+    requires bound { bound ≤ 8 }
+    requires index { IsIndexOf grammar.old index.old }
+    requires marked { MarksStart grammar.old.rules index.old }
+    ensures settled { OnOk result (IsSettled (rules_of grammar.new.rules) bound) }
+    ensures kept { IsNoLarger (rules_of grammar.old.rules) (rules_of grammar.new.rules) }
+    ensures ranks { greatest_rank (rules_of grammar.new.rules) ≤ max bound (greatest_rank (rules_of grammar.old.rules)) }
+    ensures index { IsIndexOf grammar.new index.new }
+    ensures marks { KeepsMarked grammar.old.rules index.old grammar.new.rules index.new }
+{
+    reuse_rules(grammar, index)?;
+    settle_touched(alloc, grammar, index, bound)
+}
+
+/// The same without these calls.
 pub fn settle_touched(
     alloc: Global,
     grammar: &mut Grammar,
@@ -48,14 +69,34 @@ pub fn settle_touched(
     ensures index { IsIndexOf grammar.new index.new }
     ensures marks { KeepsMarked grammar.old.rules index.old grammar.new.rules index.new }
 {
-    reuse_rules(grammar, index)?;
+    settle_twice(alloc, grammar, index, bound)?;
+    index.forget_touched();
+    Ok(())
+}
+
+// Settles, replaces digrams that stand twice as far as the first settling leaves patience for it, and settles again where it leaves some.
+fn settle_twice(
+    alloc: Global,
+    grammar: &mut Grammar,
+    index: &mut Index,
+    bound: usize,
+) -> Result<(), AllocError>
+    requires bound { bound ≤ 8 }
+    requires index { IsIndexOf grammar.old index.old }
+    ensures settled { OnOk result (IsSettled (rules_of grammar.new.rules) bound) }
+    ensures kept { IsNoLarger (rules_of grammar.old.rules) (rules_of grammar.new.rules) }
+    ensures ranks { greatest_rank (rules_of grammar.new.rules) ≤ max bound (greatest_rank (rules_of grammar.old.rules)) }
+    ensures index { IsIndexOf grammar.new index.new }
+    ensures marks { KeepsMarked grammar.old.rules index.old grammar.new.rules index.new }
+{
     let begin = weight(grammar);
     alternate(alloc, grammar, index, bound)?;
     let times = patience(grammar, begin);
+    if times == 0 {
+        return Ok(());
+    }
     replace_twice(alloc, grammar, index, bound, times)?;
-    alternate(alloc, grammar, index, bound)?;
-    index.forget_touched();
-    Ok(())
+    alternate(alloc, grammar, index, bound)
 }
 
 // The size of a grammar and the number of its rules together, as far as a number goes.

@@ -10,6 +10,7 @@ use Rattle.digram_index.proofs.Apartness.{one-key}
 use Rattle.digram_index.specs.Partly.{IsRight, IsAmong, IsPartOf}
 use Rattle.digram_index.proofs.LevelLemmas.{same_some}
 use Rattle.digram_index.proofs.NodeLinks.{kept-right, not-among}
+use Rattle.digram_index.proofs.Numbered.{fewer-both}
 use Rattle.pair_replace.specs.Near.{IsAround}
 
 -- the first so many of these nodes are linked but for one, and nothing else changed
@@ -35,7 +36,7 @@ linked-next g keys gone old now new i key A there d part right others cells spar
   cells = let c = A.cells in omega (arith, c, cells);
   spare = let s = A.spare in omega (arith, s, spare);
   spare_rules = rules ∙ A.spare_rules;
-  marks = λ n m. A.marks n (fewer n m);
+  marks = fewer-both old now new A.marks fewer;
 }
   where
     by : (j : ℕ) (k : Key) → j < i + 1 → slice_get keys j ≡ Some k → k ≢ gone → (j ≡ i) ⊎ (j ≡ i → ⊥) → IsRight g.rules new k

@@ -9,7 +9,7 @@ ghost use Rattle.slt_grammar.specs.Keyed.{rules_of};
 ghost use Rattle.slt_grammar.specs.KeyedEdits.{digram_body, parameters};
 ghost use Rattle.digram_index.specs.Keeping.{IsIndexBut};
 ghost use Rattle.digram_index.specs.Linked.{IsIndexOf, cell, cell_count, shifted_cell};
-ghost use Rattle.digram_index.specs.Marking.{KeepsMarked, MarksFewer};
+ghost use Rattle.digram_index.specs.Marking.{HasNumberMore, KeepsMarked, MarksFewer, MarksNoMore};
 ghost use Rattle.digram_index.specs.Settled.{HasApart, HasTwoDisjoint};
 ghost use Rattle.pair_replace.specs.Chains.{HasApartLinked};
 ghost use Rattle.pair_replace.specs.NewRules.{IsAdded, IsNewRule, IsRuleOf, IsSmall};
@@ -106,7 +106,9 @@ fn make_place(
     ensures room { OnOk result (links ≤ index.new.spare_links) }
     ensures cells { OnOk result (grammar.now.limit ≤ length index.new.cells) }
     ensures refused { OnErr result ((index.new.rules ≡ index.old.rules) × ((k : ℕ) → cell index.new k ≡ cell index.old k)) }
-    ensures marks { MarksFewer index.old index.new }
+    ensures marks { MarksNoMore index.old index.new }
+    ensures numbers { OnOk result (HasNumberMore place index.old index.new) }
+    ensures refused_marks { OnErr result (MarksFewer index.old index.new) }
 {
     index.reserve(grammar, links, 0)?;
     index.insert_rule(place)

@@ -1,14 +1,16 @@
 -- What rules save.
-use Rattle.std.proofs.Common.{◌≡◌, ℕ, zero, suc, ◌+◌, ◌-◌, ◌*◌, ◌<◌, ◌≤◌, ◌^◌, List, [], ◌∷◌, length, sym, ap, subst, arith}
+use Rattle.std.proofs.Common.{◌≡◌, ℕ, zero, suc, ◌+◌, ◌-◌, ◌*◌, ◌<◌, ◌≤◌, ◌^◌, List, [], ◌∷◌, length, slice_get, Some, sym, ap, subst, arith}
 use Rattle.std.proofs.lemmas.List.{length-map}
-use Rattle.rule_arena.specs.Terms.{Node}
+use Rattle.rule_arena.specs.Preorder.{AreTerms}
+use Rattle.rule_arena.specs.Terms.{Node, kids_of}
 use Rattle.rule_arena.specs.declared.label.Label.{Label}
 use Rattle.rule_arena.specs.declared.label.Label.TheVariants.{Bottom, Symbol, Call, Param}
 use Rattle.slt_grammar.specs.Bodies.{real_nodes}
 use Rattle.slt_grammar.specs.Grammars.{body_at, rank_at}
 use Rattle.slt_grammar.specs.Keyed.{Keyed, IsKeyed, nodes_at, rules_of}
 use Rattle.slt_grammar.proofs.CallCounts.{nodes-room, real_nodes-are}
-use Rattle.slt_grammar.proofs.KeyedLemmas.{body_at-rules_of, length-rules_of}
+use Rattle.slt_grammar.proofs.KeyedLemmas.{body_at-rules_of, length-rules_of, nodes-are-term}
+use Rattle.slt_grammar.proofs.Copies.{few-terms}
 use Rattle.std.specs.Prelude.{ℤ, pos, ◌*ℤ◌, ◌-ℤ◌, FitsSigned, unsigned_abs, Bool, true, false, MatchBool}
 use Rattle.std.proofs.lemmas.Int.{ints, fits_signed_mul}
 use Rattle.std.specs.Int.{w128}
@@ -36,6 +38,16 @@ body-length g K r h =
       ap length (body_at-rules_of g.rules r),
       length-map (nodes_at g.rules r) (λ (n : Node). n.label),
     )
+
+-- so it has no fewer than its root and a node below each child
+pub root-tells : (g : Keyed) → IsKeyed g → (r : ℕ) → r < length g.rules → (n : Node) → slice_get (nodes_at g.rules r) 0 ≡ Some n → n.kids + 1 ≤ real_nodes (body_at (rules_of g.rules) r) + rank_at (rules_of g.rules) r
+root-tells g K r h n there = omega (arith, body-length g K r h, below (nodes_at g.rules r) there (nodes-are-term g K r h))
+  where
+    below : (ns : List Node) → slice_get ns 0 ≡ Some n → AreTerms kids_of 1 ns → n.kids + 1 ≤ length ns
+    below [] z t = absurd t
+    below (m ∷ ns) z t =
+        let e : m ≡ n = cc in
+        omega (arith, few-terms (m.kids + 0) ns t, ap (λ (x : Node). x.kids) e)
 
 one-less : (n : ℕ) → pos (suc n) -ℤ pos 1 ≡ pos n
 one-less n = omega (arith, ints)

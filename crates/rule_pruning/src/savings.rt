@@ -51,7 +51,8 @@ pub(crate) fn all_save(grammar: &Grammar) -> bool
     true
 }
 
-// Whether a body has so many nodes, one at least, that are no parameters. It is read no further.
+// Whether a body has so many nodes, one at least, that are no parameters. It is read no further, and its root alone where that has so many
+// children more than there are parameters: each has a node, and a parameter stands once.
 fn has_nodes<L: Ledger>(grammar: &Grammar, rule: usize, least: u64, blank: Blank) -> bool
     requires there { rule < length grammar.now.rules }
     requires least { 0 < least }
@@ -60,7 +61,13 @@ fn has_nodes<L: Ledger>(grammar: &Grammar, rule: usize, least: u64, blank: Blank
     requires some { 0 < blank.parts }
     ensures { MatchBool result (least ≤ real_nodes (body_at (rules_of grammar.now.rules) rule)) (real_nodes (body_at (rules_of grammar.now.rules) rule) < least) }
 {
+    // The call tells that a body is a term.
+    let _limit = grammar.limit();
     let mut steps: Steps<L> = Steps::new(blank);
+    let kids = grammar.site(grammar.root(rule), &mut steps).arity;
+    if (kids + 1).saturating_sub(grammar.rank(rule)) as u64 >= least {
+        return true;
+    }
     let mut labels = grammar.walk(rule);
     let mut size = 0;
     while let Some(label) = labels.next(&mut steps) {

@@ -3,16 +3,18 @@ ghost use Rattle.std.specs.Prelude.{◌≡◌, ℕ, List};
 ghost use Rattle.plain_tree.specs.declared.kind.Kind.{Kind};
 ghost use Rattle.slt_grammar.specs.Keyed.{KeyedRule};
 ghost use Rattle.digram_index.specs.Linked.{Linked};
-ghost use Rattle.digram_index.specs.Marking.{KeepsMarked};
+ghost use Rattle.digram_index.specs.Marking.{KeepsMarked, MarksStart};
 ghost use Rattle.preorder_address.specs.Marks.{AreMarks};
 
 use digram_index::Index;
 use preorder_address::{Mark, Marks};
 
-/// Marks the nodes of marks in the index, as far as they are linked and there is memory.
+/// Marks the nodes of marks in the index, as far as they are linked and there is memory, and no others.
 pub fn mark_nodes(marks: &Marks, index: &mut Index)
-    ensures { index.new ≡ record index.old { marked = index.new.marked } }
+    ensures index { index.new ≡ record index.old { marked = index.new.marked } }
+    ensures stand { (names : List (Kind × List ℕ)) (G : List KeyedRule) → AreMarks names G marks.now → MarksStart G index.new }
 {
+    index.unmark_all();
     for mark in marks.as_slice() {
         let _ = index.mark(mark.key());
     }

@@ -4,6 +4,7 @@ use Rattle.start_fronts.specs.Before.{copied_keys}
 use Rattle.slt_grammar.specs.Keyed.{nodes_at}
 use Rattle.digram_index.proofs.CalledIndex.{called, called-index, part}
 use Rattle.digram_index.proofs.Marks.{keeps-unlinked, unmarked-body}
+use Rattle.digram_index.proofs.Numbered.{same-many}
 use Rattle.digram_index.proofs.calling.call_linked.Goals as goal
 
 pub unlink_body-requires-clause-begins : goal.unlink_body-requires-clause-begins
@@ -67,3 +68,4 @@ returns-clause-marks c =
     (keeps-calling c.args.grammar.now c.call_at-call.new.self c.limit-before.ensures.keyed c.limit-after.ensures.keyed c.args.at c.args.rule c.args.arguments.now c.call_at-call.result B (A.rules B))
     U.marks c.link_call.ensures.marks
     (unmarked-body c.args.grammar.now.rules c.args.at c.args.rule c.args.arguments.now B c.unlink_body.new.index (U.free c.args.arguments.now B) c.is_marked-marked.ensures.linked)
+    (same-many c.args.grammar.now.rules c.call_at-call.new.self.rules c.args.at B.here _ (A.rules B)) c.call_at-call.ensures.values

@@ -4,6 +4,7 @@ use Rattle.rule_arena.specs.declared.key.Key.{Key}
 use Rattle.digram_index.proofs.BodyUnlinks.{fewer, some-here, stands, unlinking-begins, walked-all, walked-next}
 use Rattle.digram_index.proofs.CopyLinks.{next-at}
 use Rattle.digram_index.proofs.NodeLinks.{stays-free}
+use Rattle.digram_index.proofs.Numbered.{fewer-both}
 use Rattle.digram_index.proofs.calling.unlink_body.Goals as goal
 
 pub loop-model-init : goal.loop-model-init
@@ -77,7 +78,7 @@ loop-model-preserved g c =
       rules = N.rules ∙ U.rules;
       room = N.room ∙ U.room;
       spares = (N.spares.0 ∙ U.spares.0, N.spares.1 ∙ U.spares.1);
-      marks = λ n m. U.marks n (N.marks n m);
+      marks = fewer-both c.args.index.now c.loop-model.index c.unlink_node.new.index U.marks N.marks;
     }
 
 pub returns-clause-free : goal.returns-clause-free

@@ -6,7 +6,8 @@ use Rattle.rule_arena.specs.declared.key.Key.{Key}
 use Rattle.digram_index.specs.Linked.{is_marked}
 use Rattle.digram_index.specs.Building.{IsNumberIn}
 use Rattle.digram_index.proofs.KeptRules.{drop-kept, drop-lacks, unlinked-but}
-use Rattle.digram_index.proofs.Marks.{all-none, fewer-both, keeps-by}
+use Rattle.digram_index.proofs.Marks.{all-none, keeps-by}
+use Rattle.digram_index.proofs.Numbered.{less-behind, rules-less}
 use Rattle.digram_index.proofs.dropping.drop_linked.Goals as goal
 
 pub remove_rule-requires-clause-there : goal.remove_rule-requires-clause-there
@@ -29,4 +30,6 @@ pub returns-clause-marks : goal.returns-clause-marks
 returns-clause-marks c =
     keeps-by [] c.args.grammar.now.rules c.drop_rule.new.self.rules c.args.index.now c.remove_rule.new.self
     (subst (λ (H : List KeyedRule). KeepsBefore [] c.args.grammar.now.rules H) (sym c.drop_rule.ensures.rules) (keeps-dropping c.args.grammar.now c.limit-limit.ensures.keyed c.args.rule c.requires.there c.requires.uncalled))
-    (fewer-both c.args.index.now c.unlink_nodes.new.index c.remove_rule.new.self c.unlink_nodes.ensures.marks c.remove_rule.ensures.marks) (all-none (λ (k : Key). IsTrue (is_marked c.remove_rule.new.self k.number) → ⊥))
+    (λ k m. c.unlink_nodes.ensures.marks.fewer k (c.remove_rule.ensures.marks k m)) (all-none (λ (k : Key). IsTrue (is_marked c.remove_rule.new.self k.number) → ⊥))
+    (rules-less c.args.rule c.args.grammar.now.rules c.drop_rule.new.self.rules c.args.index.now c.remove_rule.new.self c.drop_rule.ensures.values
+    (less-behind c.args.rule c.args.index.now c.unlink_nodes.new.index c.remove_rule.new.self c.unlink_nodes.ensures.marks c.remove_rule.ensures.numbers))

@@ -9,6 +9,7 @@ use Rattle.digram_index.proofs.Inlined.{callee-in}
 use Rattle.digram_index.proofs.InlinedIndex.{copy-ready}
 use Rattle.digram_index.proofs.Marks.{all-more, all-none, keeps-unlinked}
 use Rattle.digram_index.proofs.NearInlines.{callee-same, in-new}
+use Rattle.digram_index.proofs.Numbered.{same-many}
 use Rattle.digram_index.proofs.inlining.inline_linked.Goals as goal
 
 pub kids_of-arguments-requires : goal.kids_of-arguments-requires
@@ -86,3 +87,4 @@ returns-clause-marks c =
     (keeps-inlining c.args.grammar.now c.inline.new.self c.limit-before.ensures.keyed c.limit-after.ensures.keyed c.args.call C c.args.follow c.unwrap-inlined.result.followed (J C))
     U.marks c.link_copy.ensures.marks
     (all-more gone c.args.call [] (λ m. c.is_marked-marked.ensures.linked c.args.call.number m (U.free c.args.call.number (inl refl))) (all-none gone))
+    (same-many c.args.grammar.now.rules c.inline.new.self.rules c.args.call C.here _ (J C).rules) c.inline.ensures.values

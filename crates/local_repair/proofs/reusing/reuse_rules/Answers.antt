@@ -1,8 +1,13 @@
 use Rattle.std.proofs.Common.{◌∙◌}
 use Rattle.digram_index.proofs.Marks.{keeps-then}
+use Rattle.digram_index.proofs.StartMarked.{starts-kept}
 use Rattle.local_repair.proofs.Settlings.{no-larger-then}
 use Rattle.local_repair.proofs.reusing.reuse_rules.Goals as goal
 use Rattle.local_repair.proofs.reusing.reuse_rules.Goals.{then-is_linked+in_ok-reuse_at, else-is_linked}
+
+pub reuse_at-requires-clause-marked : goal.reuse_at-requires-clause-marked
+reuse_at-requires-clause-marked c =
+    rw c.take_touched.ensures (starts-kept c.args.grammar.now.rules c.loop.grammar.rules c.args.index.now c.loop.index c.loop.invariant.marks c.requires.marked)
 
 pub returns-in_err-reuse_at-clause-marks : goal.returns-in_err-reuse_at-clause-marks
 returns-in_err-reuse_at-clause-marks c =

@@ -58,4 +58,4 @@ returns-clause-marks c =
     let n = c.near_nodes-near.ensures in
     let u = c.unlink_near.ensures in
     keeps-fold c.args.grammar.now c.fold.new.self c.limit-limit.ensures.keyed c.args.lower c.args.rule F (c.fold.ensures.rules F) c.near_nodes-near.result.upper c.near_nodes-near.result.siblings c.near_nodes-near.result.children
-    (n.siblings c.args.rule F) c.args.index.now c.unlink_near.new.index c.link_near.new.index u.marks u.free c.is_marked-marked.ensures.linked c.link_near.ensures.marks
+    (n.siblings c.args.rule F) c.args.index.now c.unlink_near.new.index c.link_near.new.index u.marks u.free c.is_marked-marked.ensures.linked c.link_near.ensures.marks c.fold.ensures.values

@@ -3,6 +3,7 @@ use Rattle.rule_arena.specs.declared.key.Key.{Key}
 use Rattle.slt_grammar.specs.Keyed.{KeyedRule}
 use Rattle.slt_grammar.specs.KeyedEdits.{rule_dropped}
 use Rattle.digram_index.proofs.KeptRules.{put-kept}
+use Rattle.digram_index.proofs.Numbered.{fewer-same}
 use Rattle.pair_replace.proofs.PutBack.{index-back, rules-back}
 use Rattle.pair_replace.proofs.PutCounts.{count-put}
 use Rattle.pair_replace.proofs.PutRules.{is-new, index-but-lower, apart-linked, child-there}
@@ -45,12 +46,12 @@ returns-in-Err-clause-refused_index c = index-back c.args.grammar.now c.drop_rul
 
 pub returns-in-Ok-clause-marks : goal.returns-in-Ok-clause-marks
 returns-in-Ok-clause-marks c =
-    keeps-put c.args.grammar.now c.put_rule.new.grammar.rules c.limit-limit.ensures.keyed c.args.digram c.in_ok-place.place c.in_ok-place.ensures.added c.args.index.now c.make_place.new.index c.make_place.ensures.marks
+    keeps-put c.args.grammar.now c.put_rule.new.grammar.rules c.limit-limit.ensures.keyed c.args.digram c.in_ok-place.place c.in_ok-place.ensures.added c.args.index.now c.make_place.new.index c.make_place.ensures.marks c.in-Ok.ensures.numbers
 
 pub returns-in-Err-clause-marks : goal.returns-in-Err-clause-marks
 returns-in-Err-clause-marks c =
-    keeps-back c.args.grammar.now.rules c.drop_rule.new.self.rules c.args.index.now c.make_place.new.index (returns-in-Err-clause-refused c) c.make_place.ensures.marks
+    keeps-back c.args.grammar.now.rules c.drop_rule.new.self.rules c.args.index.now c.make_place.new.index (returns-in-Err-clause-refused c) c.in-Err.ensures.refused_marks
 
 pub returns-in_err-place-clause-marks : goal.returns-in_err-place-clause-marks
 returns-in_err-place-clause-marks c =
-    keeps-back c.args.grammar.now.rules c.put_rule.new.grammar.rules c.args.index.now c.args.index.now c.in_err-place.ensures.refused (λ k m. m)
+    keeps-back c.args.grammar.now.rules c.put_rule.new.grammar.rules c.args.index.now c.args.index.now c.in_err-place.ensures.refused (fewer-same c.args.index.now)

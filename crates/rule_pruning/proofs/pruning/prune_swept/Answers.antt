@@ -2,6 +2,7 @@ use Rattle.std.proofs.Common.{◌+◌, ◌<◌, ℕ, List, length, arith}
 use Rattle.slt_grammar.specs.Keyed.{KeyedRule}
 use Rattle.slt_grammar.proofs.KeyedLemmas.{length-rules_of}
 use Rattle.digram_index.proofs.Marks.{keeps-still, keeps-then}
+use Rattle.digram_index.proofs.Numbered.{fewer-same}
 use Rattle.rule_pruning.proofs.Taken.{IsTaken}
 use Rattle.rule_pruning.proofs.Turns.{pruning-begins, pruning-stays, pruning-takes}
 use Rattle.rule_pruning.proofs.pruning.prune_swept.Goals as goal
@@ -11,7 +12,7 @@ pub loop-init : goal.loop-init
 loop-init c = record {
   pruning = pruning-begins c.args.grammar.now.rules (omega (arith, c.rules-last.ensures.grammar.some, length-rules_of c.args.grammar.now.rules)) c.requires.swept;
   index = c.requires.index;
-  marks = keeps-still c.args.grammar.now.rules c.args.index.now c.args.index.now (λ k m. m);
+  marks = keeps-still c.args.grammar.now.rules c.args.index.now c.args.index.now (fewer-same c.args.index.now);
 }
 
 pub loop-preserved : goal.loop-preserved

@@ -6,6 +6,7 @@ use Rattle.slt_grammar.proofs.KeyedLemmas.{length-rules_of}
 use Rattle.slt_grammar.proofs.KeyedRemovals.{called-on}
 use Rattle.slt_grammar.proofs.RankBounds.{rank-dropped}
 use Rattle.digram_index.proofs.Marks.{keeps-still, keeps-then}
+use Rattle.digram_index.proofs.Numbered.{fewer-same}
 use Rattle.rule_pruning.proofs.Turns.{one-fewer}
 use Rattle.rule_pruning.proofs.pruning.sweep.Goals as goal
 
@@ -16,7 +17,7 @@ loop-rule-init c =
     let n = length-rules_of c.args.grammar.now.rules in
     record {
       index = c.requires;
-      marks = keeps-still c.args.grammar.now.rules c.args.index.now c.args.index.now (λ k m. m);
+      marks = keeps-still c.args.grammar.now.rules c.args.index.now c.args.index.now (fewer-same c.args.index.now);
       value = refl;
       size = omega arith;
       fewer = omega arith;

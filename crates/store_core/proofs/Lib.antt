@@ -14,6 +14,7 @@ pub mod Generated
 pub mod Shown
 pub mod Printing
 pub mod Edited
+pub mod Following
 pub mod BulkCounts
 pub mod BulkEdits
 pub mod StateCounts

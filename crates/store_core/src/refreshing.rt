@@ -73,7 +73,9 @@ fn smaller_copy(alloc: Global, grammar: &Grammar, rank: usize) -> Result<Grammar
     let mut deep = grammar.copy()?;
     settle_deeply(alloc, &mut deep, rank)?;
     if deep.size() < grammar.size() {
-        return Ok(deep);
+        // A copy is compact, which what was settled isn't.
+        let compact = deep.copy()?;
+        return Ok(compact);
     }
     let same = grammar.copy()?;
     Ok(same)

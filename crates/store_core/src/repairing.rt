@@ -18,7 +18,7 @@ use crate::answer::Answer;
 use crate::loaded::Loaded;
 use crate::refreshing::refresh;
 use digram_index::{Index, build};
-use local_repair::{settle, settle_touched};
+use local_repair::{settle, settle_edited};
 use slt_grammar::Grammar;
 use start_marks::{keep_marked, mark_nodes};
 use std::alloc::{AllocError, Global};
@@ -125,13 +125,19 @@ fn settle_in_place(alloc: Global, store: &mut Store, rank: usize) -> Result<(), 
 {
     // The calls tell what is true of every grammar.
     let _before = store.grammar.rules();
-    let most = most_rules(&store.grammar);
+    let numbers = store.index.numbers().to_vec(alloc)?;
+    let most = most_rules(&store.grammar).saturating_add(numbers.len());
     store.counts.reserve(most)?;
     mark_nodes(&store.marks, &mut store.index);
-    let settled = settle_touched(alloc, &mut store.grammar, &mut store.index, rank);
+    let settled = settle_edited(alloc, &mut store.grammar, &mut store.index, rank);
     keep_marked(&mut store.marks, &store.index);
     let _behind = store.grammar.rules();
-    store.counts.update(&store.grammar, &store.names);
+    store.counts.follow(
+        &store.grammar,
+        &store.names,
+        numbers.as_slice(),
+        store.index.numbers(),
+    );
     settled
 }
 

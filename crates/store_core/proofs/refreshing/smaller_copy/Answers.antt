@@ -8,10 +8,11 @@ use Rattle.store_core.proofs.refreshing.smaller_copy.Goals as goal
 pub returns-then-size-clause-settles : goal.returns-then-size-clause-settles
 returns-then-size-clause-settles c =
     let deep = c.in_ok-settle_deeply.ensures in
+    let compact = c.in_ok-compact.ensures in
     record {
-      settled = deep.settled;
-      same = deep.value ∙ ap value c.in_ok-deep.ensures;
-      nodes = omega (arith, c.size.ensures, c.size-2.ensures, c.if-size.true);
+      settled = subst (λ (G : List Rule). IsSettled G c.args.rank) (sym compact) deep.settled;
+      same = ap value compact ∙ deep.value ∙ ap value c.in_ok-deep.ensures;
+      nodes = omega (arith, ap size compact, c.size.ensures, c.size-2.ensures, c.if-size.true);
     }
 
 pub returns-clause-settles : goal.returns-clause-settles

@@ -22,13 +22,6 @@ use Rattle.digram_index.proofs.Numbered.{fewer-both, rules-still, rules-then, ru
 pub keeps-still : (G : List KeyedRule) (I J : Linked) → MarksFewer I J → KeepsMarked G I G J
 keeps-still G I J fewer = record { fewer = fewer.fewer; stays = λ key place there m. record { now = place; there = there; same = refl }; rules = rules-still G I J fewer }
 
--- where nothing is marked any more
-pub keeps-none : (G H : List KeyedRule) (I J : Linked) → ((k : ℕ) → is_marked J k ≡ false) → KeepsRules G I H J → KeepsMarked G I H J
-keeps-none G H I J none rules = record { fewer = λ k m. absurd (no k m); stays = λ key place there m. absurd (no key.number m); rules = rules }
-  where
-    no : (k : ℕ) → IsTrue (is_marked J k) → ⊥
-    no k m = let z : true ≡ false = sym m ∙ none k in cc
-
 -- one change after another
 pub keeps-then : (G H K : List KeyedRule) (I J L : Linked) → KeepsMarked G I H J → KeepsMarked H J K L → KeepsMarked G I K L
 keeps-then G H K I J L a b = record {

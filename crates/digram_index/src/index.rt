@@ -1,5 +1,5 @@
 // The index of the digrams of a grammar.
-ghost use Rattle.std.specs.Prelude.{◌≡◌, ◌≢◌, ◌+◌, ◌<◌, ◌≤◌, ℕ, [], length, Some, None, OnOk, OnErr, IfOk, IfSome, IfNone, IsOk, MatchBool};
+ghost use Rattle.std.specs.Prelude.{◌≡◌, ◌≢◌, ◌+◌, ◌-◌, ◌<◌, ◌≤◌, nat_lt, ℕ, [], length, Some, None, OnOk, OnErr, IfOk, IfSome, IfNone, IsOk, MatchBool};
 ghost use Rattle.slt_grammar.specs.Algebras.{ranks_of};
 ghost use Rattle.slt_grammar.specs.Keyed.{rules_of};
 ghost use Rattle.slt_grammar.specs.Names.{Call};
@@ -19,7 +19,6 @@ use std::marker::{Brand, Model};
 use std::sync::ledger::Blank;
 
 /// The occurrences of the digrams of a grammar.
-#[derive(Drop)]
 pub struct Index {
     numbers: Numbers,
     pub(crate) entries: Entries,
@@ -27,6 +26,18 @@ pub struct Index {
     pub(crate) touched: Touched,
     // Which nodes are marked, by their numbers.
     pub(crate) marked: Vec<bool>,
+}
+
+// Written out, so that whoever drops an index calls this, and doesn't drop each list by itself.
+impl Drop for Index {
+    fn drop(self) {
+        let Index {
+            numbers: _numbers,
+            entries: _entries,
+            touched: _touched,
+            marked: _marked,
+        } = self;
+    }
 }
 
 impl Model for Index {
@@ -156,9 +167,10 @@ impl Index {
         self.entries.at(lower.number()).is_some()
     }
 
-    /// Whether more rules came and went since the index was made than this. Their numbers and digrams are kept, so that it is time to make
-    /// it anew, which no clause tells.
-    pub fn is_worn(&self, most: usize) -> bool {
+    /// Whether more numbers of rules that went are kept than this, with their digrams, so that it is time to make the index anew.
+    pub fn is_worn(&self, most: usize) -> bool
+        ensures { result ≡ nat_lt most (self.now.given - self.now.rules) }
+    {
         self.numbers.given().saturating_sub(self.numbers.len()) > most
     }
 

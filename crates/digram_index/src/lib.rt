@@ -49,5 +49,5 @@ pub use dropping::drop_linked;
 pub use index::{FoundCall, Index};
 pub use inlining::inline_linked;
 pub use nodes::{arity_of, following, item, link_node, site, unlink_kids, unlink_node};
-pub use roots::{root_of, rule_with, stands_in_start};
+pub use roots::{rule_with, stands_in_start};
 pub use slt_grammar::Digram;

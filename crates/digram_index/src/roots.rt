@@ -8,20 +8,6 @@ use crate::index::Index;
 use crate::nodes::site;
 use slt_grammar::{Grammar, Key};
 
-/// The root of the body in which a node stands. It climbs.
-pub fn root_of(grammar: &Grammar, key: Key) -> Key
-    requires { Stands grammar.now.rules key }
-    ensures { (S : Stands grammar.now.rules key) → key_at grammar.now.rules S.rule 0 ≡ Some result }
-{
-    // The call tells that the bodies are terms.
-    let _limit = grammar.limit();
-    let mut here = key;
-    while let Some((upper, _)) = site(grammar, here).parent {
-        here = upper;
-    }
-    here
-}
-
 /// Whether a node stands in the start's body. It climbs, no further than to a node that is marked: only nodes of the start are.
 pub fn stands_in_start(grammar: &Grammar, index: &Index, key: Key) -> bool
     requires there { Stands grammar.now.rules key }

@@ -10,11 +10,19 @@ use std::alloc::{AllocError, Global};
 use std::marker::Model;
 
 /// A table of names: distinct pairs of a kind and a name, each at its place in the order in which they came.
-#[derive(Drop)]
 pub struct Names {
     pairs: Vec<Pair>,
     // for each kind the places of its names
     places: [PlaceMap; 6],
+}
+
+impl Drop for Names {
+    fn drop(self) {
+        let Names {
+            pairs: _pairs,
+            places: _places,
+        } = self;
+    }
 }
 
 #[derive(Drop)]

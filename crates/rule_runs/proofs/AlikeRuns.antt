@@ -3,6 +3,7 @@ use Rattle.std.proofs.Common.{◌≡◌, ℕ, suc, ◌+◌, ◌-◌, ◌^◌, �
 use Rattle.std.specs.Prelude.{slice_set, slice_range}
 use Rattle.std.proofs.lemmas.List.{drop_more, get_or_default, get_or-drop, get_or-set_same, length-drop, length-map, length-replicate, length-set, map-append, set-append_left, take_all, take_more, take-set-le}
 use Rattle.std.proofs.lemmas.List.Folds.{drop_split}
+use Rattle.std.proofs.Math.Seq.{drop-append_seam}
 use Rattle.rule_runs.specs.declared.alike.AlikeHits.{AlikeHits}
 use Rattle.rule_runs.specs.declared.listing.Hit.{Hit}
 use Rattle.rule_runs.specs.declared.listing.Level.{Level}
@@ -97,16 +98,26 @@ module _ (lists : List (Vec Part Global)) (l : Level) (ls : List Level) (ps : Li
 
   -- the first of which has hits that are alike
   module _ (more : l.next < length ps) (first : AlikeHits) (alike : symbols (part_hits (list_hits lists) (part-at ps l.next)) ≡ alike_symbols first) where
-    pub run-told : (all : AlikeHits) → l.next + 1 ≤ end → alike_symbols first ++ symbols (parts_hits (list_hits lists) (slice_range ps (l.next + 1) end)) ≡ alike_symbols all → symbols (coming lists (l ∷ ls)) ≡ alike_symbols all ++ symbols (coming lists (behind ∷ ls))
-    run-told all le told =
+    run-symbols : (all : AlikeHits) → l.next + 1 ≤ end → alike_symbols first ++ symbols (parts_hits (list_hits lists) (slice_range ps (l.next + 1) end)) ≡ alike_symbols all → symbols (map (raised l.from) (parts_hits (list_hits lists) (slice_range ps l.next end))) ≡ alike_symbols all
+    run-symbols all le told =
         let known = list_hits lists in
         let p : Part = part-at ps l.next in
         let here : List Part = slice_range ps l.next end in
         let later : List Part = slice_range ps (l.next + 1) end in
-        let run : symbols (map (raised l.from) (parts_hits known here)) ≡ alike_symbols all =
         symbols-raised l.from (parts_hits known here) ∙ ap (λ qs. symbols (parts_hits known qs)) (range-first ps l.next end (PartNode 0 0) le more) ∙ symbols-append (part_hits known p) (parts_hits known later)
-        ∙ ap (λ xs. xs ++ symbols (parts_hits known later)) alike ∙ told in
-        ap symbols (told-up_to (omega arith)) ∙ symbols-append (map (raised l.from) (parts_hits known here)) (coming lists (behind ∷ ls)) ∙ ap (λ xs. xs ++ symbols (coming lists (behind ∷ ls))) run
+        ∙ ap (λ xs. xs ++ symbols (parts_hits known later)) alike ∙ told
+
+    pub run-told : (all : AlikeHits) → l.next + 1 ≤ end → alike_symbols first ++ symbols (parts_hits (list_hits lists) (slice_range ps (l.next + 1) end)) ≡ alike_symbols all → symbols (coming lists (l ∷ ls)) ≡ alike_symbols all ++ symbols (coming lists (behind ∷ ls))
+    run-told all le told =
+        let hs : List Hit = map (raised l.from) (parts_hits (list_hits lists) (slice_range ps l.next end)) in
+        ap symbols (told-up_to (omega arith)) ∙ symbols-append hs (coming lists (behind ∷ ls)) ∙ ap (λ xs. xs ++ symbols (coming lists (behind ∷ ls))) (run-symbols all le told)
+
+    -- and what comes behind them is left
+    pub run-rest : (all : AlikeHits) → l.next + 1 ≤ end → alike_symbols first ++ symbols (parts_hits (list_hits lists) (slice_range ps (l.next + 1) end)) ≡ alike_symbols all → coming lists (behind ∷ ls) ≡ drop all.count (coming lists (l ∷ ls))
+    run-rest all le told =
+        let hs : List Hit = map (raised l.from) (parts_hits (list_hits lists) (slice_range ps l.next end)) in
+        let many : length hs ≡ all.count = omega (arith, ap length (run-symbols all le told), length-map hs (λ (h : Hit). h.symbol), length-replicate all.count all.symbol) in
+        sym (drop-append_seam hs (coming lists (behind ∷ ls))) ∙ ap (λ n. drop n (hs ++ coming lists (behind ∷ ls))) many ∙ ap (drop all.count) (sym (told-up_to (omega arith)))
 
     pub first-some : AreEarlier lists → l.list < length lists → 0 < first.count
     first-some earlier there =

@@ -1,5 +1,5 @@
 // Hits in a row that have one symbol, told at once.
-ghost use Rattle.std.specs.Prelude.{◌≡◌, ◌<◌, ◌≤◌, ◌++◌, ℕ, List, [], Some, None, IfOk, IfSome, OnErr, reverse, slice_get, slice_range};
+ghost use Rattle.std.specs.Prelude.{◌≡◌, ◌<◌, ◌≤◌, ◌++◌, ℕ, List, [], Some, None, IfOk, IfSome, OnErr, drop, reverse, slice_get, slice_range};
 ghost use Rattle.rule_runs.specs.Alike.{symbols, alike_symbols, first_symbols, AreAlike};
 ghost use Rattle.rule_runs.specs.declared.listing.Hit.{Hit};
 ghost use Rattle.rule_runs.specs.declared.listing.Part.TheVariants.{List as PartList};
@@ -103,6 +103,7 @@ pub(crate) fn next_alike(
     requires coming { IsComing lists.now (reverse levels.old.items) }
     requires known { AreAlike (list_hits lists.now) known.now }
     ensures next { IfOk result (λ hits. symbols (coming lists.now (reverse levels.old.items)) ≡ first_symbols hits ++ symbols (coming lists.now (reverse levels.new.items))) }
+    ensures rest { IfOk result (λ next. IfSome next (λ hits. coming lists.now (reverse levels.new.items) ≡ drop hits.count (coming lists.now (reverse levels.old.items)))) }
     ensures some { IfOk result (λ next. IfSome next (λ hits. 0 < hits.count)) }
     ensures end { IfOk result (λ hits. hits ≡ None → coming lists.now (reverse levels.old.items) ≡ []) }
     ensures refused { OnErr result (coming lists.now (reverse levels.new.items) ≡ coming lists.now (reverse levels.old.items)) }

@@ -77,10 +77,11 @@ impl<'a> Answers<'a> {
     }
 
     /// The next hits that have one symbol, as many as are seen at once to have it, and none behind the last one: those of nodes and of whole
-    /// rules that stand one behind another in one rule. The first call goes through the lists of the table. It fails where memory is
-    /// refused, and then the same hits are still to come.
+    /// rules that stand one behind another in one rule. The others are still to come. The first call goes through the lists of the table. It
+    /// fails where memory is refused, and then the same hits are still to come.
     pub fn next_alike(&mut self) -> Result<Option<AlikeHits>, AllocError>
         ensures next { IfOk result (λ hits. symbols self.old ≡ first_symbols hits ++ symbols self.new) }
+        ensures rest { IfOk result (λ next. IfSome next (λ hits. self.new ≡ drop hits.count self.old)) }
         ensures some { IfOk result (λ next. IfSome next (λ hits. 0 < hits.count)) }
         ensures end { IfOk result (λ hits. hits ≡ None → self.old ≡ []) }
         ensures refused { OnErr result (self.new ≡ self.old) }

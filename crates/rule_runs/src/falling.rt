@@ -33,10 +33,18 @@ use std::mem::replace;
 use std::sync::ledger::Ledger;
 
 /// What a run downward has found. It is seen as how many nodes are hit and, where they are listed, which, by rising numbers.
-#[derive(Drop)]
 pub struct FallTable {
     pub(crate) lists: HitLists,
     pub(crate) whole: Told,
+}
+
+impl Drop for FallTable {
+    fn drop(self) {
+        let FallTable {
+            lists: _lists,
+            whole: _whole,
+        } = self;
+    }
 }
 
 impl Model for FallTable {

@@ -31,12 +31,21 @@ pub trait Numbered: Eq + Hash + Drop {
 
 /// The places of entries under different keys. The first few under a number are found by it: only keys that come behind them are
 /// hashed. A place may be named though memory was refused for its entry, so the key that stands there is always compared.
-#[derive(Drop)]
 pub(crate) struct Index<K: Numbered> {
     // For each number the places of its first entries.
     first: Vec<Places>,
     // The places of all others, under copies of their keys.
     others: IndexMap<K, usize>,
+}
+
+// Written out, so that whoever drops one calls this, and doesn't drop each list by itself.
+impl<K: Numbered> Drop for Index<K> {
+    fn drop(self) {
+        let Index {
+            first: _first,
+            others: _others,
+        } = self;
+    }
 }
 
 impl<K: Numbered> Index<K> {

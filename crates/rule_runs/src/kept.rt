@@ -23,12 +23,20 @@ use std::sync::ledger::Ledger;
 
 // For each pair of the table of a run upward the notes of its body, the last node first, where they are kept. It is seen as the list
 // of these.
-#[derive(Drop)]
 pub(crate) struct Bodies<S: Drop> {
     // The notes of all bodies in the order in which they were noted, so that a body takes no memory of its own.
     notes: NoteList<S>,
     // Where those of each body stand.
     spans: Vec<Option<Span>>,
+}
+
+impl<S: Drop> Drop for Bodies<S> {
+    fn drop(self) {
+        let Bodies {
+            notes: _notes,
+            spans: _spans,
+        } = self;
+    }
 }
 
 impl<S: Drop> Model for Bodies<S> {

@@ -6,12 +6,21 @@ use std::alloc::{AllocError, Global};
 use std::marker::Model;
 
 // The lists, the last item of each its top. It is seen as the topmost list and those below it, each from its top on.
-#[derive(Drop)]
 pub(crate) struct Layers<T: Drop> {
     items: Vec<T>,
     // Where the topmost list begins, and where each of those below it does.
     floor: usize,
     floors: Vec<usize>,
+}
+
+impl<T: Drop> Drop for Layers<T> {
+    fn drop(self) {
+        let Layers {
+            items: _items,
+            floor: _floor,
+            floors: _floors,
+        } = self;
+    }
 }
 
 impl<T: Drop> Model for Layers<T> {

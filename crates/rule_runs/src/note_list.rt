@@ -20,11 +20,19 @@ pub(crate) enum Brief {
 }
 
 // Notes one behind another. It is seen as the list of them.
-#[derive(Drop)]
 pub(crate) struct NoteList<S: Drop> {
     notes: Vec<Brief>,
     // The states of the two children of symbols.
     states: Vec<(S, S)>,
+}
+
+impl<S: Drop> Drop for NoteList<S> {
+    fn drop(self) {
+        let NoteList {
+            notes: _notes,
+            states: _states,
+        } = self;
+    }
 }
 
 impl<S: Drop> Model for NoteList<S> {

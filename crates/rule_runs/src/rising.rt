@@ -27,12 +27,21 @@ use std::sync::ledger::Ledger;
 
 /// What a run upward has found. It is seen as the states of the pairs that it met, a rule with the states of its arguments, and the
 /// state of the whole. All runs downward over the same states share it.
-#[derive(Drop)]
 pub struct RiseTable<S: RunState> {
     pub(crate) known: Memo<S>,
     pub(crate) top: S,
     // The notes of the pairs' bodies: of each, or of none.
     pub(crate) bodies: Bodies<S>,
+}
+
+impl<S: RunState> Drop for RiseTable<S> {
+    fn drop(self) {
+        let RiseTable {
+            known: _known,
+            top: _top,
+            bodies: _bodies,
+        } = self;
+    }
 }
 
 impl<S: RunState> Model for RiseTable<S> {

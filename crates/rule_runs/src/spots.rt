@@ -51,11 +51,19 @@ pub(crate) struct Passed {
 }
 
 // The outcomes of spots.
-#[derive(Drop)]
 pub(crate) struct Spots<D: RunState> {
     table: Table<Spot<D>, Passed>,
     // What the spots hand to their parameters, in the order in which they were noted, so that none takes memory of its own.
     handed: Vec<Handed<D>>,
+}
+
+impl<D: RunState> Drop for Spots<D> {
+    fn drop(self) {
+        let Spots {
+            table: _table,
+            handed: _handed,
+        } = self;
+    }
 }
 
 impl<D: RunState> Model for Spots<D> {

@@ -7,10 +7,18 @@ use std::alloc::{AllocError, Global};
 use std::marker::Model;
 
 /// Entries under different keys, in the order in which they were noted.
-#[derive(Drop)]
 pub struct Table<K: Numbered, X: Drop> {
     entries: Vec<(K, X)>,
     index: Index<K>,
+}
+
+impl<K: Numbered, X: Drop> Drop for Table<K, X> {
+    fn drop(self) {
+        let Table {
+            entries: _entries,
+            index: _index,
+        } = self;
+    }
 }
 
 impl<K: Numbered, X: Drop> Model for Table<K, X> {

@@ -16,7 +16,7 @@ use Rattle.slt_grammar.specs.declared.rules.Rule.{Rule}
 use Rattle.slt_grammar.specs.Terms.{Term, Leaf, Node, Hole}
 use Rattle.slt_grammar.proofs.Keeping.{shifted-before, shifted-behind}
 use Rattle.slt_grammar.specs.RuleValues.{HasRuleMore, HaveOtherValues}
-use Rattle.segment_counts.specs.Changes.{AreCountsBut, HasMore, IsRowOf, IsWeighed, leaf_weights, lowered, raised, start_weights}
+use Rattle.segment_counts.specs.Changes.{HasMore, IsRowOf, IsWeighed, leaf_weights, lowered, raised, start_weights}
 use Rattle.segment_counts.specs.Counting.{AreCounts, AreCountsBelow, CountTable, no_row, no_weights, told, weight_by}
 use Rattle.segment_counts.specs.Weights.{all_weight, count, node_weight, text_weight, weigh}
 use Rattle.segment_counts.specs.declared.counts.Measure.{Measure}
@@ -26,6 +26,12 @@ use Rattle.slt_grammar.proofs.TourLemmas.{segment-others}
 use Rattle.segment_counts.proofs.Cuts.{padded}
 use Rattle.segment_counts.proofs.Rows.{few-row, length-row}
 use Rattle.segment_counts.proofs.Telling.{closed-value, segment-whole, total-told}
+
+-- these are the counts of the grammar's rules but for one of them
+pub record AreCountsBut (names : List (Kind × List ℕ)) (rule : ℕ) (G : List Rule) (C : CountTable) : Type 0 where
+  pub rules : C.rules ≡ length G
+  pub room : length G ≤ length C.rows
+  pub others : (q : ℕ) → q ≢ rule → q < length G → IsRowOf names (value_at G q) (get_or C.rows q no_row)
 
 nodes-behind : (t : Term) (k : List Label) → sum_by node_weight (listed t k) ≡ sum_by node_weight (listed t []) + sum_by node_weight k
 nodes-behind Leaf k = omega (arith, sum_by-cons node_weight Bottom k)
@@ -200,13 +206,6 @@ module _ (names : List (Kind × List ℕ)) where
         small Nodes = omega (arith, b Nodes)
         small Texts = omega (arith, b Texts)
         small All = omega (arith, b All)
-
-  -- one rule was counted anew
-  pub recounted : (rule : ℕ) (G : List Rule) (C D : CountTable) (R : List Weights) → AreCountsBut names rule G C → rule < length G → D.rows ≡ set C.rows rule R → D.rules ≡ C.rules → length D.rows ≡ length C.rows
-      → ((m : Measure) (i : ℕ) → weight_by m (get_or R i no_weights) ≡ count (weigh names m) G rule i) → sum_by node_weight (preorder G rule) < 2 ^ 63 → AreCounts names G D
-  recounted rule G C D R a h e n l f b =
-      let there : get_or D.rows rule no_row ≡ R = ap (λ (X : List (List Weights)). get_or X rule no_row) e ∙ get_or-set_same C.rows rule R no_row (omega (arith, h, a.room)) in
-      counted-with rule G D (but-set rule G G C D a (same-values rule G) R e n l) (subst (λ (S : List Weights). IsRowOf names (value_at G rule) S) (sym there) (few-row names (value_at G rule) R f b))
 
 -- all rules but the last were counted, and the last one's value is that of the start whose row was there
 module _ (names : List (Kind × List ℕ)) (G H : List Rule) (C : CountTable) (a : AreCounts names G C) (g : IsGrammar G) (same : value H ≡ value G) where

@@ -1,11 +1,9 @@
 -- What rows have to be where a grammar changes.
-use Rattle.std.specs.Prelude.{◌≡◌, ◌≢◌, ℕ, ◌+◌, ◌-◌, ◌*◌, ◌<◌, ◌≤◌, ◌^◌, List, [], length, get_or, sum_by}
+use Rattle.std.specs.Prelude.{◌≡◌, ℕ, ◌+◌, ◌-◌, ◌*◌, ◌<◌, ◌^◌, List, [], get_or, sum_by}
 use Rattle.plain_tree.specs.declared.kind.Kind.{Kind}
 use Rattle.slt_grammar.specs.Bodies.{params}
-use Rattle.slt_grammar.specs.Grammars.{value_at}
 use Rattle.slt_grammar.specs.Segments.{listed, segment}
 use Rattle.slt_grammar.specs.Terms.{Term}
-use Rattle.slt_grammar.specs.declared.rules.Rule.{Rule}
 use Rattle.segment_counts.specs.Counting.{CountTable, no_row, no_weights, weight_by}
 use Rattle.segment_counts.specs.Weights.{weigh}
 use Rattle.segment_counts.specs.declared.counts.Measure.{Measure}
@@ -16,12 +14,6 @@ use Rattle.segment_counts.specs.declared.counts.Weights.{Weights}
 pub record IsRowOf (names : List (Kind × List ℕ)) (value : Term) (row : List Weights) : Type 0 where
   pub each : (m : Measure) (i : ℕ) → weight_by m (get_or row i no_weights) ≡ sum_by (weigh names m) (segment i (listed value []))
   pub small : (m : Measure) → sum_by (weigh names m) (listed value []) < 2 ^ 64
-
--- these are the counts of the grammar's rules but for one of them
-pub record AreCountsBut (names : List (Kind × List ℕ)) (rule : ℕ) (G : List Rule) (C : CountTable) : Type 0 where
-  pub rules : C.rules ≡ length G
-  pub room : length G ≤ length C.rows
-  pub others : (q : ℕ) → q ≢ rule → q < length G → IsRowOf names (value_at G q) (get_or C.rows q no_row)
 
 -- the weights of a rule without parameters that has so many nodes, and so many of them with a text
 abbrev pub leaf_weights : ℕ → ℕ → Weights

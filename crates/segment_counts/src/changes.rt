@@ -5,24 +5,12 @@ ghost use Rattle.plain_tree.specs.declared.kind.Kind.{Kind};
 ghost use Rattle.slt_grammar.specs.Grammars.{value, value_at};
 ghost use Rattle.slt_grammar.specs.declared.rules.Rule.{Rule};
 ghost use Rattle.slt_grammar.specs.RuleValues.{HasRuleMore, HaveOtherValues};
-ghost use Rattle.segment_counts.specs.Changes.{AreCountsBut, HasMore, IsWeighed, leaf_weights, lowered, raised, start_weights};
+ghost use Rattle.segment_counts.specs.Changes.{HasMore, IsWeighed, leaf_weights, lowered, raised, start_weights};
 ghost use Rattle.segment_counts.specs.Counting.{AreCounts, no_row};
 
 use crate::counts::{Counts, Weights};
 
 impl Counts {
-    /// Makes room for the row of a rule that was put in at a place. It takes no memory.
-    pub fn insert_rule(&mut self, place: usize)
-        requires place { place ≤ self.old.rules }
-        requires room { self.old.rules < length self.old.rows }
-        ensures rows { self.new.rows ++ no_row ∷ [] ≡ insert self.old.rows place no_row }
-        ensures room { length self.new.rows ≡ length self.old.rows }
-        ensures rules { self.new.rules ≡ self.old.rules + 1 }
-        ensures counts { (names : List (Kind × List ℕ)) (G H : List Rule) → AreCounts names G self.old → HasRuleMore place G H → AreCountsBut names place H self.new }
-    {
-        self.open_row(place);
-    }
-
     /// Takes out the row of a rule that went. The room stays.
     pub fn remove_rule(&mut self, rule: usize)
         requires { rule < self.old.rules }

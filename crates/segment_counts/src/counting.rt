@@ -4,7 +4,6 @@ ghost use Rattle.slt_grammar.specs.Grammars.{IsGrammar, IsSwept, value};
 ghost use Rattle.slt_grammar.specs.declared.rules.Rule.{Rule};
 ghost use Rattle.slt_grammar.specs.Keyed.{IsKeyed, rules_of};
 ghost use Rattle.slt_grammar.specs.Segments.{listed, preorder};
-ghost use Rattle.segment_counts.specs.Changes.{AreCountsBut};
 ghost use Rattle.segment_counts.specs.Counting.{AreCounts, AreCountsBelow, no_row, no_weights, weight_by};
 ghost use Rattle.segment_counts.specs.Tallies.{row_of};
 ghost use Rattle.segment_counts.specs.Weights.{weigh, count, node_weight};
@@ -71,47 +70,6 @@ impl Counts {
         }
         self.push(&[start]);
     }
-
-    /// Counts the row of one rule from its body, where those of the others are counted. Its value is within the limit of `new`. It takes
-    /// no memory.
-    pub fn count_rule(&mut self, grammar: &Grammar, names: &Names, rule: usize)
-        requires rule { rule < length grammar.now.rules }
-        requires others { AreCountsBut names.now rule (rules_of grammar.now.rules) self.old }
-        requires few { sum_by node_weight (preorder (rules_of grammar.now.rules) rule) < 2 ^ 63 }
-        ensures counts { AreCounts names.now (rules_of grammar.now.rules) self.new }
-        ensures row { self.new.rows ≡ set self.old.rows rule (get_or self.new.rows rule no_row) }
-        ensures room { length self.new.rows ≡ length self.old.rows }
-    {
-        // The call tells what is true of every grammar.
-        let _limit = grammar.limit();
-        recount::<Brand>(grammar, names, self, rule, Blank::new(1));
-    }
-}
-
-// Counts one rule on a counter of its own.
-fn recount<L: Ledger>(
-    grammar: &Grammar,
-    names: &Names,
-    counts: &mut Counts,
-    rule: usize,
-    blank: Blank,
-)
-    requires keyed { IsKeyed grammar.now }
-    requires name { blank.name ≡ L.name }
-    requires parts { blank.parts ≡ L.parts }
-    requires some { 0 < blank.parts }
-    requires rule { rule < length grammar.now.rules }
-    requires others { AreCountsBut names.now rule (rules_of grammar.now.rules) counts.old }
-    requires few { sum_by node_weight (preorder (rules_of grammar.now.rules) rule) < 2 ^ 63 }
-    ensures counts { AreCounts names.now (rules_of grammar.now.rules) counts.new }
-    ensures row { counts.new.rows ≡ set counts.old.rows rule (get_or counts.new.rows rule no_row) }
-    ensures room { length counts.new.rows ≡ length counts.old.rows }
-{
-    let mut steps: Steps<L> = Steps::new(blank);
-    let Some(tallies) = tally_rule(grammar, names, counts, 0, rule, &mut steps) else {
-        unreachable!()
-    };
-    counts.set_row(rule, tallies.row());
 }
 
 // Counts the first so many rules on a counter of its own, and answers false where the value of one has too many nodes.

@@ -53,7 +53,6 @@ pub(crate) const NO_WEIGHTS: Weights = Weights {
 ///
 /// They are seen as a row for each rule for which there is room, beside the number of rules that were counted. That they are those
 /// of a grammar is what `AreCounts` says.
-#[derive(Drop)]
 pub struct Counts {
     // The segments of the rules that were counted, one rule's behind those of the rule before, and where each rule's end.
     segments: Vec<Weights>,
@@ -61,6 +60,16 @@ pub struct Counts {
     // For how many rules there is room, whatever their ranks. What the segments don't take of it is never written, so that the
     // system needn't back it with memory.
     room: usize,
+}
+
+impl Drop for Counts {
+    fn drop(self) {
+        let Counts {
+            segments: _segments,
+            ends: _ends,
+            room: _room,
+        } = self;
+    }
 }
 
 impl Model for Counts {

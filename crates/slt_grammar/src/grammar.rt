@@ -18,7 +18,6 @@ use std::sync::ledger::Ledger;
 ///
 /// It is seen as its rules, whose nodes carry their keys, beside the numbers of nodes and rules for which there is room, and a
 /// number above those of all nodes.
-#[derive(Drop)]
 pub struct Grammar {
     pub(crate) arena: Arena,
     // The root, the rank and the number of calls of each rule, by its place.
@@ -31,6 +30,21 @@ pub struct Grammar {
     // Room for the reading and the copying of a body.
     pub(crate) shapes: Vec<Shape>,
     pub(crate) stack: Vec<Key>,
+}
+
+impl Drop for Grammar {
+    fn drop(self) {
+        let Grammar {
+            arena: _arena,
+            roots: _roots,
+            ranks: _ranks,
+            calls: _calls,
+            order: _order,
+            size: _size,
+            shapes: _shapes,
+            stack: _stack,
+        } = self;
+    }
 }
 
 impl Model for Grammar {

@@ -4,11 +4,19 @@ use segment_counts::Counts;
 use tree_updates::Store;
 
 /// A document that is loaded.
-#[derive(Drop)]
 pub struct Loaded {
     pub store: Store,
     /// How many edits were accepted since the grammar was settled.
     pub edits: u64,
+}
+
+impl Drop for Loaded {
+    fn drop(self) {
+        let Loaded {
+            store: _store,
+            edits: _edits,
+        } = self;
+    }
 }
 
 /// What is told of a grammar beside its rules.

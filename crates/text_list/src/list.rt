@@ -18,12 +18,21 @@ use std::marker::Model;
 /// A list of texts, seen as their list with its `room`: how many more can be put in at one place without memory.
 ///
 /// A text that has gone from the list may stay in memory until `reserve` makes the list anew.
-#[derive(Drop)]
 pub struct TextList {
     kept: Blob,
     // Texts that edits brought since the list was made. Their numbers come behind those of the kept ones.
     loose: Vec<Bytes>,
     places: Places,
+}
+
+impl Drop for TextList {
+    fn drop(self) {
+        let TextList {
+            kept: _kept,
+            loose: _loose,
+            places: _places,
+        } = self;
+    }
 }
 
 // How many texts can have numbers of 32 bits.

@@ -9,7 +9,6 @@ use text_list::TextList;
 
 /// A document, held as a grammar over a table of names beside its texts, with the counts of the grammar's segments, the index of its digrams,
 /// and the marks of its start at which a search for a node may begin.
-#[derive(Drop)]
 pub struct Store {
     pub grammar: Grammar,
     pub names: Names,
@@ -17,6 +16,19 @@ pub struct Store {
     pub counts: Counts,
     pub index: Index,
     pub marks: Marks,
+}
+
+impl Drop for Store {
+    fn drop(self) {
+        let Store {
+            grammar: _grammar,
+            names: _names,
+            texts: _texts,
+            counts: _counts,
+            index: _index,
+            marks: _marks,
+        } = self;
+    }
 }
 
 /// Why an edit is not made. The causes are tried in this order.

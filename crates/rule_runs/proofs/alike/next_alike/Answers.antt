@@ -1,9 +1,9 @@
-use Rattle.std.proofs.Common.{◌∙◌, ◌≡◌, suc, ◌<◌, ◌^◌, ◌∷◌, All, length, sym, ap, arith, reverse, take, subst}
+use Rattle.std.proofs.Common.{◌∙◌, ◌≡◌, suc, ◌<◌, ◌^◌, ◌∷◌, All, length, sym, ap, arith, reverse, drop, take, subst}
 use Rattle.std.specs.Prelude.{slice_set}
 use Rattle.rule_runs.specs.Alike.{symbols}
 use Rattle.rule_runs.specs.Listing.{parts_at, list_hits, coming, AreWithin}
 use Rattle.rule_runs.proofs.Listings.{parts-at, rest, below, told-all, told-list, told-cost, list-fits, list-there}
-use Rattle.rule_runs.proofs.AlikeRuns.{top-read, top-set, top-under, part-at, part-is, behind, run-small, run-told, first-some}
+use Rattle.rule_runs.proofs.AlikeRuns.{top-read, top-set, top-under, part-at, part-is, behind, run-rest, run-small, run-told, first-some}
 use Rattle.rule_runs.proofs.alike.next_alike.Goals as goal
 
 pub levels-preserved-then-level-parts : goal.levels-preserved-then-level-parts
@@ -40,6 +40,28 @@ returns-in-Some-alike_part-clause-next c =
     let q : reverse (slice_set items top (behind lists level ls ps are end)) ≡ behind lists level ls ps are end ∷ ls = top-set items top last (behind lists level ls ps are end) in
     let t = run-told lists level ls ps are end more first alike c.run_of-run.result.hits c.run_of-run.ensures.end (c.run_of-run.ensures.told (list_hits lists) c.requires.known) in
     ap symbols (sym c.levels.invariant.same ∙ ap (coming lists) e) ∙ rw q t
+
+pub returns-in-Some-alike_part-clause-rest : goal.returns-in-Some-alike_part-clause-rest
+returns-in-Some-alike_part-clause-rest c =
+    let lists = c.args.lists.now in
+    let level = c.index-level.result.now in
+    let top = c.in-Some.top in
+    let items = c.levels.levels.items in
+    let ls = reverse (take top items) in
+    let last : length items ≡ suc top = omega (arith, c.len.ensures, c.in-Some.ensures, c.levels.levels.ok) in
+    let e : reverse items ≡ level ∷ ls = top-read items top last level c.index-level.ensures in
+    let w : AreWithin lists (level ∷ ls) = rw e at c.levels.invariant.within in
+    let v = c.index-lists-level.result in
+    let ps = c.as_slice-parts.result.now in
+    let are : parts_at lists level.list ≡ ps = parts-at lists level.list v w.0 c.index-lists-level.is ∙ sym c.as_slice-parts.ensures.value in
+    let more : level.next < length ps = omega (arith, c.if-level-parts.false, c.as_slice-parts.ensures.len) in
+    let first = c.in-Some-alike_part.first in
+    let alike = c.in-Some-alike_part.ensures.alike (list_hits lists) c.requires.known in
+    let end = c.run_of-run.result.end in
+    let hits = c.run_of-run.result.hits in
+    let q : reverse (slice_set items top (behind lists level ls ps are end)) ≡ behind lists level ls ps are end ∷ ls = top-set items top last (behind lists level ls ps are end) in
+    let t = run-rest lists level ls ps are end more first alike hits c.run_of-run.ensures.end (c.run_of-run.ensures.told (list_hits lists) c.requires.known) in
+    ap (coming lists) q ∙ t ∙ ap (λ hs. drop hits.count hs) (ap (coming lists) (sym e) ∙ c.levels.invariant.same)
 
 pub returns-in-Some-alike_part-clause-some : goal.returns-in-Some-alike_part-clause-some
 returns-in-Some-alike_part-clause-some c =

@@ -1,10 +1,11 @@
 -- Edits of all nodes that a query selects, and what they make of what is held.
-use Rattle.std.specs.Prelude.{◌≡◌, ◌≤◌, ℕ, List, [], take, Some}
+use Rattle.std.specs.Prelude.{◌≡◌, ◌≤◌, ℕ, max, List, [], take, Some}
 use Rattle.tree_outside.specs.Outside.{Stays}
 use Rattle.plain_tree.specs.Lawful.{IsName}
 use Rattle.plain_tree.specs.NodePairs.{Pair}
 use Rattle.plain_tree.specs.Tree.{Tree, node_count}
 use Rattle.slt_grammar.specs.Grammars.{size}
+use Rattle.slt_grammar.specs.Ranks.{greatest_rank}
 use Rattle.slt_grammar.specs.declared.rules.Rule.{Rule}
 use Rattle.fcns_encoding.specs.Interning.{Interns}
 use Rattle.selecting_automaton.specs.Words.{Selection, word_algebra, word_downward}
@@ -80,7 +81,8 @@ pub record WantsBulkEdit (act : Act) (w : World) : Type 0 where
   pub plain : SpellsPlain query
 
 -- The document that is held becomes the one with the edit of all these nodes. The names grow by those that the edit brings. The rules are no
--- larger than those that the edit makes, and are these where settling isn't due.
+-- larger than those that the edit makes, and are these where settling isn't due; none has a rank that is greater than the settings' and than
+-- all there were.
 pub record EditsAll (settings : Settings) (act : Act) (old : World) (out : List ℕ) (new : World) : Type 0 where
   pub wants : WantsBulkEdit act old
   pub allowed : MayEditAll wants.edit wants.numbers wants.tree
@@ -92,6 +94,7 @@ pub record EditsAll (settings : Settings) (act : Act) (old : World) (out : List 
   pub few : AreMadeFor wants.edit wants.query wants.held.parts.names wants.held.parts.rules made
   pub size : size held.parts.rules ≤ size made
   pub kept : (IsDue settings (one_more wants.held.edits) → ⊥) → held.parts.rules ≡ made
+  pub ranks : greatest_rank held.parts.rules ≤ max settings.rank (greatest_rank wants.held.parts.rules)
   pub answer : Answer
   pub settled : IsSettledWhereDue settings (one_more wants.held.edits) held (node_count (edited_all wants.edit wants.numbers wants.tree)) answer
   pub files : Stays old.files new.files

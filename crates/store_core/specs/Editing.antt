@@ -1,5 +1,5 @@
 -- Edits that commands ask for, and what they make of what is held.
-use Rattle.std.specs.Prelude.{◌≡◌, ◌≤◌, ◌<◌, ◌⊎◌, ◌+◌, ◌*◌, ◌-◌, ◌^◌, ℕ, min, List, take, Some}
+use Rattle.std.specs.Prelude.{◌≡◌, ◌≤◌, ◌<◌, ◌⊎◌, ◌+◌, ◌*◌, ◌-◌, ◌^◌, ℕ, max, min, List, take, Some}
 use Rattle.tree_outside.specs.Outside.{Stays}
 use Rattle.plain_tree.specs.Additions.{added, new_pairs}
 use Rattle.plain_tree.specs.Allowed.{IsAllowed}
@@ -13,6 +13,8 @@ use Rattle.plain_tree.specs.declared.edit.Edit.TheVariants as edit
 use Rattle.xml_nodes.specs.Spelling.{SpellsList, SpellsValue}
 use Rattle.slt_grammar.specs.Digrams.{IsSettled}
 use Rattle.slt_grammar.specs.Grammars.{size}
+use Rattle.slt_grammar.specs.Ranks.{greatest_rank}
+use Rattle.slt_grammar.specs.declared.rules.Rule.{Rule}
 use Rattle.fcns_encoding.specs.Interning.{Interns}
 use Rattle.store_core.specs.Acts.{Act, Rename, Insert, Append, Delete, Value, Attr, Copy, name_given, fragment_given, value_given}
 use Rattle.store_core.specs.Texts.{answer_line}
@@ -80,8 +82,9 @@ IsSettledWhereDue settings edits held nodes answer =
     ⊎ ((IsDue settings edits × IsSettled held.parts.rules settings.rank × (held.edits ≡ 0) × (answer ≡ ok.Nodes nodes))
     ⊎ (IsDue settings edits × (held.edits ≡ edits) × (answer ≡ ok.Unsettled nodes)))
 
--- The document that is held becomes the edited one. The names grow by those that the edit brings, the grammar to no more than twice what it was,
--- once more for each text that was merged, and what the edit adds.
+-- The document that is held becomes the edited one. The names grow by those that the edit brings. The edit makes a grammar of no more than
+-- twice the size there was, once more for each text that was merged, and what the edit adds; the rules are no larger than these, are these
+-- where settling isn't due, and none has a rank that is greater than the settings' and than all there were.
 pub record Edits (settings : Settings) (act : Act) (old : World) (out : List ℕ) (new : World) : Type 0 where
   pub wants : WantsEdit act old
   pub allowed : IsAllowed wants.tree wants.edit
@@ -89,15 +92,20 @@ pub record Edits (settings : Settings) (act : Act) (old : World) (out : List ℕ
   pub state : new.state ≡ Some held
   pub stand : PartsStandFor held.parts (edited wants.tree wants.edit)
   pub names : Interns wants.held.parts.names (new_pairs wants.tree wants.edit) held.parts.names
-  pub size : size held.parts.rules ≤ (2 + merged wants.tree wants.edit) * size wants.held.parts.rules + added wants.edit
+  pub made : List Rule
+  pub few : size made ≤ (2 + merged wants.tree wants.edit) * size wants.held.parts.rules + added wants.edit
+  pub size : size held.parts.rules ≤ size made
+  pub kept : (IsDue settings (one_more wants.held.edits) → ⊥) → held.parts.rules ≡ made
+  pub ranks : greatest_rank held.parts.rules ≤ max settings.rank (greatest_rank wants.held.parts.rules)
   pub answer : Answer
   pub settled : IsSettledWhereDue settings (one_more wants.held.edits) held (node_count (edited wants.tree wants.edit)) answer
   pub files : Stays old.files new.files
   pub printed : out ≡ answer_line answer
 
--- all is as before, but some first names that the edit brings have come
+-- all is as before, but some first names that the edit brings have come, and it may be made
 pub record KeepsNames (act : Act) (old new : World) : Type 0 where
   pub wants : WantsEdit act old
+  pub allowed : IsAllowed wants.tree wants.edit
   pub names : List Pair
   pub grown : (k : ℕ) × Interns wants.held.parts.names (take k (new_pairs wants.tree wants.edit)) names
   pub state : new.state ≡ Some (record wants.held { parts = with_names wants.held.parts names })

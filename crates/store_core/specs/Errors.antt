@@ -119,7 +119,7 @@ AsksBelow act count = (number : ℕ) × (node_asked act ≡ Some number) × (num
 abbrev pub GivesNoEdit : Refusal → Act → Type 0
 GivesNoEdit no.BadName act = GivesNoName act
 GivesNoEdit no.BadFragment act = GivesNoFragment act
-GivesNoEdit no.BadValue act = GivesNoValue act
+GivesNoEdit no.BadValue act = (GivesNoName act → ⊥) × GivesNoValue act
 GivesNoEdit no.Memory act = Unit {0}
 GivesNoEdit _ act = ⊥
 

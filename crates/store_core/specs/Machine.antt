@@ -162,8 +162,9 @@ pub record Repairs (rank : ℕ) (old : World) (out : List ℕ) (new : World) : T
   pub files : Stays old.files new.files
   pub printed : out ≡ answer_line (ok.Repaired (length rules) (size rules))
 
--- The rules become ones that are settled for a rank, stand for the same document and have no more nodes; the greatest weight that a
--- digram of at most that rank had is told. No edit was made since then. Nothing else changes.
+-- The rules become ones that are settled for a rank, stand for the same document and have no more nodes; none has a rank that is greater
+-- than that one and than all there were. The greatest weight that a digram of at most that rank had is told. No edit was made since then.
+-- Nothing else changes.
 pub record RepairsWide (rank : ℕ) (old : World) (out : List ℕ) (new : World) : Type 0 where
   pub parts : Parts
   pub tree : Tree
@@ -174,6 +175,7 @@ pub record RepairsWide (rank : ℕ) (old : World) (out : List ℕ) (new : World)
   pub state : new.state ≡ Some (unedited (with_rules parts rules))
   pub still : PartsStandFor (with_rules parts rules) tree
   pub settled : IsSettled rules rank
+  pub ranks : greatest_rank rules ≤ max rank (greatest_rank parts.rules)
   pub smaller : size rules ≤ size parts.rules
   pub heaviest : IsGreatestWeight rank parts.rules weight
   pub files : Stays old.files new.files

@@ -11,7 +11,7 @@ use Rattle.xpath_parser.specs.Meant.{meant_paths}
 use Rattle.xpath_parser.specs.Spelled.{Spells}
 use Rattle.xpath_parser.specs.Trees.{Paths}
 use Rattle.store_core.specs.Acts.{Act, query_listed}
-use Rattle.store_core.specs.Selecting.{SpellsNoQuery}
+use Rattle.store_core.specs.Selecting.{SpellsLarge, SpellsNoQuery}
 use Rattle.store_core.specs.Worlds.{Parts, State, parts_in}
 
 -- Two for each node of a rule's body, for each list of states of its arguments: once upward, and downward for each state there. Of
@@ -25,10 +25,11 @@ abbrev pub marked_reads : Parts → List (List ℕ) → ℕ
 marked_reads parts [] = 0
 marked_reads parts (v ∷ vs) = 4 * marked_nodes parts.names (map (mark_of (v ∷ vs)) parts.texts) parts.rules
 
--- the query was answered of what is held with so few reads, and bytes that are no query were refused without any
+-- the query was answered of what is held with so few reads, and bytes that are no query, or one above the limits, were refused without any
 pub record ReadsFew (query : List ℕ) (parts : Parts) (before now : ℕ) : Type 0 where
   pub few : (paths : Paths) → Spells query paths → now ≤ before + (most_reads parts.rules (inside paths) (outside paths) + marked_reads parts (literals_of (meant_paths query paths)))
   pub none : SpellsNoQuery query → now ≡ before
+  pub large : SpellsLarge query → now ≡ before
 
 -- a command that lists or counts the nodes of a query takes so few reads
 abbrev pub AsksFew : Act → State → ℕ → ℕ → Type 0

@@ -65,7 +65,7 @@ Cause no.ValueQuery act old new = (query : List ℕ) × (query_edited act ≡ So
 Cause no.NoNode act old new = (number : ℕ) × (node_asked act ≡ Some number) × LacksNode old number
 Cause no.BadName act old new = (FindsNode act old ⊎ FindsQuery act old) × GivesNoName act
 Cause no.BadFragment act old new = FindsNode act old × GivesNoFragment act
-Cause no.BadValue act old new = FindsNode act old × GivesNoValue act
+Cause no.BadValue act old new = FindsNode act old × (GivesNoName act → ⊥) × GivesNoValue act
 Cause no.NotAllowed act old new = ((wants : WantsEdit act old) × (IsAllowed wants.tree wants.edit → ⊥)) ⊎ AsksForbidden act old
 Cause no.TooMany act old new =
     ((bytes : List ℕ) × IsShortInput (grammar_read act) old bytes × IsFileOfMany bytes)

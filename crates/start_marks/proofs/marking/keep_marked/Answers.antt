@@ -7,9 +7,9 @@ use Rattle.preorder_address.specs.declared.marks.Mark.{Mark}
 use Rattle.start_marks.proofs.Keeping.{marks-kept}
 use Rattle.start_marks.proofs.marking.keep_marked.Goals as goal
 
-pub returns : goal.returns
-returns c = λ names G H before are keeps.
-    let J = c.args.index.now in
-    let test : Mark → Bool = λ mark. is_marked J mark.key.number in
-    let kept : c.retain.new.self ≡ filter test c.args.marks.now = filter_same _ test _ (λ x b f' k. search rules) _ _ c.retain.ensures in
-    subst (AreMarks names H) (sym kept) (marks-kept names G H before J c.args.marks.now are keeps)
+pub returns-clause-kept : goal.returns-clause-kept
+returns-clause-kept c = filter_same _ (λ (mark : Mark). is_marked c.args.index.now mark.key.number) _ (λ x b f' k. search rules) _ _ c.retain.ensures
+
+pub returns-clause-stay : goal.returns-clause-stay
+returns-clause-stay c = λ names G H before are keeps.
+    subst (AreMarks names H) (sym (returns-clause-kept c)) (marks-kept names G H before c.args.index.now c.args.marks.now are keeps)

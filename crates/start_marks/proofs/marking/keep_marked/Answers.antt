@@ -1,5 +1,4 @@
-use Rattle.std.proofs.Common.{rules, ◌≡◌, Bool, sym, subst}
-use Rattle.std.specs.List.{filter}
+use Rattle.std.proofs.Common.{rules, sym, subst}
 use Rattle.std.proofs.lemmas.Fn.{filter_same}
 use Rattle.digram_index.specs.Linked.{is_marked}
 use Rattle.preorder_address.specs.Marks.{AreMarks}

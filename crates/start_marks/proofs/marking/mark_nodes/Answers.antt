@@ -25,5 +25,5 @@ loop-mark-preserved c =
     }
   where
     of : (k : ℕ) → IsTrue (is_marked c.mark.new.self k) → Contains c.args.marks.now c.mark-item.result → (k ≡ c.key.result.number) ⊎ (k ≡ c.key.result.number → ⊥) → (mark : Mark) × Contains c.args.marks.now mark × (mark.key.number ≡ k)
-    of k m is (inl x) = (c.mark-item.result, (is, ap (λ (key : Key). key.number) (sym c.key.ensures) ∙ sym x))
+    of k m is (inl x) = (c.mark-item.result, is, ap (λ (key : Key). key.number) (sym c.key.ensures) ∙ sym x)
     of k m is (inr x) = c.loop-mark.invariant.only k (sym (c.mark.ensures.others k x) ∙ m)

@@ -1,40 +1,30 @@
-"""Models as lines of a schema, in a DTD and in RelaxNG, and libxml2's validation of a tree that is there, by ctypes."""
+"""Models as lines of a schema, in a DTD and in RelaxNG, and libxml2's validation of a tree that is there."""
 import collections
-import ctypes
-import xml.parsers.expat
 from xml.sax.saxutils import quoteattr
 
-import libxml2_paths as libxml2
+from documents import walk
+from libxml2 import LIBRARY, POINTER, TEXT, WHOLE, declare
 
-LIBRARY = libxml2.LIBRARY
 RELAXNG = "http://relaxng.org/ns/structure/1.0"
 AROUND = {"": "{}", "?": "<optional>{}</optional>", "*": "<zeroOrMore>{}</zeroOrMore>", "+": "<oneOrMore>{}</oneOrMore>"}
 # It leaves the names of attributes open.
 ATTRIBUTES = "<zeroOrMore><attribute><anyName/></attribute></zeroOrMore>"
 
 
-def declare_calls():
-    """The types of libxml2's calls that are made here."""
-    pointer, text, whole = ctypes.c_void_p, ctypes.c_char_p, ctypes.c_int
-    for name, answer, words in [
-        ("xmlParseDTD", pointer, [text, text]),
-        ("xmlFreeDtd", None, [pointer]),
-        ("xmlNewValidCtxt", pointer, []),
-        ("xmlFreeValidCtxt", None, [pointer]),
-        ("xmlValidateDtd", whole, [pointer, pointer, pointer]),
-        ("xmlRelaxNGNewParserCtxt", pointer, [text]),
-        ("xmlRelaxNGFreeParserCtxt", None, [pointer]),
-        ("xmlRelaxNGParse", pointer, [pointer]),
-        ("xmlRelaxNGFree", None, [pointer]),
-        ("xmlRelaxNGNewValidCtxt", pointer, [pointer]),
-        ("xmlRelaxNGFreeValidCtxt", None, [pointer]),
-        ("xmlRelaxNGValidateDoc", whole, [pointer, pointer]),
-    ]:
-        call = getattr(LIBRARY, name)
-        call.restype, call.argtypes = answer, words
-
-
-declare_calls()
+declare([
+    ("xmlParseDTD", POINTER, TEXT, TEXT),
+    ("xmlFreeDtd", None, POINTER),
+    ("xmlNewValidCtxt", POINTER),
+    ("xmlFreeValidCtxt", None, POINTER),
+    ("xmlValidateDtd", WHOLE, POINTER, POINTER, POINTER),
+    ("xmlRelaxNGNewParserCtxt", POINTER, TEXT),
+    ("xmlRelaxNGFreeParserCtxt", None, POINTER),
+    ("xmlRelaxNGParse", POINTER, POINTER),
+    ("xmlRelaxNGFree", None, POINTER),
+    ("xmlRelaxNGNewValidCtxt", POINTER, POINTER),
+    ("xmlRelaxNGFreeValidCtxt", None, POINTER),
+    ("xmlRelaxNGValidateDoc", WHOLE, POINTER, POINTER),
+])  # fmt: skip
 
 
 class Sequence:
@@ -90,13 +80,7 @@ class Shape:
             if not data.isspace():
                 self.texts.add(open_names[-1])
 
-        parser = xml.parsers.expat.ParserCreate()
-        parser.buffer_text = True
-        parser.StartElementHandler = start
-        parser.EndElementHandler = lambda _name: open_names.pop()
-        parser.CharacterDataHandler = text
-        with open(path, "rb") as given:
-            parser.ParseFile(given)
+        walk(path, start, text, lambda _name: open_names.pop())
 
     def common(self, count):
         """The names with children that most elements have."""

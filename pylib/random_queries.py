@@ -1,4 +1,4 @@
-"""Random documents and queries of the profile; tools/compare_queries and tools/compare_bulk_edits share them."""
+"""Random documents and queries of the profile."""
 ELEMENTS = ["a", "a", "b", "b", "c", "d", "e-f", "g.h", "t\u00e9", "or", "and", "not", "text", "node", "div", "child", "true"]
 ATTRIBUTES = ["a", "b", "x", "y", "or", "xml:lang"]
 TARGETS = ["go", "a", "or"]

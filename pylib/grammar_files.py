@@ -1,4 +1,4 @@
-"""Grammar files, put together of pieces, each with how often it stands there; the scripts of this folder share it."""
+"""Grammar files, put together of pieces, each with how often it stands there."""
 import itertools
 
 MAGIC, BOTTOM, PARAMETER = b"TGF1", b"\x00", b"\x01"
@@ -63,10 +63,14 @@ def joined(*parts):
     return itertools.chain(*(((1, part),) if isinstance(part, bytes) else part for part in parts))
 
 
+def chunks(pieces):
+    """The bytes of the pieces, never many at once: a program's peak of memory is at least what its caller had."""
+    for times, piece in pieces:
+        most = max(1, 65_536 // len(piece))
+        for start in range(0, times, most):
+            yield piece * min(most, times - start)
+
+
 def write(path, pieces):
-    """Writes the pieces, never many at once: a program's peak of memory is at least what its caller had."""
     with open(path, "wb") as out:
-        for times, piece in pieces:
-            most = max(1, 65_536 // len(piece))
-            for start in range(0, times, most):
-                out.write(piece * min(most, times - start))
+        out.writelines(chunks(pieces))

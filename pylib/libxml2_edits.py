@@ -1,45 +1,37 @@
-"""The same edits of libxml2's tree, by ctypes."""
+"""The same edits of libxml2's tree."""
 import ctypes
 import os
 import sys
-import time
 
-import libxml2_paths as libxml2
+from libxml2 import LIBRARY, LONG, OPTIONS, POINTER, TEXT, WHOLE, declare
+from libxml2_paths import KINDS, Node
+from measuring import timed
 from plain_tree import check_nodes, described, is_declaration, ordered, read
 
-LIBRARY = libxml2.LIBRARY
 AS_XML = 1 << 3 | 1 << 5  # XML_SAVE_NO_XHTML, XML_SAVE_AS_XML
 
 
-def declare_calls():
-    """The types of libxml2's calls that are made here."""
-    pointer, text, whole = ctypes.c_void_p, ctypes.c_char_p, ctypes.c_int
-    for name, answer, words in [
-        ("xmlNodeSetName", None, [pointer, text]),
-        ("xmlNodeSetContent", None, [pointer, text]),
-        ("xmlUnlinkNode", None, [pointer]),
-        ("xmlFreeNode", None, [pointer]),
-        ("xmlTextMerge", pointer, [pointer, pointer]),
-        ("xmlParseInNodeContext", whole, [pointer, text, whole, whole, pointer]),
-        ("xmlAddPrevSibling", pointer, [pointer, pointer]),
-        ("xmlAddChild", pointer, [pointer, pointer]),
-        ("xmlSetProp", pointer, [pointer, text, text]),
-        ("xmlDocCopyNode", pointer, [pointer, pointer, whole]),
-        ("xmlDOMWrapCloneNode", whole, [pointer, pointer, pointer, pointer, pointer, pointer, whole, whole]),
-        ("xmlSaveToFilename", pointer, [text, text, whole]),
-        ("xmlSaveDoc", ctypes.c_long, [pointer, pointer]),
-        ("xmlSaveClose", whole, [pointer]),
-    ]:
-        call = getattr(LIBRARY, name)
-        call.restype, call.argtypes = answer, words
-
-
-declare_calls()
+declare([
+    ("xmlNodeSetName", None, POINTER, TEXT),
+    ("xmlNodeSetContent", None, POINTER, TEXT),
+    ("xmlUnlinkNode", None, POINTER),
+    ("xmlFreeNode", None, POINTER),
+    ("xmlTextMerge", POINTER, POINTER, POINTER),
+    ("xmlParseInNodeContext", WHOLE, POINTER, TEXT, WHOLE, WHOLE, POINTER),
+    ("xmlAddPrevSibling", POINTER, POINTER, POINTER),
+    ("xmlAddChild", POINTER, POINTER, POINTER),
+    ("xmlSetProp", POINTER, POINTER, TEXT, TEXT),
+    ("xmlDocCopyNode", POINTER, POINTER, POINTER, WHOLE),
+    ("xmlDOMWrapCloneNode", WHOLE, POINTER, POINTER, POINTER, POINTER, POINTER, POINTER, WHOLE, WHOLE),
+    ("xmlSaveToFilename", POINTER, TEXT, TEXT, WHOLE),
+    ("xmlSaveDoc", LONG, POINTER, POINTER),
+    ("xmlSaveClose", WHOLE, POINTER),
+])  # fmt: skip
 
 
 def peers(address, is_alone=False):
     """libxml2's nodes from one on in document order, each with its kind; a DOCTYPE is no node, nor is the text of an empty CDATA section."""
-    waiting = [ctypes.cast(address, ctypes.POINTER(libxml2.Node))]
+    waiting = [ctypes.cast(address, ctypes.POINTER(Node))]
     while waiting:
         pointer = waiting.pop()
         if not pointer:
@@ -48,7 +40,7 @@ def peers(address, is_alone=False):
         if not is_alone:
             waiting.append(node.next)
         is_alone = False
-        kind = libxml2.KINDS.get(node.type)
+        kind = KINDS.get(node.type)
         if kind is None or kind == "text" and ctypes.string_at(node.content, 1) == b"\0":
             continue
         yield ctypes.addressof(node), kind
@@ -62,7 +54,7 @@ def siblings(address):
     """The node and those behind it."""
     while address:
         yield address
-        following = libxml2.Node.from_address(address).next
+        following = Node.from_address(address).next
         address = ctypes.addressof(following.contents) if following else None
 
 
@@ -77,14 +69,8 @@ def give_peers(name, nodes, theirs):
 
 def local_part(address, name):
     """The part of a name that a node of libxml2 keeps: without the prefix of its namespace."""
-    namespace = libxml2.Node.from_address(address).namespace
+    namespace = Node.from_address(address).namespace
     return name[name.find(":") + 1 :] if namespace and namespace.contents.prefix else name
-
-
-def timed(call, *words):
-    start = time.thread_time()
-    answer = call(*words)
-    return answer, time.thread_time() - start
 
 
 class Edited:
@@ -92,7 +78,7 @@ class Edited:
 
     def __init__(self, name, path, nodes):
         self.name = name
-        self.document, self.seconds = timed(LIBRARY.xmlReadFile, path.encode(), None, libxml2.OPTIONS)
+        self.document, self.seconds = timed(LIBRARY.xmlReadFile, path.encode(), None, OPTIONS)
         if not self.document:
             sys.exit(f"{name}: libxml2 reads no document")
         give_peers(name, nodes, peers(self.document))
@@ -129,7 +115,7 @@ class Edited:
                 added[0] = LIBRARY.xmlTextMerge(left, added[0])
             return added
 
-        above = libxml2.Node.from_address(node.peer).parent
+        above = Node.from_address(node.peer).parent
         return self.come(written, ctypes.addressof(above.contents), add, came)
 
     def append(self, node, written, came):
@@ -141,7 +127,7 @@ class Edited:
 
         def calls():
             first = ctypes.c_void_p()
-            if LIBRARY.xmlParseInNodeContext(above, data, len(data), libxml2.OPTIONS, ctypes.byref(first)) != 0:
+            if LIBRARY.xmlParseInNodeContext(above, data, len(data), OPTIONS, ctypes.byref(first)) != 0:
                 sys.exit(f"{self.name}: libxml2 reads no fragment in {written!r}")
             return add(list(siblings(first.value)))
 
@@ -154,7 +140,7 @@ class Edited:
         return seconds
 
     def copy(self, node, twins):
-        above = ctypes.addressof(libxml2.Node.from_address(node.peer).parent.contents)
+        above = ctypes.addressof(Node.from_address(node.peer).parent.contents)
 
         def calls():
             if node.kind != "element":

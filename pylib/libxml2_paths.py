@@ -1,8 +1,8 @@
-"""libxml2's documents and XPath, by its C interface; tools/compare_queries and bench/queries share it."""
+"""libxml2's documents and XPath."""
 import ctypes
 
-NOERROR, NOWARNING, NONET, NOCDATA, HUGE = 1 << 5, 1 << 6, 1 << 11, 1 << 14, 1 << 19
-OPTIONS = NOERROR | NOWARNING | NONET | NOCDATA | HUGE
+from libxml2 import LIBRARY, LONG, OPTIONS, POINTER, TEXT, declare
+
 KINDS = {1: "element", 2: "attribute", 3: "text", 7: "instruction", 8: "comment", 9: "document"}
 NAMED = ("element", "attribute", "instruction")
 NODES, NUMBER = 1, 3  # types of what a query gives
@@ -48,31 +48,15 @@ class Context(ctypes.Structure):
     _fields_ = [("document", ctypes.c_void_p), ("node", ctypes.c_void_p)]
 
 
-def declared(library):
-    """The library, with the types of the calls that are made here."""
-    pointer, text, whole = ctypes.c_void_p, ctypes.c_char_p, ctypes.c_int
-    for name, answer, words in [
-        ("xmlReadMemory", pointer, [text, whole, text, text, whole]),
-        ("xmlReadFile", pointer, [text, text, whole]),
-        ("xmlFreeDoc", None, [pointer]),
-        ("xmlXPathOrderDocElems", ctypes.c_long, [pointer]),
-        ("xmlXPathNewContext", ctypes.POINTER(Context), [pointer]),
-        ("xmlXPathFreeContext", None, [ctypes.POINTER(Context)]),
-        ("xmlXPathCompile", pointer, [text]),
-        ("xmlXPathFreeCompExpr", None, [pointer]),
-        ("xmlXPathCompiledEval", ctypes.POINTER(Given), [pointer, ctypes.POINTER(Context)]),
-        ("xmlXPathFreeObject", None, [ctypes.POINTER(Given)]),
-    ]:
-        call = getattr(library, name)
-        call.restype, call.argtypes = answer, words
-    return library
-
-
-LIBRARY = declared(ctypes.CDLL("libxml2.so.2"))
-# That something is refused is told by the answer, and need not be printed.
-SILENCE = ctypes.CFUNCTYPE(None, ctypes.c_void_p, ctypes.c_void_p)(lambda _context, _error: None)
-LIBRARY.xmlSetStructuredErrorFunc(None, SILENCE)
-LIBRARY.xmlSetGenericErrorFunc(None, SILENCE)
+declare([
+    ("xmlXPathOrderDocElems", LONG, POINTER),
+    ("xmlXPathNewContext", ctypes.POINTER(Context), POINTER),
+    ("xmlXPathFreeContext", None, ctypes.POINTER(Context)),
+    ("xmlXPathCompile", POINTER, TEXT),
+    ("xmlXPathFreeCompExpr", None, POINTER),
+    ("xmlXPathCompiledEval", ctypes.POINTER(Given), POINTER, ctypes.POINTER(Context)),
+    ("xmlXPathFreeObject", None, ctypes.POINTER(Given)),
+])  # fmt: skip
 
 
 def described(node):

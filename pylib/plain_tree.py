@@ -1,4 +1,4 @@
-"""Documents as plain trees that are edited; bench/edits_script and its helpers share it."""
+"""Documents as plain trees that are edited."""
 import itertools
 import sys
 import xml.parsers.expat

@@ -49,7 +49,7 @@ joined-args (x ∷ xs) ys =
     joined-append x.args (all_args (xs ++ ys)) ∙ ap (λ z. joined x.args ++ z) (joined-args xs ys) ∙ sym (append_assoc (joined x.args) (joined (all_args xs)) (joined (all_args ys)))
     ∙ ap (λ z. z ++ joined (all_args ys)) (sym (joined-append x.args (all_args xs)))
 
-parts-append : (xs ys : List Piece) → parts_of (xs ++ ys) ≡ parts_of xs ++ parts_of ys
+pub parts-append : (xs ys : List Piece) → parts_of (xs ++ ys) ≡ parts_of xs ++ parts_of ys
 parts-append [] ys = refl
 parts-append (x ∷ xs) ys = ap (λ z. x.part ++ z) (parts-append xs ys) ∙ sym (append_assoc x.part (parts_of xs) (parts_of ys))
 

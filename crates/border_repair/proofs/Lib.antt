@@ -38,3 +38,4 @@ pub mod Marks
 pub mod FoldedRims
 pub mod RimTables
 pub mod NoneLeft
+pub mod PartRanks

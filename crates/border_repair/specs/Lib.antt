@@ -13,3 +13,4 @@ pub mod Sizes
 pub mod Edges
 pub mod ValueBut
 pub mod Cuts
+pub mod PartRanks

@@ -1,15 +1,17 @@
 // Bodies that are cut into parts, which become rules, and the nodes outside of them.
-ghost use Rattle.std.specs.Prelude.{◌≡◌, ◌≢◌, ◌⊎◌, ◌+◌, ◌-◌, ◌<◌, ◌≤◌, ◌++◌, ◌∷◌, [], ℕ, List, length, suc, true, false, reverse, drop, slice_get, OnOk, IfOk, IsTrue, IsFalse};
+ghost use Rattle.std.specs.Prelude.{◌≡◌, ◌≢◌, ◌⊎◌, ◌+◌, ◌-◌, ◌<◌, ◌≤◌, ◌++◌, ◌∷◌, [], ℕ, List, length, max, suc, true, false, reverse, drop, slice_get, OnOk, IfOk, IsTrue, IsFalse};
 ghost use Rattle.rule_arena.specs.Preorder.{AreTerms};
 ghost use Rattle.rule_arena.specs.declared.label.Label.{Label};
 ghost use Rattle.rule_arena.specs.declared.label.Label.TheVariants.{Param};
 ghost use Rattle.slt_grammar.specs.Algebras.{ranks_of};
 ghost use Rattle.slt_grammar.specs.Bodies.{arity, params, CallsBelow, IsTerm};
 ghost use Rattle.slt_grammar.specs.Grammars.{body_at};
+ghost use Rattle.slt_grammar.specs.Ranks.{greatest_rank};
 ghost use Rattle.slt_grammar.specs.declared.rules.Rule.{Rule};
 ghost use Rattle.border_repair.specs.Digrams.{IsEnd};
 ghost use Rattle.border_repair.specs.declared.cutting.Mark.{Mark};
 ghost use Rattle.border_repair.specs.Cutting.{AreClosed, CanClose, CanCloseKids, CanRead, HasParameterAt, Holds, HoldsKids, IsClosed, IsCutOff, IsRead, IsReadOn};
+ghost use Rattle.border_repair.specs.PartRanks.{AreRanked, IsReadRanked};
 ghost use Rattle.border_repair.specs.Sizes.{AreOff, IsCutSmall, IsReadSmall, free};
 ghost use Rattle.border_repair.specs.Splitting.{grown};
 
@@ -63,6 +65,7 @@ impl Cutter {
         requires place { digram.place ≤ arity [] digram.upper }
         ensures cut { IfOk result (IsCutOff digram rules.old rules.new body.now) }
         ensures small { IfOk result (IsCutSmall rules.old rules.new body.now) }
+        ensures ranks { OnOk result (greatest_rank rules.new ≤ max (max 1 (params body.now)) (greatest_rank rules.old)) }
     {
         self.marks.clear();
         self.parts.clear();
@@ -97,6 +100,7 @@ fn read(
     ensures read { OnOk result ((w : CanRead digram rules.old (reverse cutter.old.marks.items) (reverse cutter.old.parts.items) (reverse cutter.old.args.items) label)
         → IsReadOn digram root rules.old rules.new (reverse cutter.new.marks.items) (reverse cutter.new.parts.items) (reverse cutter.new.args.items) (label ∷ w.labels)) }
     ensures small { OnOk result (IsReadSmall root label rules.old rules.new cutter.old.marks.items cutter.new.marks.items cutter.old.parts.items cutter.new.parts.items cutter.old.args.items cutter.new.args.items) }
+    ensures ranks { OnOk result (IsReadRanked root label rules.old rules.new cutter.new.marks.items cutter.old.parts.items cutter.new.parts.items) }
 {
     if let Label::Param = label {
         let start = cutter.args.len();
@@ -125,6 +129,7 @@ fn close_kids(
     ensures closed { IfOk result (λ start. (w : CanCloseKids rules.old (reverse cutter.old.marks.items) (reverse cutter.old.parts.items) (reverse cutter.old.args.items) (arity [] label))
         → AreClosed rules.old rules.new (reverse cutter.new.marks.items) (reverse cutter.new.parts.items) (reverse cutter.new.args.items) w.held.kids w.held.pieces start) }
     ensures off { OnOk result (AreOff (arity [] label) rules.old rules.new cutter.old.marks.items cutter.new.marks.items cutter.old.parts.items cutter.new.parts.items cutter.old.args.items cutter.new.args.items) }
+    ensures ranks { OnOk result (AreRanked rules.old rules.new cutter.old.parts.items cutter.new.parts.items) }
 {
     let end = cutter.args.len();
     if let Label::Symbol(_) = label {
@@ -159,6 +164,7 @@ fn add_inner(cutter: &mut Cutter, label: Label, kids: usize) -> Result<(), Alloc
     ensures held { OnOk result ((w : HoldsKids (reverse cutter.old.marks.items) (reverse cutter.old.parts.items) (reverse cutter.old.args.items) kids)
         → Holds (reverse cutter.new.marks.items) (reverse cutter.new.parts.items) (reverse cutter.new.args.items) (grown label w.kids ∷ w.pieces)) }
     ensures small { OnOk result (IsReadSmall false label [] [] cutter.old.marks.items cutter.new.marks.items cutter.old.parts.items cutter.new.parts.items cutter.old.args.items cutter.new.args.items) }
+    ensures ranks { OnOk result (params cutter.new.parts.items ≡ params cutter.old.parts.items) }
 {
     let mut mark = Mark {
         part: cutter.parts.len(),
@@ -192,6 +198,7 @@ fn close(
     ensures closed { IfOk result (λ start. (w : CanClose rules.old (reverse cutter.old.marks.items) (reverse cutter.old.parts.items) (reverse cutter.old.args.items) end)
         → IsClosed rules.old rules.new (reverse cutter.new.marks.items) (reverse cutter.new.parts.items) (reverse cutter.new.args.items) w.front w.piece w.pieces start) }
     ensures off { OnOk result (AreOff 1 rules.old rules.new cutter.old.marks.items cutter.new.marks.items cutter.old.parts.items cutter.new.parts.items cutter.old.args.items cutter.new.args.items) }
+    ensures ranks { OnOk result (AreRanked rules.old rules.new cutter.old.parts.items cutter.new.parts.items) }
 {
     let Some(mark) = cutter.marks.pop() else {
         return Ok(end);

@@ -1,11 +1,12 @@
 // A digram that is replaced wherever it occurs in a value, across the borders of rules too.
-ghost use Rattle.std.specs.Prelude.{◌≡◌, ◌≢◌, ◌⊎◌, ◌+◌, ◌-◌, ◌*◌, ◌<◌, ◌≤◌, ◌++◌, ◌∷◌, [], ℕ, List, length, OnOk, OnErr, IfOk};
+ghost use Rattle.std.specs.Prelude.{◌≡◌, ◌≢◌, ◌⊎◌, ◌+◌, ◌-◌, ◌*◌, ◌<◌, ◌≤◌, ◌++◌, ◌∷◌, [], ℕ, List, length, max, OnOk, OnErr, IfOk};
 ghost use Rattle.rule_arena.specs.declared.label.Label.{Label};
 ghost use Rattle.slt_grammar.specs.Algebras.{ranks_of};
 ghost use Rattle.slt_grammar.specs.Bodies.{arity, calls_in, real_nodes};
 ghost use Rattle.slt_grammar.specs.Grammars.{body_at, rank_at, size, value, IsGrammar, IsSwept};
 ghost use Rattle.slt_grammar.specs.Keyed.{rules_of};
 ghost use Rattle.slt_grammar.specs.KeyedEdits.{digram_body};
+ghost use Rattle.slt_grammar.specs.Ranks.{greatest_rank};
 ghost use Rattle.slt_grammar.specs.declared.rules.Rule.{Rule};
 ghost use Rattle.border_repair.specs.Cuts.{AreCalm};
 ghost use Rattle.border_repair.specs.Digrams.{IsEnd, IsSymbol, occurrences, rank_of};
@@ -25,9 +26,9 @@ use std::sync::ledger::{Blank, Ledger};
 /// Replaces a digram everywhere in a swept grammar's value, across the borders of rules too, and answers the rule whose calls stand for it.
 ///
 /// The digram's upper label is a symbol, the lower one another symbol or bottom, and it occurs in the value. The rule is the first one. With
-/// all other calls replaced no occurrence is left, and its calls are as many as the occurrences were. No
-/// call is unfolded: nodes become 32 times as many at most, and two more. It fails
-/// where memory is refused, where there would be more than 2^32 nodes, and where a rule isn't called; then the grammar is as it was.
+/// all other calls replaced no occurrence is left, and its calls are as many as the occurrences were. No call is unfolded: nodes become 32
+/// times as many at most, and two more. No rule has a rank that is greater than the digram's and than all there were. It fails where memory
+/// is refused, where there would be more than 2^32 nodes, and where a rule isn't called; then the grammar is as it was.
 pub fn across(alloc: Global, grammar: &mut Grammar, digram: Digram) -> Result<usize, AllocError>
     requires upper { IsSymbol digram.upper }
     requires lower { IsEnd digram.lower }
@@ -40,6 +41,7 @@ pub fn across(alloc: Global, grammar: &mut Grammar, digram: Digram) -> Result<us
     ensures left { IfOk result (λ x. pairs_in digram (ranks_of (rules_of grammar.new.rules)) (value_but (rules_of grammar.new.rules)) ≡ 0) }
     ensures calls { IfOk result (λ x. calls_in x (value_but (rules_of grammar.new.rules)) ≡ occurrences digram (rules_of grammar.old.rules)) }
     ensures size { OnOk result (size (rules_of grammar.new.rules) ≤ 32 * size (rules_of grammar.old.rules) + 2) }
+    ensures ranks { OnOk result (greatest_rank (rules_of grammar.new.rules) ≤ max (rank_of digram) (greatest_rank (rules_of grammar.old.rules))) }
     ensures refused { OnErr result (grammar.new ≡ grammar.old) }
 {
     let made = replaced(alloc, grammar, digram)?;
@@ -59,6 +61,7 @@ fn replaced(alloc: Global, grammar: &Grammar, digram: Digram) -> Result<Grammar,
     ensures left { IfOk result (λ made. pairs_in digram (ranks_of (rules_of made.rules)) (value_but (rules_of made.rules)) ≡ 0) }
     ensures calls { IfOk result (λ made. calls_in 0 (value_but (rules_of made.rules)) ≡ occurrences digram (rules_of grammar.now.rules)) }
     ensures size { IfOk result (λ made. size (rules_of made.rules) ≤ 28 * size (rules_of grammar.now.rules) + 2) }
+    ensures ranks { IfOk result (λ made. greatest_rank (rules_of made.rules) ≤ max (rank_of digram) (greatest_rank (rules_of grammar.now.rules))) }
 {
     // The call tells that the rules are a grammar.
     let _rules = grammar.rules();
@@ -81,6 +84,7 @@ fn expose(alloc: Global, grammar: &Grammar, digram: Digram) -> Result<RuleList, 
     ensures rank { IfOk result (λ rules. rank_at rules 0 ≡ rank_of digram) }
     ensures calm { IfOk result (AreCalm digram) }
     ensures size { IfOk result (λ rules. size rules ≤ 28 * size (rules_of grammar.now.rules) + 2) }
+    ensures ranks { IfOk result (λ rules. greatest_rank rules ≤ max (rank_of digram) (greatest_rank (rules_of grammar.now.rules))) }
 {
     let mut rules = RuleList::new(alloc);
     let body = pair(alloc, digram)?;
@@ -123,6 +127,7 @@ fn add_exposed<L: Ledger>(
     ensures grown { OnOk result ((more : List Rule) × (rules.new ≡ rules.old ++ more)) }
     ensures calm { OnOk result (AreCalm digram rules.new) }
     ensures size { OnOk result (size rules.new ≤ size rules.old + 28 * size (rules_of grammar.now.rules)) }
+    ensures ranks { OnOk result (greatest_rank rules.new ≤ max (max 1 (greatest_rank rules.old)) (greatest_rank (rules_of grammar.now.rules))) }
 {
     let mut steps: Steps<L> = Steps::new(blank);
     let mut cutter = Cutter::new(alloc);
@@ -171,6 +176,7 @@ fn add_outside<L: Ledger>(
     ensures small { OnOk result (AreSmall outsides.new.items) }
     ensures clean { OnOk result (AreClean digram (rule + 1) rules.new outsides.new.items) }
     ensures size { OnOk result (size rules.new ≤ size rules.old + 28 * real_nodes (body_at (rules_of grammar.now.rules) rule)) }
+    ensures ranks { OnOk result (greatest_rank rules.new ≤ max (max 1 (greatest_rank rules.old)) (greatest_rank (rules_of grammar.now.rules))) }
 {
     expand(grammar, outsides.as_slice(), rule, labels, steps)?;
     let outside = cutter.cut(alloc, labels.as_slice(), digram, rules)?;

@@ -6,6 +6,7 @@ use Rattle.border_repair.specs.Cutting.{Holds}
 use Rattle.border_repair.specs.Sizes.{free}
 use Rattle.border_repair.specs.Splitting.{grown}
 use Rattle.border_repair.proofs.CutSteps.{AreTaken, taken-none, taken-more, taken-stuck, inner-holds}
+use Rattle.slt_grammar.proofs.Meanings.{params-append}
 use Rattle.border_repair.proofs.SizeLemmas.{real-push, no-params}
 use Rattle.border_repair.proofs.StackLemmas.{no-items, stack-popped, stack-push}
 use Rattle.border_repair.proofs.cutting.add_inner.Goals as goal
@@ -75,3 +76,7 @@ returns-clause-small c =
       any = omega (arith, marks, top, args, i.few, no-params c.args.label n);
       others = λ r. omega (arith, marks, top, args, i.few, no-params c.args.label n);
     }
+
+pub returns-clause-ranks : goal.returns-clause-ranks
+returns-clause-ranks c =
+    omega (arith, ap params c.in_ok-push-2.ensures.items, params-append c.kids.cutter.parts.items (c.args.label ∷ []), no-params c.args.label c.requires, ap params c.kids.invariant.parts)

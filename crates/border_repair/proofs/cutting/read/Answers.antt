@@ -1,4 +1,4 @@
-use Rattle.std.proofs.Common.{rules, ◌≡◌, ◌⊎◌, true, refl, ◌≤◌, suc, drop, arith, ◌∷◌, [], List, reverse, ap, sym, subst, ◌∙◌}
+use Rattle.std.proofs.Common.{rules, ◌≡◌, ◌⊎◌, inl, inr, true, refl, ◌≤◌, ◌+◌, suc, drop, arith, ◌∷◌, [], List, reverse, ap, sym, subst, ◌∙◌}
 use Rattle.std.proofs.lemmas.List.{length-reverse}
 use Rattle.rule_arena.specs.declared.label.Label.{Label}
 use Rattle.slt_grammar.specs.Algebras.{ranks_of}
@@ -8,6 +8,7 @@ use Rattle.border_repair.specs.Cutting.{HasParameterAt, IsReadOn}
 use Rattle.border_repair.specs.Digrams.{IsEnd}
 use Rattle.border_repair.specs.Sizes.{free}
 use Rattle.border_repair.specs.declared.cutting.Mark.{Mark}
+use Rattle.border_repair.proofs.PartRanks.{outer-ranked, params-reverse}
 use Rattle.border_repair.proofs.SizeLemmas.{real-append, real-reverse, real-one, no-params, free-drop, free-drops, end-few}
 use Rattle.border_repair.proofs.ReadSteps.{read-inner, read-outer, read-parameter, can_close, kids_held, end-arity}
 use Rattle.border_repair.proofs.cutting.read.Goals as goal
@@ -118,3 +119,33 @@ returns-then-is_exposed-clause-small c =
             end-few c.args.label end,
           );
     }
+
+pub returns-in-Param-clause-ranks : goal.returns-in-Param-clause-ranks
+returns-in-Param-clause-ranks c =
+    let o = c.args.cutter.now in
+    let k = c.add_outer.new.cutter in
+    record {
+      ruled = omega arith;
+      left = inl (omega (arith, ap params c.in_ok-add_outer.ensures.parts, params-reverse k.parts.items, params-reverse o.parts.items, ap (λ (l : Label). params (l ∷ [])) c.in-Param.is));
+    }
+
+pub returns-then-is_exposed-clause-ranks : goal.returns-then-is_exposed-clause-ranks
+returns-then-is_exposed-clause-ranks c =
+    let o = c.args.cutter.now in
+    let j = c.close_kids.new.cutter in
+    let k = c.add_outer-then-is_exposed.new.cutter in
+    let e = c.in_ok-add_outer-2.ensures in
+    let w = c.requires.can in
+    let end : IsEnd c.args.label = search rules in
+    let can = can_close c.args.digram c.args.rules.now (reverse o.marks.items) (reverse o.parts.items) (reverse o.args.items) c.args.label w (arity [] c.args.label) (end-arity (ranks_of c.args.rules.now) [] c.args.label end) in
+    let x = c.in_ok-start.ensures.closed can in
+    let exposed = subst (λ (ms : List Mark). ((c.args.label ≡ c.args.digram.upper) × HasParameterAt (reverse ms) c.args.digram.place) ⊎ ((c.args.root ≡ true) × (c.args.label ≡ c.args.digram.lower))) c.as_slice.ensures.value (c.if-is_exposed.ensures.exposed refl) in
+    let few : params k.parts.items ≤ params j.parts.items + 1 = omega (arith, ap params e.parts, params-reverse k.parts.items, params-reverse j.parts.items) in
+    record {
+      ruled = c.in_ok-start.ensures.ranks.ruled;
+      left = outer-ranked c.args.rules.now (reverse o.marks.items) (reverse o.parts.items) (reverse o.args.items) (arity [] c.args.label) can (reverse j.marks.items) (reverse j.parts.items) x.behind x.holds c.args.digram c.args.label c.args.root c.requires.place exposed
+          refl e.marks.0 (reverse k.marks.items) e.marks.1 e.marks.5 (params o.parts.items) (params j.parts.items) (params k.parts.items) (params-reverse o.parts.items) (params-reverse j.parts.items) few;
+    }
+
+pub returns-clause-ranks : goal.returns-clause-ranks
+returns-clause-ranks c = record { ruled = omega arith; left = inl (omega (arith, c.in_ok-add_inner.ensures.ranks)) }

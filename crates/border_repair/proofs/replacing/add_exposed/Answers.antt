@@ -9,6 +9,8 @@ use Rattle.slt_grammar.specs.declared.rules.Rule.{Rule}
 use Rattle.border_repair.specs.Cuts.{AreCalm}
 use Rattle.border_repair.specs.Expanding.{IsExposed, Expands, outside_at}
 use Rattle.border_repair.specs.Sizes.{AreSmall}
+use Rattle.slt_grammar.specs.Ranks.{greatest_rank}
+use Rattle.border_repair.proofs.PartRanks.{ranks-push}
 use Rattle.border_repair.proofs.SizeLemmas.{no-outsides, size-more, size-take, size-push, expands-few, real-append}
 use Rattle.border_repair.proofs.ExposeSteps.{exposing-start, ranks-known, exposed-all, start-calm}
 use Rattle.border_repair.proofs.replacing.add_exposed.Goals as goal
@@ -29,6 +31,7 @@ rules-init g c = record {
   exposing = exposing-start (rules_of c.args.grammar.now.rules) c.args.rules.now c.args.outsides.now.items c.requires.first c.requires.none;
   small = subst (λ (os : List (List Label)). AreSmall os) (sym c.requires.none) no-outsides;
   few = omega arith;
+  ranks = omega arith;
   grown = ([], sym (append-nil c.args.rules.now));
 }
 
@@ -45,6 +48,7 @@ rules-preserved g c =
       clean = e.clean;
       small = e.small;
       few = omega (arith, e.size, c.rules.invariant.few, size-more G c.rules.rule h);
+      ranks = omega (arith, e.ranks, c.rules.invariant.ranks);
       grown = (i.0 ++ e.grown.0, e.grown.1 ∙ ap (λ (G : List Rule). G ++ e.grown.0) i.1 ∙ append_assoc c.args.rules.now i.0 e.grown.0);
     }
 
@@ -110,3 +114,8 @@ returns-clause-size g c =
       size-more G c.rules.rule h,
       size-take G (c.rules.rule + 1),
     )
+
+pub returns-clause-ranks : goal.returns-clause-ranks
+returns-clause-ranks g c =
+    let R : Rule = record { rank = 0; body = c.in_ok-copied.field-0 } in
+    omega (arith, ap greatest_rank c.in_ok-push.ensures.ok, ranks-push c.rules.rules R, c.rules.invariant.ranks)

@@ -10,6 +10,7 @@ use Rattle.border_repair.specs.Sizes.{AreSmall}
 use Rattle.border_repair.specs.Cutting.{IsCutOff}
 use Rattle.border_repair.specs.Expanding.{IsExposing, AreClean, Expands, outside_at}
 use Rattle.border_repair.proofs.ExposeSteps.{ranks-known, expanded-term, expanded-below, expanded-params, exposing-next, clean-next}
+use Rattle.border_repair.proofs.PartRanks.{rank-within}
 use Rattle.border_repair.proofs.SizeLemmas.{small-push, expands-few, real-append}
 use Rattle.border_repair.proofs.replacing.add_outside.Goals as goal
 
@@ -76,3 +77,12 @@ returns-clause-size g c =
     let x = subst (λ (os : List (List Label)). Expands (ranks_of G) (outside_at os) (body_at G c.args.rule) (c.expand.new.labels.items ∷ [])) c.as_slice.ensures.value c.in_ok-expand.ensures in
     let few = expands-few (ranks_of G) (outside_at c.args.outsides.now.items) c.requires.small (body_at G c.args.rule) (c.expand.new.labels.items ∷ []) x in
     omega (arith, c.in_ok-outside.ensures.small.ruled, ap real_nodes c.as_slice-2.ensures.value, few, real-append c.expand.new.labels.items [])
+
+pub returns-clause-ranks : goal.returns-clause-ranks
+returns-clause-ranks g c =
+    let G = rules_of c.args.grammar.now.rules in
+    let many : length G ≡ length c.args.grammar.now.rules = length-map c.args.grammar.now.rules _ in
+    let h : c.args.rule < length G = omega (arith, c.requires.there) in
+    let x = subst (λ (os : List (List Label)). Expands (ranks_of G) (outside_at os) (body_at G c.args.rule) (c.expand.new.labels.items ∷ [])) c.as_slice.ensures.value c.in_ok-expand.ensures in
+    let p = expanded-params G c.requires.grammar c.args.rule h c.args.rules.now c.args.outsides.now.items c.requires.exposing c.expand.new.labels.items x in
+    omega (arith, c.in_ok-outside.ensures.ranks, ap params c.as_slice-2.ensures.value, p, rank_at-ranks_of G c.args.rule, rank-within G c.args.rule)

@@ -9,6 +9,8 @@ use Rattle.slt_grammar.specs.Terms.{up}
 use Rattle.border_repair.specs.Digrams.{is, occurrences}
 use Rattle.border_repair.specs.ValueBut.{pairs_in, value_but}
 use Rattle.border_repair.specs.Weighing.{weight_algebra}
+use Rattle.slt_grammar.specs.Ranks.{greatest_rank}
+use Rattle.slt_grammar.proofs.RankBounds.{rank-same}
 use Rattle.border_repair.proofs.CallsLeft.{calls-and-left}
 use Rattle.border_repair.proofs.NoneLeft.{none-left-over}
 use Rattle.border_repair.specs.Folding.{AreFolded}
@@ -73,3 +75,9 @@ returns-in-Ok-clause-calls g =
     let none = none-left-over d g.requires.upper g.requires.lower g.requires.apart (occurs-placed d (rules_of g.args.grammar.now.rules) g.requires.there) H K g.in-Ok.ensures.grammar f x.calm (pair-ranked H d g.requires.upper g.requires.lower x.rank) pair in
     subst (λ (rs : List Rule). calls_in 0 (value_but rs) ≡ occurrences d (rules_of g.args.grammar.now.rules)) (sym g.in-Ok.ensures.rules)
     (omega (arith, law, none, ap (λ t. (up (weight_algebra (is d)) t []).weight) value_kept))
+
+pub returns-in-Ok-clause-ranks : goal.returns-in-Ok-clause-ranks
+returns-in-Ok-clause-ranks g =
+    let H = g.in_ok-exposed.exposed in
+    let f = subst (λ (rs : List Rule). AreFolded g.args.digram rs g.in_ok-folded.folded) g.as_slice.ensures g.in_ok-folded.ensures.folded in
+    omega (arith, ap greatest_rank g.in-Ok.ensures.rules, rank-same H g.in_ok-folded.folded f.ranks, g.in_ok-exposed.ensures.ranks)

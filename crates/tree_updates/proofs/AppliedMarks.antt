@@ -23,7 +23,8 @@ names-after : (error : EditError) (t : Tree) (e : Edit) (old new : List Pair) �
 names-after (NoNode count) t e old new n = ([], n)
 names-after (NotAllowed kind) t e old new n = ([], n)
 names-after TooMany t e old new n = ([], n)
-names-after Memory t e old new n = (take n.0 (new_pairs t e), n.1)
+names-after Memory t e old new (inl same) = ([], same)
+names-after Memory t e old new (inr (may, (k, some))) = (take k (new_pairs t e), some)
 
 -- whatever becomes of an edit, the names have grown at most
 pub names-grow : (t : Tree) (e : Edit) (old new : Store) (result : Result (Unit {0}) EditError) → Applies t e old result new → (ps : List Pair) × Interns old.names ps new.names
@@ -32,7 +33,7 @@ names-grow t e old new (Err error) a = names-after error t e old.names new.names
 
 -- an edit of a store with other marks
 pub applies-marked : (t : Tree) (e : Edit) (old new : Store) (m n : List Mark) (result : Result (Unit {0}) EditError) → Applies t e (marked old m) result new → Applies t e old result (marked new n)
-applies-marked t e old new m n (Ok u) a = record { allowed = a.allowed; store = store-marked new n (edited t e) a.store; names = a.names; size = a.size }
+applies-marked t e old new m n (Ok u) a = record { allowed = a.allowed; store = store-marked new n (edited t e) a.store; names = a.names; size = a.size; ranks = a.ranks }
 applies-marked t e old new m n (Err error) a = record { cause = a.cause; store = store-marked new n t a.store; rules = a.rules; texts = a.texts; names = a.names }
 
 names-longer : (old ps new : List Pair) → Interns old ps new → length old ≤ length new

@@ -1,5 +1,5 @@
 -- Stores whose names have grown by those that an edit brings: what is true of them where the edit is refused, and where it is made.
-use Rattle.std.proofs.Common.{◌≡◌, ℕ, zero, suc, ◌+◌, ◌*◌, ◌≤◌, List, [], ◌∷◌, length, take, refl, ap, sym, subst, arith}
+use Rattle.std.proofs.Common.{◌≡◌, ℕ, zero, suc, ◌+◌, ◌*◌, ◌≤◌, List, [], ◌∷◌, length, take, refl, ap, inr, sym, subst, arith}
 use Rattle.std.proofs.lemmas.List.{take_all}
 use Rattle.std.proofs.lemmas.Nat.{mul-le}
 use Rattle.plain_tree.specs.declared.edit.Edit.{Edit}
@@ -10,6 +10,7 @@ use Rattle.plain_tree.specs.NodePairs.{Pair}
 use Rattle.plain_tree.specs.Tree.{Tree}
 use Rattle.slt_grammar.specs.Grammars.{IsGrammar, size}
 use Rattle.slt_grammar.specs.Keyed.{rules_of}
+use Rattle.slt_grammar.specs.Ranks.{greatest_rank}
 use Rattle.fcns_encoding.specs.Interning.{Interns}
 use Rattle.fcns_encoding.specs.Laws.{AreLawful}
 use Rattle.fcns_encoding.proofs.LawfulLemmas.{none-lawful, lawful-cons}
@@ -38,7 +39,7 @@ module _ (old : Store) (t : Tree) (i : IsStoreFor old t) (e : Edit) (edit : IsEd
 
   -- memory was wanting once some first ones had come
   pub refused-named : (k : ℕ) (names : List Pair) → Interns old.names (take k (new_pairs t e)) names → IsRefused t e Memory old (named old names)
-  refused-named k names grown = record { cause = tt; store = few-named k names grown; rules = refl; texts = refl; names = (k, grown) }
+  refused-named k names grown = record { cause = tt; store = few-named k names grown; rules = refl; texts = refl; names = inr (edit.allowed, (k, grown)) }
 
   module _ (new : Store) (grown : Interns old.names (new_pairs t e) new.names) where
     -- or once all had
@@ -48,14 +49,16 @@ module _ (old : Store) (t : Tree) (i : IsStoreFor old t) (e : Edit) (edit : IsEd
       store = s;
       rules = ap rules_of rules;
       texts = texts;
-      names = (length (new_pairs t e), subst (λ (ps : List Pair). Interns old.names ps new.names) (sym (take_all (length (new_pairs t e)) (new_pairs t e) (omega arith))) grown);
+      names = inr (edit.allowed, (length (new_pairs t e), subst (λ (ps : List Pair). Interns old.names ps new.names) (sym (take_all (length (new_pairs t e)) (new_pairs t e) (omega arith))) grown));
     }
 
-    pub edited-named : IsStoreFor new (edited t e) → size (rules_of new.grammar.rules) ≤ 2 * size (rules_of old.grammar.rules) + added e → IsEdited t e old new
-    edited-named s few = record {
+    pub edited-named : IsStoreFor new (edited t e) → size (rules_of new.grammar.rules) ≤ 2 * size (rules_of old.grammar.rules) + added e
+        → greatest_rank (rules_of new.grammar.rules) ≤ greatest_rank (rules_of old.grammar.rules) → IsEdited t e old new
+    edited-named s few ranks = record {
       allowed = edit.allowed;
       store = s;
       names = grown;
+      ranks = ranks;
       size =
           let S : ℕ = size (rules_of old.grammar.rules) in
           omega (arith, few, mul-le 2 S (2 + merged t e) S (omega arith) (omega arith));

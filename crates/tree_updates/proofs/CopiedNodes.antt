@@ -1,5 +1,5 @@
 -- Copies of nodes that are no texts: whether they are allowed, and what they come to.
-use Rattle.std.proofs.Common.{◌≡◌, ℕ, ◌+◌, ◌*◌, ◌<◌, ◌≤◌, ◌^◌, List, [], ◌∷◌, refl, ap, sym, ◌∙◌, subst, arith, Option, Some, None}
+use Rattle.std.proofs.Common.{◌≡◌, ℕ, ◌+◌, ◌*◌, ◌<◌, ◌≤◌, ◌^◌, List, [], ◌∷◌, refl, ap, sym, ◌∙◌, subst, arith, inl, Option, Some, None}
 use Rattle.std.specs.Prelude.{MatchOption, option_map}
 use Rattle.plain_tree.specs.declared.kind.Kind.{Kind}
 use Rattle.plain_tree.specs.declared.kind.Kind.TheVariants.{Document, Element, Attribute, Text, Comment, Instruction}
@@ -18,6 +18,7 @@ use Rattle.plain_tree.proofs.EditCounts.{count-copied, edits-are-counted, merged
 use Rattle.plain_tree.proofs.EditTurns.{plain-edits-in-turn}
 use Rattle.slt_grammar.specs.Grammars.{size}
 use Rattle.slt_grammar.specs.Keyed.{rules_of}
+use Rattle.slt_grammar.specs.Ranks.{greatest_rank}
 use Rattle.preorder_address.specs.TreeNumbers.{kind_at}
 use Rattle.tree_updates.specs.Copies.{MayCopy}
 use Rattle.tree_updates.specs.Extents.{IsExtentOf}
@@ -104,17 +105,18 @@ module _ (t : Tree) (d : IsDocument t) (n : ℕ) (allowed : IsAllowed t (Copy n)
 
 -- the copy was made
 pub copy-made : (old new : Store) (t : Tree) (n : ℕ) (d : IsDocument t) (allowed : IsAllowed t (Copy n)) (other : kind_at t n ≡ Some Text → ⊥) → IsStoreFor new (placed t (Copy n)) → new.names ≡ old.names
-    → size (rules_of new.grammar.rules) ≤ 2 * size (rules_of old.grammar.rules) + 3 → IsEdited t (Copy n) old new
-copy-made old new t n d allowed other i names most = record {
+    → size (rules_of new.grammar.rules) ≤ 2 * size (rules_of old.grammar.rules) + 3 → greatest_rank (rules_of new.grammar.rules) ≤ greatest_rank (rules_of old.grammar.rules) → IsEdited t (Copy n) old new
+copy-made old new t n d allowed other i names most ranks = record {
   allowed = allowed;
   store = subst (IsStoreFor new) (sym (copy-apart t d n allowed other)) i;
   names = names;
+  ranks = ranks;
   size = doubled-more (size (rules_of old.grammar.rules)) (size (rules_of new.grammar.rules)) (merged t (Copy n)) 3 most;
 }
 
 -- or memory was wanting
 pub copy-wanting : (old new : Store) (t : Tree) (n : ℕ) → IsStoreFor new t → new.names ≡ old.names → new.grammar.rules ≡ old.grammar.rules → new.texts.texts ≡ old.texts.texts → IsRefused t (Copy n) Memory old new
-copy-wanting old new t n i names rules texts = record { cause = tt; store = i; rules = ap rules_of rules; texts = texts; names = (0, names) }
+copy-wanting old new t n i names rules texts = record { cause = tt; store = i; rules = ap rules_of rules; texts = texts; names = inl names }
 
 -- a node that is not alone has others below it
 pub some-below : (t : Tree) (n : ℕ) (e : Extent) → IsExtentOf t n e → (e.nodes ≡ 1 → ⊥) → 1 < e.nodes

@@ -67,6 +67,7 @@ module _ (old new : Store) (t : Tree) (i : IsStoreFor old t) (n : ℕ) (low : n 
     allowed = allowed;
     store = subst (IsStoreFor new) (sym same-edited) e.store;
     names = there-already (Text, []) 1 old.names new.names named e.names;
+    ranks = e.ranks;
     size = let h : size (rules_of new.grammar.rules) ≤ (2 + merged t (Copy n)) * size (rules_of old.grammar.rules) + 2 = subst (λ (m : ℕ). size (rules_of new.grammar.rules) ≤ (2 + m) * size (rules_of old.grammar.rules) + 2) (sym (merged-same t n low (text z) us is)) e.size in omega (arith, h);
   }
 
@@ -83,7 +84,8 @@ module _ (old new : Store) (t : Tree) (i : IsStoreFor old t) (n : ℕ) (low : n 
       names (NoNode count) h = h
       names (NotAllowed kind) h = h
       names TooMany h = h
-      names Memory h = (0, there-already (Text, []) h.0 old.names new.names named h.1)
+      names Memory (inl same) = inl same
+      names Memory (inr (may, (k, some))) = inl (there-already (Text, []) k old.names new.names named some)
 
   -- what inserting an equal text did is what the copy was to do
   pub copied-applies : (r : Result (Unit {0}) EditError) → Applies t (Insert n (text z ∷ [])) old r new → Applies t (Copy n) old r new

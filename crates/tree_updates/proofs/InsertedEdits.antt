@@ -1,5 +1,5 @@
 -- Insertions that are made, or refused.
-use Rattle.std.proofs.Common.{◌≡◌, ◌↔◌, ◌⊎◌, inl, inr, ℕ, ◌+◌, ◌-◌, ◌*◌, ◌<◌, ◌≤◌, ◌^◌, Bool, true, false, IsTrue, List, length, min, sym, ◌∙◌, subst, arith, Some}
+use Rattle.std.proofs.Common.{◌≡◌, ◌↔◌, ◌⊎◌, inl, inr, ℕ, ◌+◌, ◌-◌, ◌*◌, ◌<◌, ◌≤◌, ◌^◌, Bool, true, false, IsTrue, List, length, take, min, sym, ◌∙◌, subst, arith, Some}
 use Rattle.std.proofs.Math.Bool.{true≢false}
 use Rattle.slt_grammar.specs.Grammars.{IsGrammar}
 use Rattle.segment_counts.specs.Counting.{told}
@@ -68,15 +68,16 @@ module _ (s : Store) (t : Tree) (i : IsStoreFor s t) (n : ℕ) (F : List Tree) (
         by (inl h) = absurd (true≢false (sym (told.1 h) ∙ f))
         by (inr h) = omega (arith, h, count)
 
-  -- memory was wanting once all names were there
+  -- memory was wanting once some first names were there
+  pub refused-some : (new : Store) (k : ℕ) → Interns s.names (take k (pairs_of_trees (trees F))) new.names → IsStoreFor new t → rules_of new.grammar.rules ≡ rules_of s.grammar.rules → new.texts.texts ≡ s.texts.texts
+      → IsRefused t (Insert n F) Memory s new
+  refused-some new k some j rules texts = record { cause = tt; store = j; rules = rules; texts = texts; names = inr (allowed, (k, some)) }
+
+  -- or once all were
   pub refused-coded : (new : Store) → Interns s.names (pairs_of_trees (trees F)) new.names → IsStoreFor new t → rules_of new.grammar.rules ≡ rules_of s.grammar.rules → new.texts.texts ≡ s.texts.texts → IsRefused t (Insert n F) Memory s new
-  refused-coded new grown j rules texts = record {
-    cause = tt;
-    store = j;
-    rules = rules;
-    texts = texts;
-    names = (length (pairs_of_trees (trees F)), subst (λ (ps : List Pair). Interns s.names ps new.names) (sym (take_all (length (pairs_of_trees (trees F))) (pairs_of_trees (trees F)) (omega arith))) grown);
-  }
+  refused-coded new grown =
+      let ps : List Pair = pairs_of_trees (trees F) in
+      refused-some new (length ps) (subst (λ (qs : List Pair). Interns s.names qs new.names) (sym (take_all (length ps) ps (omega arith))) grown)
 
 -- a store that doubled, and got the fragment's nodes, has no more than the bound
 pub doubled-more : (x y m k : ℕ) → y ≤ 2 * x + k → y ≤ (2 + m) * x + k

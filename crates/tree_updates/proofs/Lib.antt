@@ -77,3 +77,4 @@ pub mod UncountedCopies
 pub mod Fronts
 pub mod AppliedMarks
 pub mod MovedMarks
+pub mod KeptRanks

@@ -23,7 +23,7 @@ use Rattle.fcns_encoding.specs.Interning.{Interns, IsIn}
 use Rattle.fcns_encoding.proofs.InternLemmas.{is_in}
 use Rattle.preorder_address.specs.TreeNumbers.{text_rank_at}
 use Rattle.tree_updates.specs.ElementAttributes.{IsAttributePlace, IsNextAttribute}
-use Rattle.tree_updates.specs.Stores.{Applies, IsEdited, IsRefused, IsStoreFor}
+use Rattle.tree_updates.specs.Stores.{Applies, IsEdited, IsRefused, IsStoreFor, NamesAfter}
 use Rattle.tree_updates.specs.declared.kid_attributes.AttributePlace.{AttributePlace}
 use Rattle.tree_updates.specs.declared.store.EditError.{EditError}
 use Rattle.tree_updates.specs.declared.store.EditError.TheVariants.{NoNode, NotAllowed, TooMany, Memory}
@@ -148,6 +148,7 @@ module _ (s : Store) (t : Tree) (i : IsStoreFor s t) (n : ℕ) (name value : Lis
     allowed = edit.allowed;
     store = subst (IsStoreFor new) (sym is-value) x.store;
     names = grown new.names x.names;
+    ranks = x.ranks;
     size =
         let S : ℕ = size (rules_of s.grammar.rules) in
         let M : ℕ = merged t (Attr n name value) in
@@ -164,8 +165,12 @@ module _ (s : Store) (t : Tree) (i : IsStoreFor s t) (n : ℕ) (name value : Lis
     store = x.store;
     rules = x.rules;
     texts = x.texts;
-    names = (0, subst (λ (ps : List Pair). Interns s.names ps new.names) (take-none x.names.0) x.names.1);
+    names = of x.names;
   }
+    where
+      of : NamesAfter Memory t (Value (n + 1 + p.before) value) s.names new.names → NamesAfter Memory t (Attr n name value) s.names new.names
+      of (inl same) = inl same
+      of (inr (may, (k, some))) = inl (subst (λ (ps : List Pair). Interns s.names ps new.names) (take-none k) some)
 
   pub attribute-applies : (result : Result (Unit {0}) EditError) (new : Store) → Applies t (Value (n + 1 + p.before) value) s result new → Applies t (Attr n name value) s result new
   attribute-applies (Ok u) new x = revalued new x

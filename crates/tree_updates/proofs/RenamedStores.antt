@@ -1,5 +1,5 @@
 -- A store in which one node got another name.
-use Rattle.std.proofs.Common.{◌≡◌, ℕ, ◌+◌, ◌-◌, ◌*◌, ◌<◌, ◌≤◌, List, [], ◌∷◌, length, take, refl, ap, sym, ◌∙◌, subst, arith, Some, None}
+use Rattle.std.proofs.Common.{◌≡◌, ℕ, ◌+◌, ◌-◌, ◌*◌, ◌<◌, ◌≤◌, List, [], ◌∷◌, length, take, refl, ap, sym, ◌∙◌, subst, arith, inr, Some, None}
 use Rattle.std.specs.Prelude.{slice_get}
 use Rattle.std.proofs.lemmas.Nat.{mul-le}
 use Rattle.plain_tree.specs.declared.kind.Kind.{Kind}
@@ -19,6 +19,7 @@ use Rattle.plain_tree.proofs.LawfulDocuments.{placed-becomes, place-low, stands}
 use Rattle.slt_grammar.specs.Coding.{Codes}
 use Rattle.slt_grammar.specs.Grammars.{size, value, IsGrammar, IsSwept}
 use Rattle.slt_grammar.specs.Keyed.{Keyed, KeyedRule, key_at, rules_of}
+use Rattle.slt_grammar.specs.Ranks.{greatest_rank}
 use Rattle.slt_grammar.specs.RuleValues.{HaveOtherValues}
 use Rattle.slt_grammar.specs.Standing.{StandsFor}
 use Rattle.slt_grammar.specs.Terms.{Node, substitute}
@@ -96,7 +97,7 @@ module _ (old : Store) (t : Tree) (i : IsStoreFor old t) (n : ℕ) (x : List ℕ
     };
     rules = ap rules_of same;
     texts = refl;
-    names = (1, subst (λ (ps : List Pair). Interns old.names (take 1 ps) names) (sym pairs-are) grown);
+    names = inr (allowed, (1, subst (λ (ps : List Pair). Interns old.names (take 1 ps) names) (sym pairs-are) grown));
   }
 
   -- the node gets the symbol of the kind with the name
@@ -129,8 +130,8 @@ module _ (old : Store) (t : Tree) (i : IsStoreFor old t) (n : ℕ) (x : List ℕ
               (placed-becomes t i.stand.document e allowed name)
 
     pub renamed-store : (grammar : Keyed) (index : Linked) (counts : CountTable) → value (rules_of grammar.rules) ≡ value H → IsSwept (rules_of grammar.rules) → AreCounts names (rules_of grammar.rules) counts → IsIndexOf grammar index
-        → size (rules_of grammar.rules) ≤ 2 * size G → IsEdited t e old (record { grammar = grammar; names = names; texts = old.texts; counts = counts; index = index; marks = old.marks })
-    renamed-store grammar index counts same swept counted indexed small = record {
+        → size (rules_of grammar.rules) ≤ 2 * size G → greatest_rank (rules_of grammar.rules) ≤ greatest_rank G → IsEdited t e old (record { grammar = grammar; names = names; texts = old.texts; counts = counts; index = index; marks = old.marks })
+    renamed-store grammar index counts same swept counted indexed small ranks = record {
       allowed = allowed;
       store = record {
         stand = stands-after (rules_of grammar.rules) same;
@@ -140,5 +141,6 @@ module _ (old : Store) (t : Tree) (i : IsStoreFor old t) (n : ℕ) (x : List ℕ
         index = indexed;
       };
       names = grown-by;
+      ranks = ranks;
       size = omega (arith, small, mul-le 2 (size G) (2 + merged t e) (size G) (omega arith) (omega arith));
     }

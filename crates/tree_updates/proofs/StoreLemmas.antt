@@ -1,5 +1,5 @@
 -- Stores after an edit that is refused, or changes no count of nodes.
-use Rattle.std.proofs.Common.{◌≡◌, ◌-◌, [], refl, ap, sym, subst, arith, Option, Some, None}
+use Rattle.std.proofs.Common.{◌≡◌, ◌-◌, [], inl, refl, ap, sym, subst, arith, Option, Some, None}
 use Rattle.std.specs.Prelude.{IsSome}
 use Rattle.plain_tree.specs.declared.edit.Edit.{Edit}
 use Rattle.plain_tree.specs.Tree.{Tree, none, more, node_count}
@@ -24,7 +24,7 @@ refused-there t e cause s c i = record { cause = c; store = i; rules = refl; tex
     names-same (NoNode count) = refl
     names-same (NotAllowed kind) = refl
     names-same TooMany = refl
-    names-same Memory = (0, refl)
+    names-same Memory = inl refl
 
 -- the counts tell how many nodes there are
 pub total-is : (s : Store) (t : Tree) → IsStoreFor s t → IsGrammar (rules_of s.grammar.rules) → told Nodes s.counts.rows (s.counts.rules - 1) 0 ≡ node_count t
@@ -50,7 +50,7 @@ refused-texts t e old new i grammar names counts index texts = record {
   };
   rules = ap (λ (g : Keyed). rules_of g.rules) grammar;
   texts = texts;
-  names = (0, names);
+  names = inl names;
 }
 
 -- what a call told by whether it gave something

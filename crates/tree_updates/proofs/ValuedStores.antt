@@ -17,6 +17,7 @@ use Rattle.plain_tree.proofs.EditCounts.{edits-are-counted}
 use Rattle.plain_tree.proofs.LawfulDocuments.{placed-becomes, place-low, stands}
 use Rattle.slt_grammar.specs.Grammars.{size, IsSwept}
 use Rattle.slt_grammar.specs.Keyed.{rules_of, Keyed}
+use Rattle.slt_grammar.specs.Ranks.{greatest_rank}
 use Rattle.slt_grammar.specs.Standing.{StandsFor}
 use Rattle.slt_grammar.specs.declared.rules.Rule.{Rule}
 use Rattle.slt_grammar.proofs.Standing.{own, texts-one, texts_all-more}
@@ -137,6 +138,7 @@ module _ (old : Store) (t : Tree) (i : IsStoreFor old t) (n : ℕ) (w : List ℕ
       index = subst (λ (g : Keyed). IsIndexOf g new.index) (sym grammar) (subst (λ x. IsIndexOf old.grammar x) (sym index) i.index);
     };
     names = names;
+    ranks = omega (arith, ap (λ (g : Keyed). greatest_rank (rules_of g.rules)) grammar);
     size =
         let G : List Rule = rules_of old.grammar.rules in
         omega (arith, ap (λ (g : Keyed). size (rules_of g.rules)) grammar, mul-le 2 (size G) (2 + merged t e) (size G) (omega arith) (omega arith));

@@ -1,5 +1,5 @@
 -- Stores of documents, and what an edit makes of one.
-use Rattle.std.specs.Prelude.{◌≡◌, ℕ, ◌+◌, ◌*◌, ◌<◌, ◌≤◌, ◌^◌, List, take, Some, Result, MatchResult}
+use Rattle.std.specs.Prelude.{◌≡◌, ◌⊎◌, ℕ, ◌+◌, ◌*◌, ◌<◌, ◌≤◌, ◌^◌, List, take, Some, Result, MatchResult}
 use Rattle.plain_tree.specs.declared.edit.Edit.{Edit}
 use Rattle.plain_tree.specs.Additions.{added, new_pairs}
 use Rattle.plain_tree.specs.Allowed.{IsAllowed}
@@ -8,6 +8,7 @@ use Rattle.plain_tree.specs.NodePairs.{Pair}
 use Rattle.plain_tree.specs.Tree.{Tree, node_count}
 use Rattle.slt_grammar.specs.Grammars.{size, IsSwept}
 use Rattle.slt_grammar.specs.Keyed.{rules_of}
+use Rattle.slt_grammar.specs.Ranks.{greatest_rank}
 use Rattle.slt_grammar.specs.Standing.{StandsFor}
 use Rattle.digram_index.specs.Linked.{IsIndexOf}
 use Rattle.fcns_encoding.specs.Interning.{Interns}
@@ -32,12 +33,13 @@ abbrev pub HasMarks : Store → Type 0
 HasMarks s = AreMarks s.names s.grammar.rules s.marks
 
 -- The store for a document became one for the edited document. Its names grew by those that the edit brings, and its grammar by no more than
--- twice what it was, once more for each text that was merged, and what the edit adds.
+-- twice what it was, once more for each text that was merged, and what the edit adds. No rule has a rank that is greater than all there were.
 pub record IsEdited (t : Tree) (e : Edit) (old new : Store) : Type 0 where
   pub allowed : IsAllowed t e
   pub store : IsStoreFor new (edited t e)
   pub names : Interns old.names (new_pairs t e) new.names
   pub size : size (rules_of new.grammar.rules) ≤ (2 + merged t e) * size (rules_of old.grammar.rules) + added e
+  pub ranks : greatest_rank (rules_of new.grammar.rules) ≤ greatest_rank (rules_of old.grammar.rules)
 
 -- why the document is not edited
 abbrev pub IsRefusedFor : EditError → Tree → Edit → Type 0
@@ -46,9 +48,9 @@ IsRefusedFor (error.NotAllowed kind) t e = (kind_at t (number_of e) ≡ Some kin
 IsRefusedFor error.TooMany t e = IsAllowed t e × (2 ^ 63 ≤ node_count (edited t e))
 IsRefusedFor error.Memory t e = Unit {0}
 
--- what becomes of the names then: some first ones of those that the edit brings may have come where memory was wanting
+-- what becomes of the names then: where memory was wanting and the edit is allowed, some first ones of those that it brings may have come
 abbrev pub NamesAfter : EditError → Tree → Edit → List Pair → List Pair → Type 0
-NamesAfter error.Memory t e old new = (k : ℕ) × Interns old (take k (new_pairs t e)) new
+NamesAfter error.Memory t e old new = (new ≡ old) ⊎ (IsAllowed t e × ((k : ℕ) × Interns old (take k (new_pairs t e)) new))
 NamesAfter error t e old new = new ≡ old
 
 -- the edit is refused for this cause: the store stands for the document as before, under the same rules

@@ -24,9 +24,10 @@ use std::mem::replace;
 use std::sync::ledger::Ledger;
 
 /// Makes an edit of the store's document. What it gives is lawful: a name is a Name, a value consists of characters, a
-/// fragment is one. `EditError` says when it is refused; nothing changes then, but that for want of memory
-/// names may stay in the table. All memory is asked for before the first change of the grammar. Its searches begin at the store's marks and
-/// leave others; those before the node at which the document changes stay, and those behind it move with it, but for copies and where texts meet.
+/// fragment is one. `EditError` says when it is refused; nothing changes then, but that for want of memory names may stay in the table where
+/// the edit is allowed. All memory is asked for before the first change of the grammar.
+/// Its searches begin at the store's marks and leave others; those before the node at which the document changes stay, and those behind it move
+/// with it, but for copies and where texts meet.
 pub fn apply<L: Ledger>(
     alloc: Global,
     store: &mut Store,

@@ -4,6 +4,7 @@ ghost use Rattle.slt_grammar.specs.Bodies.{real_nodes};
 ghost use Rattle.slt_grammar.specs.ChangedValues.{start_body};
 ghost use Rattle.slt_grammar.specs.Grammars.{size, value_at};
 ghost use Rattle.slt_grammar.specs.Keyed.{rules_of};
+ghost use Rattle.slt_grammar.specs.Ranks.{greatest_rank};
 ghost use Rattle.slt_grammar.specs.RuleValues.{HaveOtherValues};
 ghost use Rattle.slt_grammar.specs.Terms.{Term};
 ghost use Rattle.start_fronts.specs.Before.{KeepsBefore};
@@ -43,6 +44,7 @@ pub(crate) fn wrap_place<W: Way, L: Ledger>(
     ensures values { HaveOtherValues (length (rules_of grammar.old.rules) - 1) (rules_of grammar.old.rules) (rules_of grammar.new.rules) }
     ensures most { size (rules_of grammar.new.rules) + real_nodes (start_body (rules_of grammar.old.rules))
         ≤ 2 * size (rules_of grammar.old.rules) + real_nodes body.now }
+    ensures ranks { greatest_rank (rules_of grammar.new.rules) ≤ greatest_rank (rules_of grammar.old.rules) }
     ensures index { IsIndexOf grammar.new index.new }
     ensures moves { (place : ℕ) → LeadToPlace grammar.old.rules (W.levels way grammar.old.rules) place
         → MovesBefore all_weight (first_keys (W.levels way grammar.old.rules)) place grammar.old.rules grammar.new.rules }

@@ -9,6 +9,7 @@ ghost use Rattle.plain_tree.specs.declared.kind.Kind.TheVariants.{Text};
 ghost use Rattle.slt_grammar.specs.Grammars.{size};
 ghost use Rattle.slt_grammar.specs.Keyed.{rules_of};
 ghost use Rattle.slt_grammar.specs.Names.{Bottom, Call};
+ghost use Rattle.slt_grammar.specs.Ranks.{greatest_rank};
 ghost use Rattle.path_isolation.specs.Isolations.{room_along};
 ghost use Rattle.preorder_address.specs.Marks.{AreMarks, MarksFirst};
 ghost use Rattle.preorder_address.specs.Spots.{IsSpot};
@@ -132,6 +133,7 @@ fn copy_alone<L: Ledger>(
     ensures texts { OnErr result (store.new.texts.texts ≡ store.old.texts.texts) }
     ensures names { store.new.names ≡ store.old.names }
     ensures size { OnOk result (size (rules_of store.new.grammar.rules) ≤ 2 * size (rules_of store.old.grammar.rules) + 3) }
+    ensures ranks { OnOk result (greatest_rank (rules_of store.new.grammar.rules) ≤ greatest_rank (rules_of store.old.grammar.rules)) }
     ensures marks { KeepsMarks spot.now.levels.items store.old.grammar.rules store.new.grammar.rules }
 {
     let body = twin_body(alloc, spot.symbol(), Label::Bottom)?;
@@ -159,6 +161,7 @@ fn copy_whole<L: Ledger>(
     ensures texts { OnErr result (store.new.texts.texts ≡ store.old.texts.texts) }
     ensures names { store.new.names ≡ store.old.names }
     ensures size { OnOk result (size (rules_of store.new.grammar.rules) ≤ 2 * size (rules_of store.old.grammar.rules) + 3) }
+    ensures ranks { OnOk result (greatest_rank (rules_of store.new.grammar.rules) ≤ greatest_rank (rules_of store.old.grammar.rules)) }
     ensures marks { KeepsMarks spot.now.levels.items store.old.grammar.rules store.new.grammar.rules }
 {
     // The call tells what is true of every grammar.
@@ -219,6 +222,7 @@ fn put_alone<L: Ledger>(
     ensures store { (t : Tree) → IsUnsweptFor store.old t → MayCopy t number extent → IsUnsweptFor store.new (placed t (Copy number)) }
     ensures names { store.new.names ≡ store.old.names }
     ensures size { size (rules_of store.new.grammar.rules) ≤ 2 * size (rules_of store.old.grammar.rules) + 3 }
+    ensures ranks { greatest_rank (rules_of store.new.grammar.rules) ≤ greatest_rank (rules_of store.old.grammar.rules) }
     ensures front { IsSameBeforeFirst spot.now.levels.items store.old.grammar.rules store.new.grammar.rules }
 {
     // The call tells what is true of every grammar.
@@ -250,6 +254,7 @@ fn put_whole<L: Ledger>(
     ensures store { (t : Tree) → IsUnsweptFor store.old t → MayCopy t number extent → IsUnsweptFor store.new (placed t (Copy number)) }
     ensures names { store.new.names ≡ store.old.names }
     ensures size { size (rules_of store.new.grammar.rules) ≤ 2 * size (rules_of store.old.grammar.rules) + 3 }
+    ensures ranks { greatest_rank (rules_of store.new.grammar.rules) ≤ greatest_rank (rules_of store.old.grammar.rules) }
     ensures front { IsSameBeforeFirst spot.now.levels.items store.old.grammar.rules store.new.grammar.rules }
 {
     // The call tells what is true of every grammar.

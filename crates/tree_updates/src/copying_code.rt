@@ -4,6 +4,7 @@ ghost use Rattle.plain_tree.specs.declared.kind.Kind.{Kind};
 ghost use Rattle.slt_grammar.specs.Grammars.{size};
 ghost use Rattle.slt_grammar.specs.Keyed.{rules_of};
 ghost use Rattle.slt_grammar.specs.Names.{Call};
+ghost use Rattle.slt_grammar.specs.Ranks.{greatest_rank};
 ghost use Rattle.digram_index.specs.Linked.{IsIndexOf};
 ghost use Rattle.path_isolation.specs.Isolations.{room_along};
 ghost use Rattle.preorder_address.specs.Spots.{IsSpot};
@@ -52,6 +53,7 @@ pub(crate) fn wrap_shared<L: Ledger>(
         → IsTwinBody symbol (Call (length grammar.old.rules - 1)) body.now
         → SharesBelow (rules_of grammar.old.rules) (rules_of grammar.new.rules) (length grammar.old.rules - 1) number symbol }
     ensures size { size (rules_of grammar.new.rules) ≤ 2 * size (rules_of grammar.old.rules) + 3 }
+    ensures ranks { greatest_rank (rules_of grammar.new.rules) ≤ greatest_rank (rules_of grammar.old.rules) }
     ensures index { IsIndexOf grammar.new index.new }
     ensures front { IsSameBeforeFirst spot.now.levels.items grammar.old.rules grammar.new.rules }
 {

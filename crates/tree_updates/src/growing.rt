@@ -4,6 +4,7 @@ ghost use Rattle.plain_tree.specs.Tree.{Tree, node_count};
 ghost use Rattle.slt_grammar.specs.Bodies.{real_nodes};
 ghost use Rattle.slt_grammar.specs.Grammars.{size};
 ghost use Rattle.slt_grammar.specs.Keyed.{rules_of};
+ghost use Rattle.slt_grammar.specs.Ranks.{greatest_rank};
 ghost use Rattle.start_fronts.specs.Moved.{MovesBefore};
 ghost use Rattle.segment_counts.specs.Weights.{all_weight};
 ghost use Rattle.tree_updates.specs.CodePlaces.{IsPlaceSpot, room_to_place};
@@ -59,6 +60,7 @@ pub(crate) fn grow<L: Ledger>(
     requires spot { IsPlaceSpot store.old.grammar.rules growth.site.place spot.now }
     ensures grown { OnOk result ((t u : Tree) → IsStoreFor store.old t → GrowsInto store.old.names t u growth → IsStoreFor store.new u) }
     ensures size { OnOk result (size (rules_of store.new.grammar.rules) ≤ 2 * size (rules_of store.old.grammar.rules) + real_nodes growth.body) }
+    ensures ranks { OnOk result (greatest_rank (rules_of store.new.grammar.rules) ≤ greatest_rank (rules_of store.old.grammar.rules)) }
     ensures names { store.new.names ≡ store.old.names }
     ensures kept { OnErr result ((t : Tree) → IsStoreFor store.old t → IsStoreFor store.new t) }
     ensures rules { OnErr result (store.new.grammar.rules ≡ store.old.grammar.rules) }
@@ -85,6 +87,7 @@ pub(crate) fn grow_joined<L: Ledger>(
     requires spot { IsPlaceSpot store.old.grammar.rules growth.site.place spot.now }
     ensures grown { OnOk result ((t one u : Tree) → IsStoreFor store.old t → GetsText store.old t joined one → GrowsInto store.old.names one u growth → IsStoreFor store.new u) }
     ensures size { OnOk result (size (rules_of store.new.grammar.rules) ≤ 2 * size (rules_of store.old.grammar.rules) + real_nodes growth.body) }
+    ensures ranks { OnOk result (greatest_rank (rules_of store.new.grammar.rules) ≤ greatest_rank (rules_of store.old.grammar.rules)) }
     ensures names { store.new.names ≡ store.old.names }
     ensures kept { OnErr result ((t : Tree) → IsStoreFor store.old t → IsStoreFor store.new t) }
     ensures rules { OnErr result (store.new.grammar.rules ≡ store.old.grammar.rules) }
@@ -142,6 +145,7 @@ fn put_in<L: Ledger>(store: &mut Store, growth: Growth, spot: &PlaceSpot, steps:
     ensures store { (t u : Tree) → IsUnsweptFor store.old t → GrowsInto store.old.names t u growth → IsUnsweptFor store.new u }
     ensures names { store.new.names ≡ store.old.names }
     ensures size { size (rules_of store.new.grammar.rules) ≤ 2 * size (rules_of store.old.grammar.rules) + real_nodes growth.body }
+    ensures ranks { greatest_rank (rules_of store.new.grammar.rules) ≤ greatest_rank (rules_of store.old.grammar.rules) }
     ensures moves { MovesBefore all_weight (first_keys spot.now.levels.items) growth.site.place store.old.grammar.rules store.new.grammar.rules }
 {
     // The call tells what is true of every grammar.

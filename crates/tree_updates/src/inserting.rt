@@ -10,6 +10,7 @@ ghost use Rattle.plain_tree.specs.declared.kind.Kind.{Kind};
 ghost use Rattle.slt_grammar.specs.Bodies.{real_nodes};
 ghost use Rattle.slt_grammar.specs.Grammars.{size};
 ghost use Rattle.slt_grammar.specs.Keyed.{rules_of};
+ghost use Rattle.slt_grammar.specs.Ranks.{greatest_rank};
 ghost use Rattle.start_fronts.specs.Moved.{MovesBefore};
 ghost use Rattle.segment_counts.specs.Weights.{node_weight};
 ghost use Rattle.path_isolation.specs.Isolations.{room_along};
@@ -133,6 +134,7 @@ fn put_fragment<L: Ledger>(
     ensures texts { OnErr result (store.new.texts.texts ≡ store.old.texts.texts) }
     ensures names { store.new.names ≡ store.old.names }
     ensures size { OnOk result (size (rules_of store.new.grammar.rules) ≤ 2 * size (rules_of store.old.grammar.rules) + real_nodes coded.body) }
+    ensures ranks { OnOk result (greatest_rank (rules_of store.new.grammar.rules) ≤ greatest_rank (rules_of store.old.grammar.rules)) }
     ensures moves { OnOk result (MovesBefore node_weight (first_keys spot.now.levels.items) number store.old.grammar.rules store.new.grammar.rules) }
 {
     if is_one_between(seams, coded.body.len()) {
@@ -169,6 +171,7 @@ fn place_coded<L: Ledger>(
     ensures texts { OnErr result (store.new.texts.texts ≡ store.old.texts.texts) }
     ensures names { store.new.names ≡ store.old.names }
     ensures size { OnOk result (size (rules_of store.new.grammar.rules) ≤ 2 * size (rules_of store.old.grammar.rules) + real_nodes coded.body) }
+    ensures ranks { OnOk result (greatest_rank (rules_of store.new.grammar.rules) ≤ greatest_rank (rules_of store.old.grammar.rules)) }
     ensures moves { OnOk result (MovesBefore node_weight (first_keys spot.now.levels.items) number store.old.grammar.rules store.new.grammar.rules) }
 {
     let joined = join_ends(alloc, &store.texts, rank, seams, coded)?;
@@ -192,6 +195,7 @@ fn place<L: Ledger>(
     ensures texts { OnErr result (store.new.texts.texts ≡ store.old.texts.texts) }
     ensures names { store.new.names ≡ store.old.names }
     ensures size { OnOk result (size (rules_of store.new.grammar.rules) ≤ 2 * size (rules_of store.old.grammar.rules) + real_nodes joined.rest.body) }
+    ensures ranks { OnOk result (greatest_rank (rules_of store.new.grammar.rules) ≤ greatest_rank (rules_of store.old.grammar.rules)) }
     ensures moves { OnOk result (MovesBefore node_weight (first_keys spot.now.levels.items) number store.old.grammar.rules store.new.grammar.rules) }
 {
     let labels = count_labels(joined.rest.body.as_slice());
@@ -230,6 +234,7 @@ fn put_joined<L: Ledger>(
     ensures store { (t : Tree) (F : List Tree) → IsUnsweptFor store.old t → MayJoin store.old t number rank F joined → IsUnsweptFor store.new (in_turn t (joined_edits number joined.front joined.back F)) }
     ensures names { store.new.names ≡ store.old.names }
     ensures size { size (rules_of store.new.grammar.rules) ≤ 2 * size (rules_of store.old.grammar.rules) + real_nodes joined.rest.body }
+    ensures ranks { greatest_rank (rules_of store.new.grammar.rules) ≤ greatest_rank (rules_of store.old.grammar.rules) }
     ensures moves { MovesBefore node_weight (first_keys spot.now.levels.items) number store.old.grammar.rules store.new.grammar.rules }
 {
     let Joined { front, back, rest } = joined;
@@ -269,6 +274,7 @@ fn put_rest<L: Ledger>(
         → IsUnsweptFor store.new (in_turn t (insert_any number F)) }
     ensures names { store.new.names ≡ store.old.names }
     ensures size { size (rules_of store.new.grammar.rules) ≤ 2 * size (rules_of store.old.grammar.rules) + real_nodes rest.body }
+    ensures ranks { greatest_rank (rules_of store.new.grammar.rules) ≤ greatest_rank (rules_of store.old.grammar.rules) }
     ensures moves { MovesBefore node_weight (first_keys spot.now.levels.items) number store.old.grammar.rules store.new.grammar.rules }
 {
     // The call tells what is true of every grammar.
@@ -299,6 +305,7 @@ fn put_before<L: Ledger>(
     ensures store { (t : Tree) (F : List Tree) → IsUnsweptFor store.old t → MayComeBefore store.old t number rank F coded → IsUnsweptFor store.new (placed t (Insert number F)) }
     ensures names { store.new.names ≡ store.old.names }
     ensures size { size (rules_of store.new.grammar.rules) ≤ 2 * size (rules_of store.old.grammar.rules) + real_nodes coded.body }
+    ensures ranks { greatest_rank (rules_of store.new.grammar.rules) ≤ greatest_rank (rules_of store.old.grammar.rules) }
     ensures moves { MovesBefore node_weight (first_keys spot.now.levels.items) number store.old.grammar.rules store.new.grammar.rules }
 {
     // The calls tell what is true of every grammar, and how few texts there are.

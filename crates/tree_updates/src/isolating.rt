@@ -6,6 +6,7 @@ ghost use Rattle.slt_grammar.specs.Bodies.{real_nodes};
 ghost use Rattle.slt_grammar.specs.ChangedValues.{start_body};
 ghost use Rattle.slt_grammar.specs.Grammars.{size, value_at};
 ghost use Rattle.slt_grammar.specs.Keyed.{rules_of};
+ghost use Rattle.slt_grammar.specs.Ranks.{greatest_rank};
 ghost use Rattle.slt_grammar.specs.RuleValues.{HaveOtherValues};
 ghost use Rattle.start_fronts.specs.Before.{KeepsBefore};
 ghost use Rattle.start_fronts.specs.Moved.{MovesBefore};
@@ -45,6 +46,7 @@ pub fn lift_node<L: Ledger>(
     ensures others { DifferInStart grammar.old.rules grammar.new.rules }
     ensures most { size (rules_of grammar.new.rules) + real_nodes (start_body (rules_of grammar.old.rules)) ≤ 2 * size (rules_of grammar.old.rules) }
     ensures size { size (rules_of grammar.new.rules) ≤ 2 * size (rules_of grammar.old.rules) }
+    ensures ranks { greatest_rank (rules_of grammar.new.rules) ≤ greatest_rank (rules_of grammar.old.rules) }
     ensures index { IsIndexOf grammar.new index.new }
     ensures spare_nodes { grammar.old.spare_nodes ≤ grammar.new.spare_nodes + room_along grammar.old.rules spot.now.levels.items }
     ensures spare_rules { grammar.new.spare_rules ≡ grammar.old.spare_rules }
@@ -78,6 +80,7 @@ pub(crate) fn lift_along<W: Way, L: Ledger>(
     ensures values { HaveOtherValues (length (rules_of grammar.old.rules) - 1) (rules_of grammar.old.rules) (rules_of grammar.new.rules) }
     ensures others { DifferInStart grammar.old.rules grammar.new.rules }
     ensures most { size (rules_of grammar.new.rules) + real_nodes (start_body (rules_of grammar.old.rules)) ≤ 2 * size (rules_of grammar.old.rules) }
+    ensures ranks { greatest_rank (rules_of grammar.new.rules) ≤ greatest_rank (rules_of grammar.old.rules) }
     ensures index { IsIndexOf grammar.new index.new }
     ensures spare_nodes { grammar.old.spare_nodes ≤ grammar.new.spare_nodes + room_along grammar.old.rules (W.levels way grammar.old.rules) }
     ensures spare_rules { grammar.new.spare_rules ≡ grammar.old.spare_rules }
@@ -115,6 +118,7 @@ pub fn relabel_node<L: Ledger>(
         → GetsSymbol (rules_of grammar.old.rules) (rules_of grammar.new.rules) number symbol }
     ensures values { HaveOtherValues (length (rules_of grammar.old.rules) - 1) (rules_of grammar.old.rules) (rules_of grammar.new.rules) }
     ensures size { size (rules_of grammar.new.rules) ≤ 2 * size (rules_of grammar.old.rules) }
+    ensures ranks { greatest_rank (rules_of grammar.new.rules) ≤ greatest_rank (rules_of grammar.old.rules) }
     ensures index { IsIndexOf grammar.new index.new }
     ensures spare_nodes { grammar.old.spare_nodes ≤ grammar.new.spare_nodes + room_along grammar.old.rules spot.now.levels.items }
     ensures spare_rules { grammar.new.spare_rules ≡ grammar.old.spare_rules }
@@ -153,6 +157,7 @@ pub fn wrap_node<L: Ledger>(
         → (C : IsCodeOf others F body.now) → GetsBefore (rules_of grammar.old.rules) (rules_of grammar.new.rules) number C.front }
     ensures values { HaveOtherValues (length (rules_of grammar.old.rules) - 1) (rules_of grammar.old.rules) (rules_of grammar.new.rules) }
     ensures size { size (rules_of grammar.new.rules) ≤ 2 * size (rules_of grammar.old.rules) + real_nodes body.now }
+    ensures ranks { greatest_rank (rules_of grammar.new.rules) ≤ greatest_rank (rules_of grammar.old.rules) }
     ensures index { IsIndexOf grammar.new index.new }
     ensures spare_rules { grammar.new.spare_rules ≡ grammar.old.spare_rules }
     ensures limit { grammar.new.limit ≡ grammar.old.limit }

@@ -6,6 +6,7 @@ ghost use Rattle.plain_tree.specs.declared.edit.Edit.TheVariants.{Insert};
 ghost use Rattle.plain_tree.specs.declared.kind.Kind.{Kind};
 ghost use Rattle.slt_grammar.specs.Grammars.{size};
 ghost use Rattle.slt_grammar.specs.Keyed.{rules_of};
+ghost use Rattle.slt_grammar.specs.Ranks.{greatest_rank};
 ghost use Rattle.start_fronts.specs.Moved.{MovesBefore};
 ghost use Rattle.segment_counts.specs.Weights.{node_weight};
 ghost use Rattle.preorder_address.specs.Spots.{IsSpot};
@@ -44,6 +45,7 @@ pub(crate) fn join_three<L: Ledger>(
     ensures texts { OnErr result (store.new.texts.texts ≡ store.old.texts.texts) }
     ensures names { store.new.names ≡ store.old.names }
     ensures size { OnOk result (size (rules_of store.new.grammar.rules) ≤ 2 * size (rules_of store.old.grammar.rules)) }
+    ensures ranks { OnOk result (greatest_rank (rules_of store.new.grammar.rules) ≤ greatest_rank (rules_of store.old.grammar.rules)) }
     ensures moves { OnOk result (MovesBefore node_weight (first_keys spot.now.levels.items) number store.old.grammar.rules store.new.grammar.rules) }
 {
     // The call tells what is true of every grammar.

@@ -4,6 +4,7 @@ ghost use Rattle.plain_tree.specs.declared.kind.Kind.{Kind};
 ghost use Rattle.plain_tree.specs.Tree.{Tree};
 ghost use Rattle.slt_grammar.specs.Grammars.{size, value, IsSwept};
 ghost use Rattle.slt_grammar.specs.Keyed.{rules_of};
+ghost use Rattle.slt_grammar.specs.Ranks.{greatest_rank};
 ghost use Rattle.start_fronts.specs.Before.{KeepsBefore};
 ghost use Rattle.digram_index.specs.Linked.{IsIndexOf};
 ghost use Rattle.segment_counts.specs.Counting.{AreCounts};
@@ -26,6 +27,7 @@ pub fn sweep_uncalled(grammar: &mut Grammar, index: &mut Index, counts: &mut Cou
     ensures swept { IsSwept (rules_of grammar.new.rules) }
     ensures value { value (rules_of grammar.new.rules) ≡ value (rules_of grammar.old.rules) }
     ensures size { size (rules_of grammar.new.rules) ≤ size (rules_of grammar.old.rules) }
+    ensures ranks { greatest_rank (rules_of grammar.new.rules) ≤ greatest_rank (rules_of grammar.old.rules) }
     ensures rules { length grammar.new.rules ≤ length grammar.old.rules }
     ensures index { IsIndexOf grammar.new index.new }
     ensures counts { (names : List (Kind × List ℕ)) → AreCounts names (rules_of grammar.old.rules) counts.old → AreCounts names (rules_of grammar.new.rules) counts.new }
@@ -57,6 +59,7 @@ pub(crate) fn sweep(store: &mut Store)
     ensures store { (t : Tree) → IsUnsweptFor store.old t → IsStoreFor store.new t }
     ensures names { store.new.names ≡ store.old.names }
     ensures size { size (rules_of store.new.grammar.rules) ≤ size (rules_of store.old.grammar.rules) }
+    ensures ranks { greatest_rank (rules_of store.new.grammar.rules) ≤ greatest_rank (rules_of store.old.grammar.rules) }
     ensures value { value (rules_of store.new.grammar.rules) ≡ value (rules_of store.old.grammar.rules) }
     ensures before { KeepsBefore [] store.old.grammar.rules store.new.grammar.rules }
     ensures marks { (names : List (Kind × List ℕ)) (marks : List Mark) → AreMarks names store.old.grammar.rules marks → AreMarks names store.new.grammar.rules marks }

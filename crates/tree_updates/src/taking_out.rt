@@ -8,6 +8,7 @@ ghost use Rattle.slt_grammar.specs.Bodies.{real_nodes};
 ghost use Rattle.slt_grammar.specs.ChangedValues.{start_body};
 ghost use Rattle.slt_grammar.specs.Grammars.{size};
 ghost use Rattle.slt_grammar.specs.Keyed.{KeyedRule, rules_of};
+ghost use Rattle.slt_grammar.specs.Ranks.{greatest_rank};
 ghost use Rattle.slt_grammar.specs.Segments.{preorder};
 ghost use Rattle.start_fronts.specs.Moved.{MovesBefore};
 ghost use Rattle.segment_counts.specs.Counting.{AreCounts};
@@ -50,6 +51,7 @@ pub(crate) fn take_out<L: Ledger>(
     ensures others { DifferInStart store.old.grammar.rules store.new.grammar.rules }
     ensures most { size (rules_of store.new.grammar.rules) + real_nodes (start_body (rules_of store.old.grammar.rules)) ≤ 2 * size (rules_of store.old.grammar.rules) }
     ensures size { size (rules_of store.new.grammar.rules) ≤ 2 * size (rules_of store.old.grammar.rules) }
+    ensures ranks { greatest_rank (rules_of store.new.grammar.rules) ≤ greatest_rank (rules_of store.old.grammar.rules) }
     ensures spare_nodes { store.old.grammar.spare_nodes ≤ store.new.grammar.spare_nodes + room_along store.old.grammar.rules spot.now.levels.items }
     ensures links { store.old.index.spare_links ≤ store.new.index.spare_links + (room_along store.old.grammar.rules spot.now.levels.items + 1) }
     ensures cells { store.new.grammar.limit ≤ length store.new.index.cells }
@@ -80,6 +82,7 @@ pub(crate) fn take_out_located<L: Ledger>(
     ensures store { (t : Tree) → IsUnsweptFor store.old t → IsExtentOf t number extent → LeavesDocument t (Delete number) → IsUnsweptFor store.new (placed t (Delete number)) }
     ensures names { store.new.names ≡ store.old.names }
     ensures most { size (rules_of store.new.grammar.rules) + real_nodes (start_body (rules_of store.old.grammar.rules)) ≤ 2 * size (rules_of store.old.grammar.rules) }
+    ensures ranks { greatest_rank (rules_of store.new.grammar.rules) ≤ greatest_rank (rules_of store.old.grammar.rules) }
     ensures marks { AreMarks store.old.names store.new.grammar.rules marks.new }
 {
     // The call tells what is true of every grammar.

@@ -99,7 +99,7 @@ returns-clause-applies g c =
     let site = c.requires.site t (coded s t (unswept s t i)) in
     let store = c.in_ok-grow.ensures.grown t (placed t (Append n F)) (all-named s t i (Append n F) edit G names come) (apart-grows t n F edit names c.in_ok-count.count size c.args.site site c.in_ok-growth.growth x few) in
     edited-named s t i (Append n F) edit G new grown (subst (IsStoreFor new) (sym same) store)
-    (omega (arith, c.in_ok-grow.ensures.size, real-fragment names F c.in_ok-count.count c.args.site c.in_ok-growth.growth x))
+    (omega (arith, c.in_ok-grow.ensures.size, real-fragment names F c.in_ok-count.count c.args.site c.in_ok-growth.growth x)) c.in_ok-grow.ensures.ranks
 
 pub returns-in_err-count-clause-applies : goal.returns-in_err-count-clause-applies
 returns-in_err-count-clause-applies g c =

@@ -127,6 +127,7 @@ returns-clause-applies g c =
     let kept = subst (λ (ns : List Pair). Interns s.names (pairs_of_trees (trees F)) ns) (sym c.grow_joined.ensures.names) grown in
     edited-named s t i (Append n F) edit G new kept (c.in_ok-grow_joined.ensures.grown t (placed t (Value last (M.before ++ M.first))) (edited t (Append n F)) again joined grows)
     (omega (arith, c.in_ok-grow_joined.ensures.size, real-fragment names M.others c.in_ok-count.count c.args.site c.in_ok-growth.growth x, ap (λ (ts : List Tree). node_count_all (trees ts)) M.begins))
+    c.in_ok-grow_joined.ensures.ranks
 
 pub returns-clause-moves : goal.returns-clause-moves
 returns-clause-moves g c =

@@ -80,7 +80,7 @@ returns-clause-applies g c =
     let few : node_count t + 1 < 2 ^ 63 = omega (arith, c.if-total.false, c.total.ensures.kept, total) in
     edited-named s t i (Attr n x w) edit G new grown
     (c.in_ok-grow.ensures.grown t (edited t (Attr n x w)) (all-named s t i (Attr n x w) edit G names c.in_ok-growth.ensures.grown) (attribute-grows t n x w edit names c.args.site h c.in_ok-growth.growth k few))
-    (omega (arith, c.in_ok-grow.ensures.size, ap real_nodes k.body.2))
+    (omega (arith, c.in_ok-grow.ensures.size, ap real_nodes k.body.2)) c.in_ok-grow.ensures.ranks
 
 pub returns-clause-moves : goal.returns-clause-moves
 returns-clause-moves g c =

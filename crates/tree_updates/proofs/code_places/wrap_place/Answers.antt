@@ -4,6 +4,7 @@ use Rattle.slt_grammar.proofs.KeyedLemmas.{length-rules_of}
 use Rattle.tree_updates.proofs.InStart.{others-stay, same-value}
 use Rattle.tree_updates.proofs.IsolatedPlaces.{around-place, body-wraps, place-in-start}
 use Rattle.tree_updates.specs.Fronts.{first_keys}
+use Rattle.tree_updates.proofs.KeptRanks.{ranks-in-start, ranks-wrapped}
 use Rattle.tree_updates.proofs.MovedMarks.{moves-place}
 use Rattle.tree_updates.proofs.code_places.wrap_place.Goals as goal
 
@@ -61,3 +62,15 @@ returns-clause-moves g c = λ n l.
     let v = same-value (rules_of G) (rules_of h.rules) (length-rules_of h.rules ∙ E.others.many ∙ sym (length-rules_of G)) E.values in
     moves-place G (first_keys (g.W.Way.levels c.args.way G)) h c.limit-limit.ensures.keyed n c.isolate_place-at.result I v E.before c.wrap_linked.new.grammar c.limit-after.ensures.keyed body
     (body-wraps (rules_of h.rules) b.0 body b.1) b.1.last b.1.plain (c.wrap_linked.ensures.rules (place-in-start h.rules n c.isolate_place-at.result I))
+
+pub returns-clause-ranks : goal.returns-clause-ranks
+returns-clause-ranks g c =
+    let r = c.requires.leads in
+    let E = c.isolate_place-at.ensures in
+    let h = c.isolate_place-at.new.grammar in
+    let S = place-in-start h.rules r.0 c.isolate_place-at.result (E.isolated r.0 r.1) in
+    omega (
+      arith,
+      ranks-in-start c.args.grammar.now.rules h.rules E.others c.limit-limit.ensures.keyed.grammar,
+      ranks-wrapped h.rules c.wrap_linked.new.grammar.rules S.here.rule S.here.place c.isolate_place-at.result c.args.body.now (c.wrap_linked.ensures.rules S),
+    )

@@ -60,7 +60,7 @@ returns-in_ok-copy_alone-clause-applies g c = λ t i allowed other.
     let n = c.args.number in
     let X = c.in_ok-extent.ensures.extent t (coded s t (unswept s t i)) in
     let M = may-copy t i.stand.document n allowed other c.in_ok-extent.extent X (omega (arith, c.if-extent-total.false, c.total.ensures.kept, total-is s t i c.limit-limit.ensures.keyed.grammar)) in
-    copy-made s c.copy_alone.new.store t n i.stand.document allowed other (c.in_ok-copy_alone.ensures.store t i M) c.copy_alone.ensures.names c.in_ok-copy_alone.ensures.size
+    copy-made s c.copy_alone.new.store t n i.stand.document allowed other (c.in_ok-copy_alone.ensures.store t i M) c.copy_alone.ensures.names c.in_ok-copy_alone.ensures.size c.in_ok-copy_alone.ensures.ranks
 
 pub returns-in_err-copy_whole-clause-applies : goal.returns-in_err-copy_whole-clause-applies
 returns-in_err-copy_whole-clause-applies g c =
@@ -74,7 +74,7 @@ returns-in_ok-copy_whole-clause-applies g c = λ t i allowed other.
     let n = c.args.number in
     let X = c.in_ok-extent.ensures.extent t (coded s t (unswept s t i)) in
     let M = may-copy t i.stand.document n allowed other c.in_ok-extent.extent X (omega (arith, c.if-extent-total.false, c.total.ensures.kept, total-is s t i c.limit-limit.ensures.keyed.grammar)) in
-    copy-made s c.copy_whole.new.store t n i.stand.document allowed other (c.in_ok-copy_whole.ensures.store t i M) c.copy_whole.ensures.names c.in_ok-copy_whole.ensures.size
+    copy-made s c.copy_whole.new.store t n i.stand.document allowed other (c.in_ok-copy_whole.ensures.store t i M) c.copy_whole.ensures.names c.in_ok-copy_whole.ensures.size c.in_ok-copy_whole.ensures.ranks
 
 pub returns-in_err-copy_alone-clause-marks : goal.returns-in_err-copy_alone-clause-marks
 returns-in_err-copy_alone-clause-marks g c =

@@ -5,6 +5,7 @@ use Rattle.slt_grammar.specs.Keyed.{KeyedRule, rules_of}
 use Rattle.slt_grammar.specs.Wrapping.{IsInStart}
 use Rattle.tree_updates.proofs.SharedBelow.{child-in-start, child-there, ends, shared-start, shares, stays-there, wraps}
 use Rattle.tree_updates.proofs.Fronts.{front-shared}
+use Rattle.tree_updates.proofs.KeptRanks.{ranks-in-start, ranks-shared, ranks-wrapped}
 use Rattle.tree_updates.proofs.copying_code.wrap_shared.Goals as goal
 
 pub following-requires : goal.following-requires
@@ -139,3 +140,27 @@ returns-clause-front g c =
     let more = c.share_linked-call.ensures.values in
     let there : IsInStart S at = record { here = record { rule = length S - 1; place = I.place; there = stays-there H L r.1 at I S L' call new more }; start = shared-start H L r.1 at I S L' call new more } in
     front-shared c.args.spot.now.levels.items G h K at E.others.many E.front I.place I.there c.unwrap-child.result call next S c.wrap_linked.new.grammar.rules more new c.wrap_linked.ensures.values (c.wrap_linked.ensures.front there)
+
+pub returns-clause-ranks : goal.returns-clause-ranks
+returns-clause-ranks g c =
+    let r = c.requires.spot in
+    let E = c.isolate_node-at.ensures in
+    let H : List KeyedRule = c.isolate_node-at.new.grammar.rules in
+    let S : List KeyedRule = c.share_linked-call.new.grammar.rules in
+    let K = c.limit-apart.ensures.keyed in
+    let K' = c.limit-shared.ensures.keyed in
+    let L : IsLawful H = record { grammar = K.grammar; arities = K.arities } in
+    let L' : IsLawful S = record { grammar = K'.grammar; arities = K'.arities } in
+    let at = c.isolate_node-at.result in
+    let I = E.node r.0 r.1 r.2 in
+    let next = c.following.ensures (length H - 1) I.place I.there ∙ c.unwrap-child.ensures in
+    let new = c.share_linked-call.ensures.rules (record { rule = length H - 1; place = I.place + 1; there = next }) in
+    let call = c.share_linked-call.result in
+    let more = c.share_linked-call.ensures.values in
+    let there : IsInStart S at = record { here = record { rule = length S - 1; place = I.place; there = stays-there H L r.1 at I S L' call new more }; start = shared-start H L r.1 at I S L' call new more } in
+    omega (
+      arith,
+      ranks-in-start c.args.grammar.now.rules H E.others K.grammar,
+      ranks-shared H S (length H - 1) (I.place + 1) call new,
+      ranks-wrapped S c.wrap_linked.new.grammar.rules (length S - 1) I.place at c.args.body.now (c.wrap_linked.ensures.rules there),
+    )

@@ -3,6 +3,7 @@ use Rattle.plain_tree.specs.declared.edit.Edit.TheVariants.{Delete}
 use Rattle.plain_tree.specs.Edits.{merged}
 use Rattle.slt_grammar.specs.Grammars.{size}
 use Rattle.slt_grammar.specs.Keyed.{KeyedRule, rules_of}
+use Rattle.slt_grammar.specs.Ranks.{greatest_rank}
 use Rattle.tree_updates.specs.Stores.{IsStoreFor}
 use Rattle.tree_updates.proofs.LeavingDocuments.{doubled, leaves, unswept}
 use Rattle.plain_tree.specs.NodePairs.{Pair}
@@ -32,6 +33,7 @@ returns-clause-applies g c = λ t s allowed x same.
       allowed = allowed;
       store = subst (IsStoreFor c.delete_plain.new.store) (sym same) (c.delete_plain.ensures.store t kept x (leaves t s.stand.document (Delete c.args.number) allowed tt));
       names = c.delete_plain.ensures.names ∙ c.reserve_at.ensures.names;
+      ranks = omega (arith, c.delete_plain.ensures.ranks, ap (λ (G : List KeyedRule). greatest_rank (rules_of G)) c.reserve_at.ensures.rules);
       size = doubled (size (rules_of c.args.store.now.grammar.rules)) (size (rules_of c.delete_plain.new.store.grammar.rules)) (merged t (Delete c.args.number))
           (omega (arith, c.delete_plain.ensures.size, ap (λ (G : List KeyedRule). size (rules_of G)) c.reserve_at.ensures.rules));
     }

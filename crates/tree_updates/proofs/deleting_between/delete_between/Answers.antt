@@ -7,6 +7,7 @@ use Rattle.plain_tree.specs.Edits.{merged, placed}
 use Rattle.plain_tree.specs.Tree.{Tree}
 use Rattle.slt_grammar.specs.Grammars.{size}
 use Rattle.slt_grammar.specs.Keyed.{KeyedRule, rules_of}
+use Rattle.slt_grammar.specs.Ranks.{greatest_rank}
 use Rattle.text_list.specs.RoomyTexts.{RoomyTexts}
 use Rattle.plain_tree.specs.NodePairs.{Pair}
 use Rattle.preorder_address.specs.Marks.{AreMarks, MarksFirst}
@@ -186,6 +187,7 @@ returns-clause-applies g c =
       allowed = allowed;
       store = subst (IsStoreFor c.sweep.new.store) (sym S.edited_is) (c.sweep.ensures.store (placed T (Delete n)) z);
       names = c.sweep.ensures.names ∙ c.take_out_located.ensures.names ∙ c.take_out.ensures.names ∙ c.reserve_twice.ensures.names;
+      ranks = omega (arith, c.sweep.ensures.ranks, c.take_out_located.ensures.ranks, c.take_out.ensures.ranks, ap (λ (R : List KeyedRule). greatest_rank (rules_of R)) e);
       size = tripled (size (rules_of c.args.store.now.grammar.rules)) (size (rules_of c.sweep.new.store.grammar.rules)) (merged t (Delete n)) S.one_merged
           (omega (arith, tripled-size, c.sweep.ensures.size, ap (λ (R : List KeyedRule). size (rules_of R)) e));
     }

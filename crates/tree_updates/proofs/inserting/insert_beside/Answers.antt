@@ -6,13 +6,14 @@ use Rattle.plain_tree.specs.NodePairs.{Pair, pairs_of_trees}
 use Rattle.plain_tree.specs.Tree.{none, more, trees, node_count_all}
 use Rattle.slt_grammar.specs.Grammars.{size}
 use Rattle.slt_grammar.specs.Keyed.{Keyed, KeyedRule, rules_of}
+use Rattle.slt_grammar.specs.Ranks.{greatest_rank}
 use Rattle.slt_grammar.specs.declared.level.Level.{Level}
 use Rattle.text_list.specs.RoomyTexts.{RoomyTexts}
 use Rattle.fcns_encoding.specs.Interning.{Interns}
 use Rattle.preorder_address.specs.Spots.{IsSpot}
 use Rattle.tree_updates.specs.declared.store.EditError.TheVariants.{Memory}
 use Rattle.tree_updates.proofs.CodeBodies.{code-real}
-use Rattle.tree_updates.proofs.InsertedEdits.{doubled-more, may-insert, refused-coded, too-many}
+use Rattle.tree_updates.proofs.InsertedEdits.{doubled-more, may-insert, refused-coded, refused-some, too-many}
 use Rattle.tree_updates.proofs.NodeExtents.{spot-low}
 use Rattle.tree_updates.proofs.Ranks.{rank-told}
 use Rattle.tree_updates.proofs.SpareNodes.{insert-some}
@@ -88,6 +89,7 @@ returns-clause-applies g c = λ t i allowed.
       allowed = allowed;
       store = c.in_ok-put_fragment.ensures.store t F (c.encode_in.ensures.store t i) come;
       names = subst (λ (ps : List Pair). Interns s.names (pairs_of_trees (trees F)) ps) (sym c.put_fragment.ensures.names) c.in_ok-coded.ensures.names;
+      ranks = omega (arith, c.in_ok-put_fragment.ensures.ranks, ap (λ (k : Keyed). greatest_rank (rules_of k.rules)) c.encode_in.ensures.grammar);
       size = doubled-more (size (rules_of s.grammar.rules)) (size (rules_of c.put_fragment.new.store.grammar.rules)) (merged t (Insert n F)) (2 * node_count_all (trees F))
           (omega (arith, c.in_ok-put_fragment.ensures.size, code-real c.encode_in.new.store.names F coded.body c.in_ok-coded.ensures.code, ap (λ (k : Keyed). size (rules_of k.rules)) c.encode_in.ensures.grammar));
     }
@@ -123,3 +125,12 @@ returns-clause-marks g c =
       c.whole_weights-had.ensures s.names s.grammar.rules r.1.counts lawful,
       subst (λ (ns : List Pair). AreCounts ns (rules_of H) after.counts) none stored.counts,
     ))
+
+pub returns-in_err-coded-clause-applies : goal.returns-in_err-coded-clause-applies
+returns-in_err-coded-clause-applies g c =
+    let s = c.args.store.now in
+    let k = c.in_err-coded.ensures.refused in
+    let p = err_from_is_err_and c.from_residual-in_err-coded.result c.from_residual-in_err-coded.ensures.1 in
+    rw (p.1, p.2) (λ t i allowed.
+    refused-some s t i c.args.number c.args.fragment.now allowed c.requires.fragment c.encode_in.new.store k.0 k.1 (c.encode_in.ensures.store t i) (ap (λ (h : Keyed). rules_of h.rules) c.encode_in.ensures.grammar)
+    (ap (λ (x : RoomyTexts). x.texts) c.encode_in.ensures.texts))

@@ -4,6 +4,7 @@ use Rattle.slt_grammar.proofs.KeyedLemmas.{length-rules_of}
 use Rattle.tree_updates.proofs.InStart.{differ-number, in-start, lifted-others, others-stay, same-value}
 use Rattle.tree_updates.specs.Fronts.{first_keys}
 use Rattle.tree_updates.proofs.Fronts.{front-replaced}
+use Rattle.tree_updates.proofs.KeptRanks.{ranks-in-start, ranks-with-nodes}
 use Rattle.tree_updates.proofs.MovedMarks.{moves-lifted-out}
 use Rattle.slt_grammar.specs.declared.level.Level.{Level}
 use Rattle.tree_updates.proofs.isolating.lift_along.Goals as goal
@@ -71,3 +72,15 @@ returns-clause-moves g c = λ n l.
     let v = same-value (rules_of G) (rules_of h.rules) (length-rules_of h.rules ∙ E.others.many ∙ sym (length-rules_of G)) E.values in
     moves-lifted-out G (first_keys (g.W.Way.levels c.args.way G)) h c.limit-limit.ensures.keyed n c.isolate_along-at.result I v E.before c.lift_linked.new.grammar c.limit-after.ensures.keyed
     (c.lift_linked.ensures.rules (in-start h.rules n c.isolate_along-at.result I).node.here)
+
+pub returns-clause-ranks : goal.returns-clause-ranks
+returns-clause-ranks g c =
+    let r = c.requires.leads in
+    let E = c.isolate_along-at.ensures in
+    let h = c.isolate_along-at.new.grammar in
+    let S = in-start h.rules r.0 c.isolate_along-at.result (E.node r.0 r.1) in
+    omega (
+      arith,
+      ranks-in-start c.args.grammar.now.rules h.rules E.others c.limit-limit.ensures.keyed.grammar,
+      ranks-with-nodes h.rules c.lift_linked.new.grammar.rules S.node.here.rule _ (c.lift_linked.ensures.rules S.node.here),
+    )

@@ -4,6 +4,7 @@ use Rattle.slt_grammar.proofs.KeyedLemmas.{length-rules_of}
 use Rattle.tree_updates.proofs.InStart.{differ-number, in-start, others-stay, same-value}
 use Rattle.tree_updates.specs.Fronts.{first_keys}
 use Rattle.tree_updates.proofs.Fronts.{front-relabelled}
+use Rattle.tree_updates.proofs.KeptRanks.{ranks-in-start, ranks-with-nodes}
 use Rattle.tree_updates.proofs.MovedMarks.{moves-renamed}
 use Rattle.tree_updates.proofs.isolating.relabel_node.Goals as goal
 
@@ -63,3 +64,15 @@ returns-clause-moves g c = λ names n s.
     let v = same-value (rules_of G) (rules_of h.rules) (length-rules_of h.rules ∙ E.others.many ∙ sym (length-rules_of G)) E.values in
     moves-renamed G (first_keys c.args.spot.now.levels.items) h c.limit-limit.ensures.keyed n c.isolate_node-at.result I v E.before c.relabel_linked.new.grammar c.limit-after.ensures.keyed c.args.symbol
     (c.relabel_linked.ensures.rules (in-start h.rules n c.isolate_node-at.result I).node.here)
+
+pub returns-clause-ranks : goal.returns-clause-ranks
+returns-clause-ranks g c =
+    let r = c.requires.spot in
+    let E = c.isolate_node-at.ensures in
+    let h = c.isolate_node-at.new.grammar in
+    let S = in-start h.rules r.1 c.isolate_node-at.result (E.node r.0 r.1 r.2) in
+    omega (
+      arith,
+      ranks-in-start c.args.grammar.now.rules h.rules E.others c.limit-limit.ensures.keyed.grammar,
+      ranks-with-nodes h.rules c.relabel_linked.new.grammar.rules S.node.here.rule _ (c.relabel_linked.ensures.rules S.node.here),
+    )

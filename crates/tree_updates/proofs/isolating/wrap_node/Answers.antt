@@ -6,6 +6,7 @@ use Rattle.tree_updates.proofs.InStart.{others-stay, same-value}
 use Rattle.tree_updates.proofs.WrappedNodes.{gets-before, in-start-rule}
 use Rattle.tree_updates.specs.Fronts.{first_keys}
 use Rattle.tree_updates.proofs.Fronts.{front-wrapped}
+use Rattle.tree_updates.proofs.KeptRanks.{ranks-in-start, ranks-wrapped}
 use Rattle.tree_updates.proofs.MovedMarks.{moves-wrapped-around}
 use Rattle.tree_updates.proofs.isolating.wrap_node.Goals as goal
 
@@ -67,3 +68,15 @@ returns-clause-moves g c = λ names n s.
     let v = same-value (rules_of G) (rules_of h.rules) (length-rules_of h.rules ∙ E.others.many ∙ sym (length-rules_of G)) E.values in
     moves-wrapped-around G (first_keys c.args.spot.now.levels.items) h c.limit-limit.ensures.keyed n c.isolate_node-at.result I v E.before c.wrap_linked.new.grammar c.limit-after.ensures.keyed body
     (code-wrapper b.0 b.1 body b.2 (rules_of h.rules)) (code-last b.0 b.1 body b.2) (code-plain b.0 b.1 body b.2) (c.wrap_linked.ensures.rules (in-start-rule h.rules n c.isolate_node-at.result I))
+
+pub returns-clause-ranks : goal.returns-clause-ranks
+returns-clause-ranks g c =
+    let r = c.requires.spot in
+    let E = c.isolate_node-at.ensures in
+    let h = c.isolate_node-at.new.grammar in
+    let S = in-start-rule h.rules r.1 c.isolate_node-at.result (E.node r.0 r.1 r.2) in
+    omega (
+      arith,
+      ranks-in-start c.args.grammar.now.rules h.rules E.others c.limit-limit.ensures.keyed.grammar,
+      ranks-wrapped h.rules c.wrap_linked.new.grammar.rules S.here.rule S.here.place c.isolate_node-at.result c.args.body.now (c.wrap_linked.ensures.rules S),
+    )

@@ -2,6 +2,7 @@ use Rattle.std.proofs.Common.{◌≡◌, ◌-◌, ℕ, List, [], ◌∷◌, leng
 use Rattle.std.proofs.lemmas.Result.{err_from_is_err_and}
 use Rattle.slt_grammar.specs.Grammars.{size}
 use Rattle.slt_grammar.specs.Keyed.{KeyedRule, rules_of}
+use Rattle.slt_grammar.specs.Ranks.{greatest_rank}
 use Rattle.slt_grammar.specs.RuleValues.{HaveOtherValues}
 use Rattle.slt_grammar.specs.declared.level.Level.{Level}
 use Rattle.slt_grammar.specs.declared.rules.Rule.{Rule}
@@ -71,6 +72,7 @@ returns-clause-applies g c =
     let counts = counts-after s t i n x c.requires.name allowed a.kind kind c.intern.new.self grown lawful H c.in_ok-symbol.symbol c.in_ok-symbol.ensures.place gets others in
     renamed-store s t i n x c.requires.name allowed a.kind kind c.intern.new.self grown lawful H c.in_ok-symbol.symbol c.in_ok-symbol.ensures.place gets c.sweep_uncalled.new.grammar c.sweep_uncalled.new.index c.sweep_uncalled.new.counts
     w.value w.swept (w.counts c.intern.new.self counts) w.index (omega (arith, w.size, c.relabel_node.ensures.size, ap (λ (R : List KeyedRule). size (rules_of R)) same))
+    (omega (arith, w.ranks, c.relabel_node.ensures.ranks, ap (λ (R : List KeyedRule). greatest_rank (rules_of R)) same))
 
 pub returns-in_err-make_room-clause-marks : goal.returns-in_err-make_room-clause-marks
 returns-in_err-make_room-clause-marks g c =

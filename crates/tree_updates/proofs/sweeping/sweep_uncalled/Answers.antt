@@ -1,8 +1,10 @@
 use Rattle.std.proofs.Common.{◌≡◌, ◌∙◌, ◌+◌, ◌-◌, ◌<◌, ℕ, List, [], length, ap, sym, refl, subst, arith}
 use Rattle.slt_grammar.specs.Grammars.{calls_of}
 use Rattle.slt_grammar.specs.Keyed.{KeyedRule, rules_of}
+use Rattle.slt_grammar.specs.Ranks.{greatest_rank}
 use Rattle.slt_grammar.proofs.KeyedLemmas.{length-rules_of}
 use Rattle.slt_grammar.proofs.KeyedRemovals.{called-on}
+use Rattle.slt_grammar.proofs.RankBounds.{rank-dropped}
 use Rattle.start_fronts.specs.Before.{KeepsBefore}
 use Rattle.start_fronts.proofs.Composing.{keeps-all, keeps-both}
 use Rattle.start_fronts.proofs.Renumbered.{keeps-dropping}
@@ -18,6 +20,7 @@ loop-rule-init c =
       index = c.requires.index;
       value = refl;
       size = omega arith;
+      ranks = omega arith;
       fewer = omega arith;
       some = omega (arith, s, v, n);
       called = λ q h k. absurd (omega (arith, v, n, s, h, k));
@@ -53,6 +56,7 @@ loop-rule-preserved-then-calls-eq0 c =
       index = E.index;
       value = E.value ∙ I.value;
       size = omega (arith, I.size, E.size);
+      ranks = omega (arith, I.ranks, rank-dropped c.loop-rule.grammar.rules p, ap (λ (G : List KeyedRule). greatest_rank (rules_of G)) e);
       fewer = omega (arith, I.fewer, E.values.more, length-rules_of c.loop-rule.grammar.rules, length-rules_of c.drop_linked.new.grammar.rules);
       some = omega (arith, w.0, ap length e, h);
       called = λ q k l. subst (λ (G : List KeyedRule). 0 < calls_of (rules_of G) q) (sym e) (w.1 q k (omega (arith, l, ap length e)));

@@ -26,7 +26,8 @@ module _ {S D : Type 0} (A : Algebra S) (W : Downward S D) (G : List Rule) (g : 
   rank-made : (i : ℕ) (k : RuleStates S) (d : D) → slice_get ts i ≡ Some (k, d) → get_or (ranks_of H) i 0 ≡ kept_count R (handed A W (value_at G k.0) k.1 d)
   rank-made i k d at = rank_at-ranks_of H i ∙ (m.each i k d at).rank
 
-  small-made : (i : ℕ) (k : RuleStates S) (d : D) → slice_get ts i ≡ Some (k, d) → rank_at H i ≤ rank_at G k.0
+  -- they have no more parameters than those that they are made of
+  pub small-made : (i : ℕ) (k : RuleStates S) (d : D) → slice_get ts i ≡ Some (k, d) → rank_at H i ≤ rank_at G k.0
   small-made i k d at =
       let made = m.each i k d at in
       omega (arith, made.rank, kept_count-most R (handed A W (value_at G k.0) k.1 d), length-handed-value A W G g k made.pair d)

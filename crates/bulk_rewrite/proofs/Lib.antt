@@ -26,5 +26,6 @@ pub mod FirstFound
 pub mod LackingKinds
 pub mod FirstLacking
 pub mod DeletingAll
+pub mod MadeRanks
 pub mod Tags
 pub mod Redone

@@ -30,6 +30,7 @@ use Rattle.bulk_rewrite.specs.RenamedAll.{taken_nodes, nodes_with, MayRename, re
 use Rattle.bulk_rewrite.specs.Renaming.{renaming, renamed_all}
 use Rattle.bulk_rewrite.specs.Rewriting.{Rewriting, IsLawful, rewritten}
 use Rattle.bulk_rewrite.proofs.Bodies.{made-few}
+use Rattle.bulk_rewrite.proofs.Grammars.{small-made}
 use Rattle.bulk_rewrite.proofs.GrowingNames.{interns-in, pair_with}
 use Rattle.bulk_rewrite.proofs.HitSymbols.{Each, IsOf, each-hit, hit-each, hit_symbols, hits-coded, taken-append}
 use Rattle.bulk_rewrite.proofs.Spared.{refuses-none, none-where-allowed}
@@ -170,4 +171,5 @@ few-made A W G gr R law H once = record {
   met = once.met;
   distinct = once.distinct;
   small = λ i k d at. let one = once.made.each i k d at in (made-few A W G (linear G gr) R law (take i once.triples) (body_at G k.0) k.1 (d ∷ []) (body_at H i) one.body).1;
+  ranks = λ i k d at. small-made A W G gr R law once.triples H once.made i k d at;
 }

@@ -5,7 +5,7 @@ use Rattle.rule_arena.specs.declared.label.Label.TheVariants.{Bottom, Symbol, Ca
 use Rattle.slt_grammar.specs.Algebras.{Algebra}
 use Rattle.slt_grammar.specs.Automata.{Downward, handed}
 use Rattle.slt_grammar.specs.Bodies.{real_nodes}
-use Rattle.slt_grammar.specs.Grammars.{body_at, value_at, no_rule}
+use Rattle.slt_grammar.specs.Grammars.{body_at, rank_at, value_at, no_rule}
 use Rattle.slt_grammar.specs.declared.rules.Rule.{Rule}
 use Rattle.rule_runs.specs.Reached.{RuleStates, Falls, states_of}
 use Rattle.rule_runs.specs.Risen.{IsPair}
@@ -75,10 +75,11 @@ module _ {S D : Type 0} (A : Algebra S) (W : Downward S D) (G : List Rule) (R : 
     pub start : (before : List (RuleStates S × D)) × (triples ≡ before ++ ((length G - 1, []), W.start) ∷ [])
 
 module _ {S D : Type 0} (A : Algebra S) (W : Downward S D) (G : List Rule) where
-  -- there is a rule for each of different triples that a run downward meets, none of more nodes than the body that it comes from
+  -- there is a rule for each of different triples that a run downward meets, none of more nodes or parameters than the rule that it comes from
   pub record AreFew (H : List Rule) : Type 0 where
     pub triples : List (RuleStates S × D)
     pub many : length H ≡ length triples
     pub met : All (λ t. Falls S D A W G t.0.0 t.0.1 t.1) triples
     pub distinct : AllPairs (λ t u. t ≢ u) triples
     pub small : (i : ℕ) (k : RuleStates S) (d : D) → slice_get triples i ≡ Some (k, d) → real_nodes (body_at H i) ≤ real_nodes (body_at G k.0)
+    pub ranks : (i : ℕ) (k : RuleStates S) (d : D) → slice_get triples i ≡ Some (k, d) → rank_at H i ≤ rank_at G k.0

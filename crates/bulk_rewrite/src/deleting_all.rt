@@ -1,9 +1,10 @@
 // All nodes that an automaton hits are taken out.
-ghost use Rattle.std.specs.Prelude.{◌≡◌, ◌↔◌, ◌<◌, ◌^◌, ℕ, List, [], IfOk, IfErr, IsTrue};
+ghost use Rattle.std.specs.Prelude.{◌≡◌, ◌↔◌, ◌<◌, ◌≤◌, ◌^◌, ℕ, List, [], IfOk, IfErr, IsTrue};
 ghost use Rattle.plain_tree.specs.Tree.{Tree, node_count};
 ghost use Rattle.slt_grammar.specs.Automata.{hits, nodes_in};
 ghost use Rattle.slt_grammar.specs.Grammars.{IsSwept, value};
 ghost use Rattle.slt_grammar.specs.Keyed.{rules_of};
+ghost use Rattle.slt_grammar.specs.Ranks.{greatest_rank};
 ghost use Rattle.slt_grammar.specs.Standing.{StandsFor};
 ghost use Rattle.rule_runs.specs.Notes.{IsRisen};
 ghost use Rattle.bulk_rewrite.specs.DeletedAll.{AreDeleted, IsNotDeletedFor, deleting_run};
@@ -51,6 +52,7 @@ pub fn delete_all<A: Falling, L: Ledger>(
     requires stands { (t : Tree) × StandsFor (rules_of grammar.now.rules) names.now texts.now.texts t × (node_count t < 2 ^ 63) }
     ensures deleted { IfOk result (λ new. (t : Tree) → StandsFor (rules_of grammar.now.rules) names.now texts.now.texts t → AreDeleted (hits (A.algebra automaton.now) (A.downward automaton.now) (value (rules_of grammar.now.rules))) names.now (rules_of new.grammar.rules) new.texts.texts t) }
     ensures few { IfOk result (λ new. AreFew (A.algebra automaton.now) (deleting_run (A.downward automaton.now) names.now) (rules_of grammar.now.rules) (rules_of new.grammar.rules)) }
+    ensures ranks { IfOk result (λ new. greatest_rank (rules_of new.grammar.rules) ≤ greatest_rank (rules_of grammar.now.rules)) }
     ensures swept { IfOk result (λ new. IsSwept (rules_of new.grammar.rules)) }
     ensures refused { IfErr result (λ error. (t : Tree) → StandsFor (rules_of grammar.now.rules) names.now texts.now.texts t → IsNotDeletedFor error (hits (A.algebra automaton.now) (A.downward automaton.now) (value (rules_of grammar.now.rules))) t) }
 {

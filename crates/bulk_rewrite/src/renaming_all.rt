@@ -1,5 +1,5 @@
 // All nodes that an automaton hits get another name.
-ghost use Rattle.std.specs.Prelude.{◌≡◌, ◌<◌, ◌^◌, ℕ, List, IfOk, IfErr, OnOk};
+ghost use Rattle.std.specs.Prelude.{◌≡◌, ◌<◌, ◌≤◌, ◌^◌, ℕ, List, IfOk, IfErr, OnOk};
 ghost use Rattle.std.specs.List.{AllZip};
 ghost use Rattle.plain_tree.specs.Lawful.{IsName};
 ghost use Rattle.plain_tree.specs.Tree.{Tree, node_count};
@@ -7,6 +7,7 @@ ghost use Rattle.slt_grammar.specs.Automata.{hits};
 ghost use Rattle.fcns_encoding.specs.Interning.{Interns};
 ghost use Rattle.slt_grammar.specs.Grammars.{IsSwept, value};
 ghost use Rattle.slt_grammar.specs.Keyed.{rules_of};
+ghost use Rattle.slt_grammar.specs.Ranks.{greatest_rank};
 ghost use Rattle.slt_grammar.specs.Standing.{StandsFor};
 ghost use Rattle.rule_runs.specs.Notes.{IsRisen};
 ghost use Rattle.bulk_rewrite.specs.Making.{AreFew};
@@ -63,6 +64,7 @@ pub fn rename_all<A: Falling, L: Ledger>(
     requires name { IsName name.now }
     ensures renamed { IfOk result (λ new. (values : List (List ℕ)) (t : Tree) → StandsFor (rules_of grammar.now.rules) names.old values t → AreRenamed (hits (A.algebra automaton.now) (A.downward automaton.now) (value (rules_of grammar.now.rules))) name.now names.old names.new (rules_of new.rules) values t) }
     ensures few { IfOk result (λ new. AreFew (A.algebra automaton.now) (A.downward automaton.now) (rules_of grammar.now.rules) (rules_of new.rules)) }
+    ensures ranks { IfOk result (λ new. greatest_rank (rules_of new.rules) ≤ greatest_rank (rules_of grammar.now.rules)) }
     ensures swept { IfOk result (λ new. IsSwept (rules_of new.rules)) }
     ensures refused { IfErr result (λ error. (values : List (List ℕ)) (t : Tree) → StandsFor (rules_of grammar.now.rules) names.old values t → IsRefusedFor error (hits (A.algebra automaton.now) (A.downward automaton.now) (value (rules_of grammar.now.rules))) name.now names.old names.new t) }
 {

@@ -5,6 +5,7 @@ use Rattle.bulk_rewrite.specs.Joining.{joining, joining_run, texts_in}
 use Rattle.bulk_rewrite.specs.Lawful.{joining-lawful}
 use Rattle.bulk_rewrite.specs.Making.{AreFew}
 use Rattle.bulk_rewrite.proofs.DeletingAll.{all-deleted, may-spared, spared-may}
+use Rattle.bulk_rewrite.proofs.MadeRanks.{few-ranks}
 use Rattle.bulk_rewrite.proofs.RenamingAll.{few-made, few-nodes}
 use Rattle.bulk_rewrite.proofs.deleting_all.delete_all.Goals as goal
 
@@ -45,3 +46,12 @@ returns-in-Ok-clause-few g c =
     let kinds = c.as_slice-kinds.result.now in
     let few = few-made A (joining_run W (texts_in kinds)) G c.rules-rules.ensures.grammar (joining (texts_in kinds)) (joining-lawful W (texts_in kinds)) H c.in-Ok.ensures.made in
     subst (λ ks. AreFew A (joining_run W (texts_in ks)) G H) (c.as_slice-kinds.ensures.value ∙ c.in_ok-table.ensures) few
+
+pub returns-in-Ok-clause-ranks : goal.returns-in-Ok-clause-ranks
+returns-in-Ok-clause-ranks g c =
+    let A = g.A.Rising.algebra c.args.automaton.now in
+    let W = g.A.Falling.downward c.args.automaton.now in
+    let G = rules_of c.args.grammar.now.rules in
+    let H = rules_of c.in-Ok.new.grammar.rules in
+    let texts = texts_in c.as_slice-kinds.result.now in
+    few-ranks A (joining_run W texts) G H (few-made A (joining_run W texts) G c.rules-rules.ensures.grammar (joining texts) (joining-lawful W texts) H c.in-Ok.ensures.made)

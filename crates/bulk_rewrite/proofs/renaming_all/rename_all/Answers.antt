@@ -3,6 +3,7 @@ use Rattle.std.proofs.lemmas.Result.{err_from_is_err_and}
 use Rattle.slt_grammar.specs.Keyed.{rules_of}
 use Rattle.bulk_rewrite.specs.Lawful.{renaming-lawful}
 use Rattle.bulk_rewrite.proofs.GrowingNames.{some-grown}
+use Rattle.bulk_rewrite.proofs.MadeRanks.{few-ranks}
 use Rattle.bulk_rewrite.proofs.RenamingAll.{all-renamed, few-made}
 use Rattle.bulk_rewrite.proofs.renaming_all.rename_all.Goals as goal
 
@@ -20,10 +21,18 @@ returns-in-Ok-clause-few g c =
     let W = g.A.Falling.downward c.args.automaton.now in
     few-made A W (rules_of c.args.grammar.now.rules) c.rules-rules.ensures.grammar _ (renaming-lawful W _) (rules_of c.in-Ok.new.rules) c.in-Ok.ensures.made
 
+pub returns-in-Ok-clause-ranks : goal.returns-in-Ok-clause-ranks
+returns-in-Ok-clause-ranks g c =
+    let A = g.A.Rising.algebra c.args.automaton.now in
+    let W = g.A.Falling.downward c.args.automaton.now in
+    let G = rules_of c.args.grammar.now.rules in
+    let H = rules_of c.in-Ok.new.rules in
+    few-ranks A W G H (few-made A W G c.rules-rules.ensures.grammar _ (renaming-lawful W _) H c.in-Ok.ensures.made)
+
 pub returns-clause-refused : goal.returns-clause-refused
 returns-clause-refused g c = λ values t st. inr (c.in_ok-symbols.ensures.allowed values t st, some-grown _ _ _ (c.in_ok-symbols.ensures.names values t st))
 
 pub returns-in_err-risen : goal.returns-in_err-risen
 returns-in_err-risen g c =
     let p = err_from_is_err_and c.from_residual.result c.from_residual.ensures.1 in
-    rw (p.1, p.2) (record { renamed = tt; few = tt; swept = tt; refused = λ values t st. inl refl })
+    rw (p.1, p.2) (record { renamed = tt; few = tt; ranks = tt; swept = tt; refused = λ values t st. inl refl })

@@ -147,7 +147,8 @@ module _ {S D : Type 0} (A : Algebra S) (W : Downward S D) (G : List Rule) (lin 
       (λ l h. made-calls ls args (hs ++ drop 1 ds) out h)
       (λ p rest l i h. rw i.1 (slice_get_within ts i.0 ((q, kids), d) i.2, made-calls ls args (hs ++ drop 1 ds) rest h))
 
-  -- and are no more than they come from
+module _ {S D : Type 0} (A : Algebra S) (W : Downward S D) (G : List Rule) (R : Rewriting D) (ts : List (RuleStates S × D)) where
+  -- the labels that are made are no more than those that they come from
   pub made-few : (ls : List Label) (args : List S) (ds : List D) (out : List Label) → AreNamed ts (making A W G R args ds ls) out → (length out ≤ length ls) × (real_nodes out ≤ real_nodes ls)
   made-few [] args ds [] m = (omega arith, omega arith)
   made-few [] args ds (o ∷ out) m = absurd m

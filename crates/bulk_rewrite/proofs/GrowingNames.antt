@@ -11,7 +11,7 @@ use Rattle.slt_grammar.specs.Terms.{Term}
 use Rattle.fcns_encoding.specs.Interning.{IsIn, Interns}
 use Rattle.fcns_encoding.proofs.InternLemmas.{Codes-keeps, Interns-append, Interns-keeps, get-front}
 use Rattle.bulk_rewrite.specs.NewNames.{FirstLacks, AreIn, TellsKnown}
-use Rattle.bulk_rewrite.specs.Refusing.{no_sign, signs_of}
+use Rattle.bulk_rewrite.specs.Refusing.{is_renamable, no_sign, signs_of}
 use Rattle.bulk_rewrite.specs.declared.refusing.Sign.{Sign}
 use Rattle.bulk_rewrite.proofs.HitSymbols.{IsOf}
 use Rattle.bulk_rewrite.proofs.Zips.{zip-at}
@@ -106,6 +106,16 @@ lacks-out names (q ∷ qs) p f i =
 -- the pair of a node's kind with the name
 abbrev pub pair_with : List ℕ → Tree → Pair
 pair_with name s = (kind_of s, name)
+
+-- of nodes that may be renamed, the first pair that lacks has a kind that may
+pub first-renamable : (names : List Pair) (name : List ℕ) (ss : List Tree) (p : Pair) → All (λ s. is_renamable (kind_of s) ≡ true) ss → FirstLacks names (map (pair_with name) ss) p → is_renamable p.0 ≡ true
+first-renamable names name [] p a f = absurd f
+first-renamable names name (s ∷ ss) p a f =
+    let P : Tree → Type 0 = λ t. is_renamable (kind_of t) ≡ true in
+    elim f [
+      | inl w ↦ first-renamable names name ss p (All-tail P s ss a) w.1
+      | inr w ↦ ap (λ (q : Pair). is_renamable q.0) (sym w.0) ∙ All-head P s ss a
+    ]
 
 module _ (names : List Pair) (name : List ℕ) (signs : List Sign) (told : AllZip (TellsKnown names name) names signs) where
   abbrev pub lacks : ℕ → Bool

@@ -27,5 +27,6 @@ pub mod LackingKinds
 pub mod FirstLacking
 pub mod DeletingAll
 pub mod MadeRanks
+pub mod FewReads
 pub mod Tags
 pub mod Redone

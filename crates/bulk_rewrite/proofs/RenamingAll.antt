@@ -19,7 +19,6 @@ use Rattle.fcns_encoding.specs.Interning.{IsIn, Interns}
 use Rattle.fcns_encoding.specs.Laws.{AreLawful}
 use Rattle.fcns_encoding.proofs.InternLemmas.{Interns-distinct, Interns-keeps}
 use Rattle.fcns_encoding.proofs.LawfulLemmas.{none-lawful, lawful-cons, Interns-lawful}
-use Rattle.rule_runs.proofs.Handing.{linear}
 use Rattle.bulk_rewrite.specs.Laws.{GetsName, HasNodeNames}
 use Rattle.bulk_rewrite.specs.Making.{AreMadeOnce, AreFew}
 use Rattle.bulk_rewrite.specs.NewNames.{AreIn, IsRenamedSymbol}
@@ -170,6 +169,6 @@ few-made A W G gr R law H once = record {
   many = once.made.many;
   met = once.met;
   distinct = once.distinct;
-  small = λ i k d at. let one = once.made.each i k d at in (made-few A W G (linear G gr) R law (take i once.triples) (body_at G k.0) k.1 (d ∷ []) (body_at H i) one.body).1;
+  small = λ i k d at. let one = once.made.each i k d at in (made-few A W G R (take i once.triples) (body_at G k.0) k.1 (d ∷ []) (body_at H i) one.body).1;
   ranks = λ i k d at. small-made A W G gr R law once.triples H once.made i k d at;
 }

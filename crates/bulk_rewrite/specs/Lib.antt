@@ -16,3 +16,4 @@ pub mod Lawful
 pub mod Frames
 pub mod Laws
 pub mod UnderWay
+pub mod Reads

@@ -1,16 +1,18 @@
 // All nodes that an automaton hits are taken out.
-ghost use Rattle.std.specs.Prelude.{◌≡◌, ◌↔◌, ◌<◌, ◌≤◌, ◌^◌, ℕ, List, [], IfOk, IfErr, IsTrue};
+ghost use Rattle.std.specs.Prelude.{◌≡◌, ◌↔◌, ◌<◌, ◌≤◌, ◌+◌, ◌-◌, ◌*◌, ◌^◌, ℕ, List, [], IfOk, IfErr, IsTrue, length, sum_by};
 ghost use Rattle.plain_tree.specs.Tree.{Tree, node_count};
 ghost use Rattle.slt_grammar.specs.Automata.{hits, nodes_in};
-ghost use Rattle.slt_grammar.specs.Grammars.{IsSwept, value};
+ghost use Rattle.slt_grammar.specs.Grammars.{IsSwept, body_at, value};
 ghost use Rattle.slt_grammar.specs.Keyed.{rules_of};
 ghost use Rattle.slt_grammar.specs.Ranks.{greatest_rank};
 ghost use Rattle.slt_grammar.specs.Standing.{StandsFor};
 ghost use Rattle.rule_runs.specs.Notes.{IsRisen};
+ghost use Rattle.rule_runs.specs.Risen.{keys};
 ghost use Rattle.bulk_rewrite.specs.DeletedAll.{AreDeleted, IsNotDeletedFor, deleting_run};
 ghost use Rattle.bulk_rewrite.specs.Fates.{fates, redone};
 ghost use Rattle.bulk_rewrite.specs.Joining.{NoText, At, elements_in, joining, joining_run, sparing_run, texts_in, valued_in};
 ghost use Rattle.bulk_rewrite.specs.Making.{AreFew, AreMadeOnce};
+ghost use Rattle.bulk_rewrite.specs.Reads.{ReadsInRunsAndFall};
 ghost use Rattle.bulk_rewrite.specs.Rewriting.{rewritten};
 
 use crate::hit_runs::hits_nothing;
@@ -41,6 +43,9 @@ pub struct Rewritten {
 ///
 /// There is one rule for each rule, states of its arguments and down state that a run downward meets outside of what is taken out, no larger
 /// than the rule that it comes from, whatever the number of hits. It is refused for want of memory at any time.
+///
+/// No more is read than four runs upward and one downward may read, whatever is answered: the first one, one that tells whether all may go, and
+/// two rewritings; and one that lists what becomes of the texts, over rules that are made of the triples that the run downward meets.
 pub fn delete_all<A: Falling, L: Ledger>(
     alloc: Global,
     grammar: &Grammar,
@@ -55,6 +60,8 @@ pub fn delete_all<A: Falling, L: Ledger>(
     ensures ranks { IfOk result (λ new. greatest_rank (rules_of new.grammar.rules) ≤ greatest_rank (rules_of grammar.now.rules)) }
     ensures swept { IfOk result (λ new. IsSwept (rules_of new.grammar.rules)) }
     ensures refused { IfErr result (λ error. (t : Tree) → StandsFor (rules_of grammar.now.rules) names.now texts.now.texts t → IsNotDeletedFor error (hits (A.algebra automaton.now) (A.downward automaton.now) (value (rules_of grammar.now.rules))) t) }
+    ensures reads { ReadsInRunsAndFall (A.algebra automaton.now) (deleting_run (A.downward automaton.now) names.now) (rules_of grammar.now.rules) 4 (steps.new - steps.old) }
+    ensures counted { steps.old ≤ steps.new }
 {
     // The call tells that the rules are a grammar.
     let _rules = grammar.rules();
@@ -82,7 +89,9 @@ fn spares<A: Falling, L: Ledger>(
 ) -> Result<bool, AllocError>
     requires run { IsRisen (A.algebra automaton.now) (rules_of grammar.now.rules) risen.now }
     requires small { nodes_in (value (rules_of grammar.now.rules)) < 2 ^ 63 }
-    ensures { IfOk result (λ spared. IsTrue spared ↔ (hits (A.algebra automaton.now) (sparing_run (A.downward automaton.now) (elements_in kinds.now)) (value (rules_of grammar.now.rules)) ≡ [])) }
+    ensures spared { IfOk result (λ spared. IsTrue spared ↔ (hits (A.algebra automaton.now) (sparing_run (A.downward automaton.now) (elements_in kinds.now)) (value (rules_of grammar.now.rules)) ≡ [])) }
+    ensures reads { steps.new ≤ steps.old + 2 * sum_by (λ k. length (body_at (rules_of grammar.now.rules) k.0)) (keys risen.now.known) }
+    ensures counted { steps.old ≤ steps.new }
 {
     let sparing = Sparing { automaton, kinds };
     hits_nothing(alloc, grammar, &sparing, risen, steps)
@@ -104,6 +113,8 @@ fn take_out<A: Falling, L: Ledger>(
     ensures made { IfOk result (λ new. AreMadeOnce (A.algebra automaton.now) (joining_run (A.downward automaton.now) (texts_in kinds.now)) (rules_of grammar.now.rules) (joining (texts_in kinds.now)) (rules_of new.grammar.rules)) }
     ensures swept { IfOk result (λ new. IsSwept (rules_of new.grammar.rules)) }
     ensures texts { IfOk result (λ new. new.texts.texts ≡ (redone (fates (A.algebra automaton.now) (A.downward automaton.now) (valued_in kinds.now) (texts_in kinds.now) (value (rules_of grammar.now.rules)) [] (At (A.downward automaton.now).start NoText)) texts.now.texts).values) }
+    ensures reads { ReadsInRunsAndFall (A.algebra automaton.now) (joining_run (A.downward automaton.now) (texts_in kinds.now)) (rules_of grammar.now.rules) 2 (steps.new - steps.old) }
+    ensures counted { steps.old ≤ steps.new }
 {
     let left = left_texts(alloc, grammar, texts, automaton, kinds, risen, steps)?;
     let joining = Joining { automaton, kinds };
@@ -126,7 +137,9 @@ fn left_texts<A: Falling, L: Ledger>(
 ) -> Result<TextList, AllocError>
     requires run { IsRisen (A.algebra automaton.now) (rules_of grammar.now.rules) risen.now }
     requires small { nodes_in (value (rules_of grammar.now.rules)) < 2 ^ 63 }
-    ensures { IfOk result (λ list. list.texts ≡ (redone (fates (A.algebra automaton.now) (A.downward automaton.now) (valued_in kinds.now) (texts_in kinds.now) (value (rules_of grammar.now.rules)) [] (At (A.downward automaton.now).start NoText)) texts.now.texts).values) }
+    ensures texts { IfOk result (λ list. list.texts ≡ (redone (fates (A.algebra automaton.now) (A.downward automaton.now) (valued_in kinds.now) (texts_in kinds.now) (value (rules_of grammar.now.rules)) [] (At (A.downward automaton.now).start NoText)) texts.now.texts).values) }
+    ensures reads { ReadsInRunsAndFall (A.algebra automaton.now) (joining_run (A.downward automaton.now) (texts_in kinds.now)) (rules_of grammar.now.rules) 1 (steps.new - steps.old) }
+    ensures counted { steps.old ≤ steps.new }
 {
     let fallen = value_fates(alloc, grammar, automaton, kinds, risen, steps)?;
     let mut answers = Answers::new(alloc, &fallen)?;

@@ -1,8 +1,8 @@
 // Bodies that are rewritten, node by node from their root.
-ghost use Rattle.std.specs.Prelude.{◌≡◌, ◌≢◌, ◌<◌, ◌≤◌, ◌++◌, ◌∷◌, ℕ, List, [], false, Some, None, length, map, reverse, replicate, IfOk, OnOk, All};
+ghost use Rattle.std.specs.Prelude.{◌≡◌, ◌≢◌, ◌+◌, ◌*◌, ◌<◌, ◌≤◌, ◌++◌, ◌∷◌, ℕ, List, [], false, Some, None, length, map, reverse, replicate, IfOk, OnOk, All};
 ghost use Rattle.slt_grammar.specs.Grammars.{body_at};
 ghost use Rattle.slt_grammar.specs.Keyed.{rules_of};
-ghost use Rattle.rule_runs.specs.Notes.{AreNotes, AreKept, HasBody};
+ghost use Rattle.rule_runs.specs.Notes.{AreNotes, AreKept, HasBody, unread};
 ghost use Rattle.rule_runs.specs.Reached.{RuleStates, Falls};
 ghost use Rattle.rule_runs.specs.Risen.{IsRun, keys, pair_at};
 ghost use Rattle.bulk_rewrite.specs.Frames.{kept_label, symbol_label, triples, HasHanded, Standing, Asks};
@@ -53,6 +53,8 @@ pub(crate) fn begin<A: Rewriter, L: Ledger>(
     ensures stands { IfOk result (λ frame. (ts : List (RuleStates A.State × A.Down)) → Standing (A.algebra automaton.now) (A.downward automaton.now) (rules_of grammar.now.rules) (A.rewriting automaton.now) (keys risen.now.known) ts frame) }
     ensures cost { IfOk result (λ frame. frame.left ≡ length (body_at (rules_of grammar.now.rules) (pair_at (keys risen.now.known) spot.pair).0)) }
     ensures counted { steps.old ≤ steps.new }
+    ensures reads { steps.new ≤ steps.old + 2 * unread (rules_of grammar.now.rules) (keys risen.now.known) bodies.old }
+    ensures once { OnOk result (steps.new + 2 * unread (rules_of grammar.now.rules) (keys risen.now.known) bodies.new ≤ steps.old + 2 * unread (rules_of grammar.now.rules) (keys risen.now.known) bodies.old) }
 {
     // The call tells that the rules are a grammar.
     let _rules = grammar.rules();

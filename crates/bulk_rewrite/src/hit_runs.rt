@@ -1,9 +1,10 @@
 // What is hit of all that a grammar stands for, by a run downward over what one upward has found.
-ghost use Rattle.std.specs.Prelude.{◌≡◌, ◌↔◌, ◌<◌, ◌^◌, [], None, IfOk, IsTrue};
+ghost use Rattle.std.specs.Prelude.{◌≡◌, ◌↔◌, ◌<◌, ◌≤◌, ◌+◌, ◌*◌, ◌^◌, [], None, IfOk, IsTrue, length, sum_by};
 ghost use Rattle.slt_grammar.specs.Automata.{hits, nodes_in};
-ghost use Rattle.slt_grammar.specs.Grammars.{value};
+ghost use Rattle.slt_grammar.specs.Grammars.{body_at, value};
 ghost use Rattle.slt_grammar.specs.Keyed.{rules_of};
 ghost use Rattle.rule_runs.specs.Notes.{IsRisen};
+ghost use Rattle.rule_runs.specs.Risen.{keys};
 ghost use Rattle.bulk_rewrite.specs.FirstHits.{IsFirstHit};
 
 use read_steps::Steps;
@@ -22,7 +23,9 @@ pub(crate) fn hits_nothing<A: Falling, L: Ledger>(
 ) -> Result<bool, AllocError>
     requires run { IsRisen (A.algebra automaton.now) (rules_of grammar.now.rules) risen.now }
     requires small { nodes_in (value (rules_of grammar.now.rules)) < 2 ^ 63 }
-    ensures { IfOk result (λ nothing. IsTrue nothing ↔ (hits (A.algebra automaton.now) (A.downward automaton.now) (value (rules_of grammar.now.rules)) ≡ [])) }
+    ensures nothing { IfOk result (λ nothing. IsTrue nothing ↔ (hits (A.algebra automaton.now) (A.downward automaton.now) (value (rules_of grammar.now.rules)) ≡ [])) }
+    ensures reads { steps.new ≤ steps.old + 2 * sum_by (λ k. length (body_at (rules_of grammar.now.rules) k.0)) (keys risen.now.known) }
+    ensures counted { steps.old ≤ steps.new }
 {
     let fallen = fall(alloc, grammar, automaton, risen, unspent(), false, steps)?;
     Ok(fallen.count() == 0)
@@ -45,7 +48,9 @@ pub(crate) fn first_hit<A: Falling, L: Ledger>(
 ) -> Result<Option<FirstHit>, AllocError>
     requires run { IsRisen (A.algebra automaton.now) (rules_of grammar.now.rules) risen.now }
     requires small { nodes_in (value (rules_of grammar.now.rules)) < 2 ^ 63 }
-    ensures { IfOk result (IsFirstHit (A.algebra automaton.now) (A.downward automaton.now) (value (rules_of grammar.now.rules))) }
+    ensures first { IfOk result (IsFirstHit (A.algebra automaton.now) (A.downward automaton.now) (value (rules_of grammar.now.rules))) }
+    ensures reads { steps.new ≤ steps.old + 2 * sum_by (λ k. length (body_at (rules_of grammar.now.rules) k.0)) (keys risen.now.known) }
+    ensures counted { steps.old ≤ steps.new }
 {
     let fallen = fall(alloc, grammar, automaton, risen, unspent(), true, steps)?;
     let mut answers = Answers::new(alloc, &fallen)?;

@@ -1,8 +1,8 @@
 // The rules that are being made, and the bodies that are open meanwhile.
-ghost use Rattle.std.specs.Prelude.{◌≡◌, ◌≢◌, ◌<◌, ◌≤◌, ◌++◌, ◌∷◌, ℕ, List, [], true, false, length, reverse, IfOk, OnOk, All};
+ghost use Rattle.std.specs.Prelude.{◌≡◌, ◌≢◌, ◌+◌, ◌*◌, ◌<◌, ◌≤◌, ◌++◌, ◌∷◌, ℕ, List, [], true, false, length, reverse, IfOk, OnOk, All};
 ghost use Rattle.slt_grammar.specs.Grammars.{body_at, IsSwept};
 ghost use Rattle.slt_grammar.specs.Keyed.{rules_of};
-ghost use Rattle.rule_runs.specs.Notes.{AreKept, HasBody};
+ghost use Rattle.rule_runs.specs.Notes.{AreKept, HasBody, unread};
 ghost use Rattle.rule_runs.specs.Reached.{RuleStates, Falls};
 ghost use Rattle.rule_runs.specs.Risen.{IsRun, keys, pair_at};
 ghost use Rattle.bulk_rewrite.specs.Frames.{Standing};
@@ -49,6 +49,8 @@ pub(crate) fn turn<A: Rewriter, L: Ledger>(
     ensures whole { IfOk result (λ goes. goes ≡ false → IsWhole (A.algebra automaton.now) (A.downward automaton.now) (rules_of grammar.now.rules) (A.rewriting automaton.now) (keys risen.now.known) making.new) }
     ensures last { IfOk result (λ goes. goes ≡ false → making.new.frames.items ≡ []) }
     ensures counted { steps.old ≤ steps.new }
+    ensures reads { steps.new ≤ steps.old + 2 * unread (rules_of grammar.now.rules) (keys risen.now.known) making.old.bodies }
+    ensures once { OnOk result (steps.new + 2 * unread (rules_of grammar.now.rules) (keys risen.now.known) making.new.bodies ≤ steps.old + 2 * unread (rules_of grammar.now.rules) (keys risen.now.known) making.old.bodies) }
 {
     let Some(notes) = making.bodies.notes(making.frame.spot.pair) else {
         unreachable!()
@@ -94,6 +96,8 @@ fn open<A: Rewriter, L: Ledger>(
     ensures stands { OnOk result ((ts : List (RuleStates A.State × A.Down)) → Standing (A.algebra automaton.now) (A.downward automaton.now) (rules_of grammar.now.rules) (A.rewriting automaton.now) (keys risen.now.known) ts making.new.frame) }
     ensures cost { OnOk result (making.new.frame.left ≡ length (body_at (rules_of grammar.now.rules) (pair_at (keys risen.now.known) spot.pair).0)) }
     ensures counted { steps.old ≤ steps.new }
+    ensures reads { steps.new ≤ steps.old + 2 * unread (rules_of grammar.now.rules) (keys risen.now.known) making.old.bodies }
+    ensures once { OnOk result (steps.new + 2 * unread (rules_of grammar.now.rules) (keys risen.now.known) making.new.bodies ≤ steps.old + 2 * unread (rules_of grammar.now.rules) (keys risen.now.known) making.old.bodies) }
 {
     let inner = begin(
         alloc,
@@ -122,6 +126,7 @@ fn close<A: Rewriter>(
     ensures less { IfOk result (λ goes. goes ≡ true → making_cost (rules_of grammar.now.rules) (keys risen.now.known) making.new ≤ outer_cost (rules_of grammar.now.rules) (keys risen.now.known) making.old) }
     ensures whole { IfOk result (λ goes. goes ≡ false → IsWhole (A.algebra automaton.now) (A.downward automaton.now) (rules_of grammar.now.rules) (A.rewriting automaton.now) (keys risen.now.known) making.new) }
     ensures last { IfOk result (λ goes. goes ≡ false → making.new.frames.items ≡ []) }
+    ensures bodies { making.new.bodies ≡ making.old.bodies }
 {
     // The call tells that the rules are a grammar.
     let _rules = grammar.rules();

@@ -1,14 +1,15 @@
 // The names that nodes get which are hit come to the table.
-ghost use Rattle.std.specs.Prelude.{◌≡◌, ◌<◌, ◌^◌, ◌++◌, ◌∷◌, ℕ, [], true, IfOk, IfSome, IfNone, OnOk, OnErr, take};
+ghost use Rattle.std.specs.Prelude.{◌≡◌, ◌<◌, ◌≤◌, ◌+◌, ◌*◌, ◌^◌, ◌++◌, ◌∷◌, ℕ, [], true, IfOk, IfSome, IfNone, OnOk, OnErr, length, sum_by, take};
 ghost use Rattle.plain_tree.specs.Tree.{Tree, none, more};
 ghost use Rattle.fcns_encoding.specs.Interning.{Interns};
 ghost use Rattle.slt_grammar.specs.Automata.{hits, nodes_in};
 ghost use Rattle.slt_grammar.specs.Coding.{Codes};
-ghost use Rattle.slt_grammar.specs.Grammars.{value};
+ghost use Rattle.slt_grammar.specs.Grammars.{body_at, value};
 ghost use Rattle.slt_grammar.specs.Keyed.{rules_of};
 ghost use Rattle.rule_runs.specs.Notes.{IsRisen};
+ghost use Rattle.rule_runs.specs.Risen.{keys};
 ghost use Rattle.bulk_rewrite.specs.NewNames.{AreIn, FirstLacks};
-ghost use Rattle.bulk_rewrite.specs.RenamedAll.{renamed_pairs};
+ghost use Rattle.bulk_rewrite.specs.RenamedAll.{MayRename, renamed_pairs};
 
 use crate::hit_runs::first_hit;
 use crate::refusing::Refusing;
@@ -28,7 +29,7 @@ struct Lacking {
 }
 
 // The kinds of the nodes that are hit come to the table with the name, in document order. Each run downward finds the next of them, and there
-// are few kinds.
+// are few kinds: three of those that may be renamed, so that there are at most four runs.
 pub(crate) fn grow_names<A: Falling, L: Ledger>(
     alloc: Global,
     grammar: &Grammar,
@@ -43,6 +44,8 @@ pub(crate) fn grow_names<A: Falling, L: Ledger>(
     requires coded { (t : Tree) × Codes names.old (more t none) (value (rules_of grammar.now.rules)) }
     ensures grown { OnOk result ((t : Tree) → Codes names.old (more t none) (value (rules_of grammar.now.rules)) → Interns names.old (renamed_pairs (hits (A.algebra automaton.now) (A.downward automaton.now) (value (rules_of grammar.now.rules))) name.now t) names.new) }
     ensures some { OnErr result ((t : Tree) → Codes names.old (more t none) (value (rules_of grammar.now.rules)) → (k : ℕ) × Interns names.old (take k (renamed_pairs (hits (A.algebra automaton.now) (A.downward automaton.now) (value (rules_of grammar.now.rules))) name.now t)) names.new) }
+    ensures reads { (t : Tree) → Codes names.old (more t none) (value (rules_of grammar.now.rules)) → MayRename (hits (A.algebra automaton.now) (A.downward automaton.now) (value (rules_of grammar.now.rules))) name.now t → steps.new ≤ steps.old + 4 * (2 * sum_by (λ k. length (body_at (rules_of grammar.now.rules) k.0)) (keys risen.now.known)) }
+    ensures counted { steps.old ≤ steps.new }
 {
     'kinds: while let Some(lacking) = first_lacking(
         alloc, grammar, names, automaton, risen, name, steps,
@@ -71,6 +74,8 @@ fn first_lacking<A: Falling, L: Ledger>(
     ensures first { IfOk result (λ found. IfSome found (λ lacking. (t : Tree) → Codes names.now (more t none) (value (rules_of grammar.now.rules)) → FirstLacks names.now (renamed_pairs (hits (A.algebra automaton.now) (A.downward automaton.now) (value (rules_of grammar.now.rules))) name.now t) (lacking.kind, name.now))) }
     ensures only { IfOk result (λ found. IfSome found (λ lacking. lacking.only ≡ true → (t : Tree) → Codes names.now (more t none) (value (rules_of grammar.now.rules)) → AreIn (names.now ++ (lacking.kind, name.now) ∷ []) (renamed_pairs (hits (A.algebra automaton.now) (A.downward automaton.now) (value (rules_of grammar.now.rules))) name.now t))) }
     ensures none { IfOk result (λ found. IfNone found ((t : Tree) → Codes names.now (more t none) (value (rules_of grammar.now.rules)) → AreIn names.now (renamed_pairs (hits (A.algebra automaton.now) (A.downward automaton.now) (value (rules_of grammar.now.rules))) name.now t))) }
+    ensures reads { steps.new ≤ steps.old + 2 * sum_by (λ k. length (body_at (rules_of grammar.now.rules) k.0)) (keys risen.now.known) }
+    ensures counted { steps.old ≤ steps.new }
 {
     let signs = known_signs(alloc, names, name)?;
     let lacking = Refusing { automaton, signs };

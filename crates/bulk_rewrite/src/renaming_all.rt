@@ -1,17 +1,19 @@
 // All nodes that an automaton hits get another name.
-ghost use Rattle.std.specs.Prelude.{◌≡◌, ◌<◌, ◌≤◌, ◌^◌, ℕ, List, IfOk, IfErr, OnOk};
+ghost use Rattle.std.specs.Prelude.{◌≡◌, ◌<◌, ◌≤◌, ◌+◌, ◌-◌, ◌*◌, ◌^◌, ℕ, List, IfOk, IfErr, OnOk, length, sum_by};
 ghost use Rattle.std.specs.List.{AllZip};
 ghost use Rattle.plain_tree.specs.Lawful.{IsName};
 ghost use Rattle.plain_tree.specs.Tree.{Tree, node_count};
 ghost use Rattle.slt_grammar.specs.Automata.{hits};
 ghost use Rattle.fcns_encoding.specs.Interning.{Interns};
-ghost use Rattle.slt_grammar.specs.Grammars.{IsSwept, value};
+ghost use Rattle.slt_grammar.specs.Grammars.{IsSwept, body_at, value};
 ghost use Rattle.slt_grammar.specs.Keyed.{rules_of};
 ghost use Rattle.slt_grammar.specs.Ranks.{greatest_rank};
 ghost use Rattle.slt_grammar.specs.Standing.{StandsFor};
 ghost use Rattle.rule_runs.specs.Notes.{IsRisen};
+ghost use Rattle.rule_runs.specs.Risen.{keys};
 ghost use Rattle.bulk_rewrite.specs.Making.{AreFew};
 ghost use Rattle.bulk_rewrite.specs.NewNames.{IsRenamedSymbol};
+ghost use Rattle.bulk_rewrite.specs.Reads.{ReadsInRuns};
 ghost use Rattle.bulk_rewrite.specs.RenamedAll.{AreRenamed, IsRefusedFor, MayRename, renamed_pairs};
 
 use crate::hit_runs::hits_nothing;
@@ -52,6 +54,9 @@ impl From<AllocError> for BulkError {
 /// There is one rule for each rule, states of its arguments and down state that a run downward meets, no larger than the rule that it comes
 /// from, whatever the number of hits. The names grow by the pairs of the kinds of these nodes with the name, in document order. It is refused
 /// for want of memory at any time, and some first ones of the pairs may be in the table then if the nodes may be renamed.
+///
+/// No more is read than seven runs upward may read, whatever is answered: the first one, one that tells whether all may have the name, four
+/// that look for kinds which don't have it in the table yet (three kinds of nodes have names), and the rewriting.
 pub fn rename_all<A: Falling, L: Ledger>(
     alloc: Global,
     grammar: &Grammar,
@@ -67,6 +72,8 @@ pub fn rename_all<A: Falling, L: Ledger>(
     ensures ranks { IfOk result (λ new. greatest_rank (rules_of new.rules) ≤ greatest_rank (rules_of grammar.now.rules)) }
     ensures swept { IfOk result (λ new. IsSwept (rules_of new.rules)) }
     ensures refused { IfErr result (λ error. (values : List (List ℕ)) (t : Tree) → StandsFor (rules_of grammar.now.rules) names.old values t → IsRefusedFor error (hits (A.algebra automaton.now) (A.downward automaton.now) (value (rules_of grammar.now.rules))) name.now names.old names.new t) }
+    ensures reads { ReadsInRuns (A.algebra automaton.now) (rules_of grammar.now.rules) 7 (steps.new - steps.old) }
+    ensures counted { steps.old ≤ steps.new }
 {
     // The call tells that the rules are a grammar.
     let _rules = grammar.rules();
@@ -96,6 +103,8 @@ fn prepare<A: Falling, L: Ledger>(
     ensures allowed { IfOk result (λ symbols. (values : List (List ℕ)) (t : Tree) → StandsFor (rules_of grammar.now.rules) names.old values t → MayRename (hits (A.algebra automaton.now) (A.downward automaton.now) (value (rules_of grammar.now.rules))) name.now t) }
     ensures names { OnOk result ((values : List (List ℕ)) (t : Tree) → StandsFor (rules_of grammar.now.rules) names.old values t → Interns names.old (renamed_pairs (hits (A.algebra automaton.now) (A.downward automaton.now) (value (rules_of grammar.now.rules))) name.now t) names.new) }
     ensures refused { IfErr result (λ error. (values : List (List ℕ)) (t : Tree) → StandsFor (rules_of grammar.now.rules) names.old values t → IsRefusedFor error (hits (A.algebra automaton.now) (A.downward automaton.now) (value (rules_of grammar.now.rules))) name.now names.old names.new t) }
+    ensures reads { steps.new ≤ steps.old + 5 * (2 * sum_by (λ k. length (body_at (rules_of grammar.now.rules) k.0)) (keys risen.now.known)) }
+    ensures counted { steps.old ≤ steps.new }
 {
     let signs = refusing_signs(alloc, names, name)?;
     let refusing = Refusing { automaton, signs };

@@ -1,8 +1,8 @@
 // The rules that a rewriting makes.
-ghost use Rattle.std.specs.Prelude.{◌≡◌, ◌≤◌, [], IfOk, OnOk};
-ghost use Rattle.slt_grammar.specs.Grammars.{IsGrammar, IsSwept, value};
+ghost use Rattle.std.specs.Prelude.{◌≡◌, ◌≤◌, ◌+◌, ◌*◌, [], length, sum_by, IfOk, OnOk};
+ghost use Rattle.slt_grammar.specs.Grammars.{IsGrammar, IsSwept, body_at, value};
 ghost use Rattle.slt_grammar.specs.Keyed.{rules_of};
-ghost use Rattle.rule_runs.specs.Notes.{IsRisen};
+ghost use Rattle.rule_runs.specs.Notes.{IsRisen, unread};
 ghost use Rattle.rule_runs.specs.Risen.{keys};
 ghost use Rattle.bulk_rewrite.specs.Making.{AreMadeOnce};
 ghost use Rattle.bulk_rewrite.specs.Rewriting.{rewritten};
@@ -21,7 +21,8 @@ use std::sync::ledger::Ledger;
 /// The grammar of what becomes of the nodes of all that a grammar stands for, from what a run upward over its rules has found.
 ///
 /// There is one rule for each rule, states of its arguments and down state that a run downward meets outside of what is taken out, at
-/// most as large as the rule that it comes from. It fails where memory is refused.
+/// most as large as the rule that it comes from. Each pair of a rule and states of its arguments is read at most once, with at most two
+/// steps a node, whatever is answered. It fails where memory is refused.
 pub fn rewrite<A: Rewriter, L: Ledger>(
     alloc: Global,
     grammar: &Grammar,
@@ -35,6 +36,7 @@ pub fn rewrite<A: Rewriter, L: Ledger>(
     ensures grammar { IfOk result (λ new. IsGrammar (rules_of new.rules)) }
     ensures swept { IfOk result (λ new. IsSwept (rules_of new.rules)) }
     ensures counted { steps.old ≤ steps.new }
+    ensures reads { steps.new ≤ steps.old + 2 * sum_by (λ k. length (body_at (rules_of grammar.now.rules) k.0)) (keys risen.now.known) }
 {
     // The call tells that the rules are a grammar.
     let _rules = grammar.rules();
@@ -64,6 +66,7 @@ fn make_rules<A: Rewriter, L: Ledger>(
     ensures made { IfOk result (λ new. AreMadeOnce (A.algebra automaton.now) (A.downward automaton.now) (rules_of grammar.now.rules) (A.rewriting automaton.now) new) }
     ensures swept { IfOk result IsSwept }
     ensures counted { steps.old ≤ steps.new }
+    ensures reads { steps.new ≤ steps.old + 2 * sum_by (λ k. length (body_at (rules_of grammar.now.rules) k.0)) (keys risen.now.known) }
 {
     let mut making = start(alloc, grammar, automaton, risen, steps)?;
     'turns: while turn(alloc, automaton, grammar, risen, &mut making, steps)? {}
@@ -81,6 +84,8 @@ fn start<'a, A: Rewriter, L: Ledger>(
     requires { IsRisen (A.algebra automaton.now) (rules_of grammar.now.rules) risen.now }
     ensures way { IfOk result (λ making. IsUnderWay (A.algebra automaton.now) (A.downward automaton.now) (rules_of grammar.now.rules) (A.rewriting automaton.now) (keys risen.now.known) making) }
     ensures counted { steps.old ≤ steps.new }
+    ensures reads { steps.new ≤ steps.old + 2 * sum_by (λ k. length (body_at (rules_of grammar.now.rules) k.0)) (keys risen.now.known) }
+    ensures once { IfOk result (λ making. steps.new + 2 * unread (rules_of grammar.now.rules) (keys risen.now.known) making.bodies ≤ steps.old + 2 * sum_by (λ k. length (body_at (rules_of grammar.now.rules) k.0)) (keys risen.now.known)) }
 {
     // The call tells that the rules are a grammar.
     let _rules = grammar.rules();

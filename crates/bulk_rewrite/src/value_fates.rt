@@ -1,11 +1,12 @@
 // What becomes of the values of the nodes that are kept, taken out, or below such.
-ghost use Rattle.std.specs.Prelude.{◌≡◌, ◌<◌, ◌^◌, [], IfOk, IfSome, IsSome};
+ghost use Rattle.std.specs.Prelude.{◌≡◌, ◌<◌, ◌≤◌, ◌-◌, ◌^◌, [], IfOk, IfSome, IsSome};
 ghost use Rattle.slt_grammar.specs.Automata.{nodes_in};
 ghost use Rattle.slt_grammar.specs.Grammars.{value};
 ghost use Rattle.slt_grammar.specs.Keyed.{rules_of};
 ghost use Rattle.rule_runs.specs.Notes.{IsRisen};
 ghost use Rattle.bulk_rewrite.specs.Fates.{fates};
-ghost use Rattle.bulk_rewrite.specs.Joining.{NoText, At, texts_in, valued_in};
+ghost use Rattle.bulk_rewrite.specs.Joining.{NoText, At, joining_run, texts_in, valued_in};
+ghost use Rattle.bulk_rewrite.specs.Reads.{ReadsInRunsAndFall};
 ghost use Rattle.bulk_rewrite.specs.Tags.{told_fates};
 
 use crate::hit_runs::unspent;
@@ -35,6 +36,8 @@ pub(crate) fn value_fates<A: Falling, L: Ledger>(
     requires small { nodes_in (value (rules_of grammar.now.rules)) < 2 ^ 63 }
     ensures listed { IfOk result (λ table. IsSome table.hits) }
     ensures told { IfOk result (λ table. IfSome table.hits (λ found. told_fates found ≡ fates (A.algebra automaton.now) (A.downward automaton.now) (valued_in kinds.now) (texts_in kinds.now) (value (rules_of grammar.now.rules)) [] (At (A.downward automaton.now).start NoText))) }
+    ensures reads { ReadsInRunsAndFall (A.algebra automaton.now) (joining_run (A.downward automaton.now) (texts_in kinds.now)) (rules_of grammar.now.rules) 1 (steps.new - steps.old) }
+    ensures counted { steps.old ≤ steps.new }
 {
     let joining = Joining { automaton, kinds };
     let tagging = Tagging { joining };

@@ -5,8 +5,8 @@ use Rattle.rule_runs.specs.declared.listing.Hit.{Hit}
 use Rattle.bulk_rewrite.proofs.FirstFound.{begins-with, only-with}
 use Rattle.bulk_rewrite.proofs.hit_runs.first_hit.Goals as goal
 
-pub returns-in-Some : goal.returns-in-Some
-returns-in-Some g c =
+pub returns-in-Some-clause-first : goal.returns-in-Some-clause-first
+returns-in-Some-clause-first g c =
     let e = c.in_ok-answers.ensures in
     let found : List Hit = c.in_ok-answers.answers in
     let hits = c.in-Some.hits in

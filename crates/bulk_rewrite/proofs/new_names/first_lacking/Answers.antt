@@ -10,14 +10,14 @@ returns-in_default-clause-none g c = λ t code.
     let A = g.A.Rising.algebra c.args.automaton.now in
     let W = g.A.Falling.downward c.args.automaton.now in
     let v = value (rules_of c.args.grammar.now.rules) in
-    let h = c.in_ok-hit.ensures in
+    let h = c.in_ok-hit.ensures.first in
     listed-none A W c.args.names.now c.args.name.now c.in_ok-signs.signs.items c.in_ok-signs.ensures v t code h.found h.are h.symbols (rw c.in_default.is at h.first)
 
 pub unreachable-requires : goal.unreachable-requires
 unreachable-requires g c =
     let r = c.requires.coded in
     let v = value (rules_of c.args.grammar.now.rules) in
-    let h = c.in_ok-hit.ensures in
+    let h = c.in_ok-hit.ensures.first in
     let s = rw c.in-Some.is at h.first in
     told-there c.args.names.now v r.0 h.found c.in-Some.hit.symbol s.0.0 r.1 h.symbols s.0.1 (sym c.at.ensures ∙ ap seen_pair c.in-None.is)
 
@@ -26,7 +26,7 @@ returns-clause-first g c = λ t code.
     let A = g.A.Rising.algebra c.args.automaton.now in
     let W = g.A.Falling.downward c.args.automaton.now in
     let v = value (rules_of c.args.grammar.now.rules) in
-    let h = c.in_ok-hit.ensures in
+    let h = c.in_ok-hit.ensures.first in
     let s = rw c.in-Some.is at h.first in
     listed-first A W c.args.names.now c.args.name.now c.in_ok-signs.signs.items c.in_ok-signs.ensures v t code h.found h.are h.symbols c.in-Some.hit.symbol s.0.0 (c.in-Some-at.kind, c.in-Some-at.field-0-1.now) s.0.1 (sym c.in-Some-at.ensures)
 
@@ -35,6 +35,6 @@ returns-clause-only g c = λ only t code.
     let A = g.A.Rising.algebra c.args.automaton.now in
     let W = g.A.Falling.downward c.args.automaton.now in
     let v = value (rules_of c.args.grammar.now.rules) in
-    let h = c.in_ok-hit.ensures in
+    let h = c.in_ok-hit.ensures.first in
     let s = rw c.in-Some.is at h.first in
     listed-only A W c.args.names.now c.args.name.now c.in_ok-signs.signs.items c.in_ok-signs.ensures v t code h.found h.are h.symbols c.in-Some.hit.symbol (c.in-Some-at.kind, c.in-Some-at.field-0-1.now) (s.1 only) (sym c.in-Some-at.ensures)

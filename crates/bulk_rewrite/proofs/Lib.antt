@@ -28,5 +28,6 @@ pub mod FirstLacking
 pub mod DeletingAll
 pub mod MadeRanks
 pub mod FewReads
+pub mod MarkedStates
 pub mod Tags
 pub mod Redone

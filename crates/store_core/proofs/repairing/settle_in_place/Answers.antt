@@ -31,4 +31,4 @@ follow-requires-clause-same c =
 pub returns-clause-marks : goal.returns-clause-marks
 returns-clause-marks c =
     let store = c.args.store.now in
-    c.keep_marked.ensures store.names store.grammar.rules c.settle_edited-settled.new.grammar.rules c.mark_nodes.new.index c.requires.marks c.settle_edited-settled.ensures.marks
+    c.keep_marked.ensures.stay store.names store.grammar.rules c.settle_edited-settled.new.grammar.rules c.mark_nodes.new.index c.requires.marks c.settle_edited-settled.ensures.marks

@@ -134,15 +134,25 @@ states-spelled bytes ps qs A W spelled same h =
     subst (λ (n : ℕ). HasFewStates A W n (outside ps)) (ap parts_inside same ∙ inside-meant bytes ps spelled)
     (subst (λ (n : ℕ). HasFewStates A W (parts_inside qs) n) (ap steps_outside same ∙ outside-meant bytes ps) h)
 
+-- a query is large however it is read
+pub large-same : (bytes : List ℕ) (ps qs : Paths) → SpellsOne → Spells bytes ps → Spells bytes qs → IsLarge ps → IsLarge qs
+large-same bytes ps qs one first second large =
+    let same = one bytes ps qs first second in
+    elim large [
+      | inl many ↦ inl (subst (λ (n : ℕ). 64 < n) same.1 many)
+      | inr many ↦ inr (subst (λ (n : ℕ). 64 < n) same.2 many)
+    ]
+
 -- where the bytes are a query, its reads are few
-pub reads-found : (bytes : List ℕ) (ps : Paths) (parts : Parts) (before now : ℕ) → SpellsOne → Spells bytes ps → now ≤ before + (most_reads parts.rules (inside ps) (outside ps) + marked_reads parts (literals_of (meant_paths bytes ps))) → ReadsFew bytes parts before now
-reads-found bytes ps parts before now one spelled h = record {
+pub reads-found : (bytes : List ℕ) (ps : Paths) (parts : Parts) (before now : ℕ) → SpellsOne → Spells bytes ps → (IsLarge ps → ⊥) → now ≤ before + (most_reads parts.rules (inside ps) (outside ps) + marked_reads parts (literals_of (meant_paths bytes ps))) → ReadsFew bytes parts before now
+reads-found bytes ps parts before now one spelled small h = record {
   few = λ paths other.
       let same = one bytes ps paths spelled other in
       let reads : ℕ → ℕ → queries.Paths → ℕ = λ i o meant. most_reads parts.rules i o + marked_reads parts (literals_of meant) in
       subst (λ (meant : queries.Paths). now ≤ before + reads (inside paths) (outside paths) meant) same.0
       (subst (λ (n : ℕ). now ≤ before + reads (inside paths) n (meant_paths bytes ps)) same.1 (subst (λ (n : ℕ). now ≤ before + reads n (outside ps) (meant_paths bytes ps)) same.2 h));
   none = λ never. absurd (never ps spelled);
+  large = λ is. absurd (small (large-same bytes is.0 ps one is.1 spelled is.2));
 }
 
 -- a query with literals reads bodies of marked instances beside

@@ -1,5 +1,5 @@
 -- Edits of all nodes of a query as steps of the machine.
-use Rattle.std.proofs.Common.{◌≡◌, ◌≤◌, ◌<◌, ◌^◌, ℕ, zero, suc, List, [], ◌∷◌, take, sum_by, Option, Some, inl, inr, refl, sym, subst, arith}
+use Rattle.std.proofs.Common.{◌≡◌, ◌≤◌, ◌<◌, ◌^◌, ℕ, zero, suc, max, List, [], ◌∷◌, take, sum_by, Option, Some, inl, inr, refl, sym, subst, arith}
 use Rattle.tree_outside.proofs.Beside.{Stays-refl}
 use Rattle.tree_outside.specs.Files.{Told}
 use Rattle.plain_tree.specs.NodePairs.{Pair}
@@ -7,6 +7,7 @@ use Rattle.plain_tree.specs.Tree as trees
 use Rattle.plain_tree.specs.Tree.{Tree, node_count}
 use Rattle.slt_grammar.specs.Grammars.{IsGrammar, IsSwept, size, value}
 use Rattle.slt_grammar.specs.Keyed.{KeyedRule, rules_of}
+use Rattle.slt_grammar.specs.Ranks.{greatest_rank}
 use Rattle.slt_grammar.specs.Segments.{listed}
 use Rattle.slt_grammar.specs.Standing.{StandsFor}
 use Rattle.slt_grammar.specs.declared.rules.Rule.{Rule}
@@ -53,7 +54,7 @@ use Rattle.selecting_automaton.proofs.Unmarked.{codes-unmarked, plain-literals}
 use Rattle.xpath_parser.specs.Meant.{meant_paths}
 use Rattle.store_core.proofs.Asked.{plain_refused, same_world}
 use Rattle.store_core.proofs.BulkCounts.{edited-few}
-use Rattle.store_core.proofs.Edited.{held-still}
+use Rattle.store_core.proofs.Edited.{held-still, ranks-below}
 
 -- the value of rules that stand for a document weighs as little as its nodes are few
 pub few-weighed : (G : List Rule) (names : List Pair) (values : List (List ℕ)) (t : Tree) → StandsFor G names values t → node_count t < 2 ^ 63 → sum_by node_weight (listed (value G) []) < 2 ^ 63
@@ -123,16 +124,19 @@ pub left-marked : (edit : BulkEdit) (selector : Selection) (s : Store) (t : Tree
 left-marked edit selector s t m error new left = record { cause = left.cause; store = left.store; rules = left.rules; texts = left.texts }
 
 pub edited-marked : (edit : BulkEdit) (selector : Selection) (s : Store) (t : Tree) (m : List Mark) (new : Store) → IsEditedAll edit selector t (marked s m) new → IsEditedAll edit selector t s new
-edited-marked edit selector s t m new made = record { allowed = made.allowed; store = made.store; names = made.names; few = made.few }
+edited-marked edit selector s t m new made = record { allowed = made.allowed; store = made.store; names = made.names; few = made.few; ranks = made.ranks }
 
 -- a store whose marks were taken away has marks
 pub cleared-marks : (s : Store) (m : List Mark) → s.marks ≡ m → ((names : List Pair) (G : List KeyedRule) → AreMarks names G m) → HasMarks s
 cleared-marks s m e none = subst (λ (x : List Mark). AreMarks s.names s.grammar.rules x) (sym e) (none s.names s.grammar.rules)
 
 module _ (s : Store) (t : Tree) (i : IsStoreFor s t) (selector : Selection) (H : List Rule) (swept : IsSwept H) (mid : Store) (rules : rules_of mid.grammar.rules ≡ H)
-    (counts : AreCounts mid.names (rules_of mid.grammar.rules) mid.counts) (index : IsIndexOf mid.grammar mid.index) where
+    (counts : AreCounts mid.names (rules_of mid.grammar.rules) mid.counts) (index : IsIndexOf mid.grammar mid.index) (ranks : greatest_rank H ≤ greatest_rank (rules_of s.grammar.rules)) where
   swept-there : IsSwept (rules_of mid.grammar.rules)
   swept-there = subst IsSwept (sym rules) swept
+
+  ranks-there : greatest_rank (rules_of mid.grammar.rules) ≤ greatest_rank (rules_of s.grammar.rules)
+  ranks-there = subst (λ (G : List Rule). greatest_rank G ≤ greatest_rank (rules_of s.grammar.rules)) (sym rules) ranks
 
   -- all nodes that a selector hits were renamed
   pub all-renamed-store : (name : List ℕ) (names : List Pair) → AreRenamed (hits_in selector s) name s.names names H s.texts.texts t → AreFew (word_algebra selector) (word_downward selector) (rules_of s.grammar.rules) H
@@ -148,6 +152,7 @@ module _ (s : Store) (t : Tree) (i : IsStoreFor s t) (selector : Selection) (H :
         store = record { stand = stand; small = few-edited (Renaming name) numbers t i.small; swept = swept-there; counts = counts; index = index };
         names = subst (λ (ns : List Pair). Interns s.names (pairs_brought (Renaming name) numbers t) ns) (sym named) are.names;
         few = subst (λ (G : List Rule). AreFewFor (Renaming name) selector s.names (rules_of s.grammar.rules) G) (sym rules) few;
+        ranks = ranks-there;
       }
 
   -- they were deleted
@@ -163,6 +168,7 @@ module _ (s : Store) (t : Tree) (i : IsStoreFor s t) (selector : Selection) (H :
         store = record { stand = stand; small = few-edited Deletion numbers t i.small; swept = swept-there; counts = counts; index = index };
         names = named;
         few = subst (λ (G : List Rule). AreFewFor Deletion selector s.names (rules_of s.grammar.rules) G) (sym rules) few;
+        ranks = ranks-there;
       }
 
 begins-none : (act : Act) (refusal : Refusal) (old : World) → IsBulkEdit act → Begins act refusal old []
@@ -234,8 +240,9 @@ module _ (settings : Settings) (act : Act) (edit : BulkEdit) (query : List ℕ) 
   -- the edit was made of all nodes that the query selects, and the grammar settled where that was due
   pub all-done : (mid : Store) (new : Loaded) (answer : Answer) → IsEditedAll edit selector t l.store mid → IsStoreFor new.store (edited_all edit chosen t) → new.store.names ≡ mid.names
       → size (rules_of new.store.grammar.rules) ≤ size (rules_of mid.grammar.rules) → ((IsDue settings (one_more l.edits) → ⊥) → rules_of new.store.grammar.rules ≡ rules_of mid.grammar.rules)
+      → greatest_rank (rules_of new.store.grammar.rules) ≤ max settings.rank (greatest_rank (rules_of mid.grammar.rules))
       → IsSettledWhereDue settings (one_more l.edits) (held_of new) (node_count (edited_all edit chosen t)) answer → EditsAll settings act old (answer_line answer) (world (Some (held_of new)) told count)
-  all-done mid new answer made store same small kept settled = record {
+  all-done mid new answer made store same small kept ranks settled = record {
     wants = wants;
     allowed = made.allowed;
     held = held_of new;
@@ -246,6 +253,7 @@ module _ (settings : Settings) (act : Act) (edit : BulkEdit) (query : List ℕ) 
     few = record { selector = selector; selects = p.of; few = made.few };
     size = small;
     kept = kept;
+    ranks = ranks-below settings.rank (greatest_rank (rules_of l.store.grammar.rules)) (greatest_rank (rules_of mid.grammar.rules)) (greatest_rank (rules_of new.store.grammar.rules)) made.ranks ranks;
     answer = answer;
     settled = settled;
     files = Stays-refl (told_files told);

@@ -77,11 +77,11 @@ module _ (query : List ℕ) (parts : Parts) (selector : Selection) (of : IsSelec
     reads-marked before now compares h =
         let reads : ℕ → ℕ = λ n. most_reads parts.rules (inside of.paths) (outside of.paths) + n in
         let few = subst (λ (n : ℕ). now ≤ before + reads n) (sym (marked-some parts (literals_of meant) (some-literals (literals_of meant) compares))) h in
-        reads-found query of.paths parts before now one of.spelled (subst (λ (ps : queries.Paths). now ≤ before + reads (marked_reads parts (literals_of ps))) meant-same few)
+        reads-found query of.paths parts before now one of.spelled of.within (subst (λ (ps : queries.Paths). now ≤ before + reads (marked_reads parts (literals_of ps))) meant-same few)
 
     -- those of one over the rules as they are
     pub reads-plain : (before now : ℕ) → now ≤ before + most_reads parts.rules (inside of.paths) (outside of.paths) → ReadsFew query parts before now
-    reads-plain before now h = reads-found query of.paths parts before now one of.spelled (omega (arith, h))
+    reads-plain before now h = reads-found query of.paths parts before now one of.spelled of.within (omega (arith, h))
 
 -- the lines of what was found are those of the document's nodes
 pub lines-found : (parts : Parts) (tree : Tree) (answer : List ℕ) (listed : Bool) (found : Fallen) → PartsStandFor parts tree → Finds answer (value parts.rules) listed found → IfSome found.hits (All (λ hit. hit_line parts.names hit ≡ selected_line tree hit.number))

@@ -1,14 +1,17 @@
 -- Edits of a store as steps of the machine.
-use Rattle.std.proofs.Common.{◌≡◌, ◌≤◌, ◌<◌, ℕ, List, [], Option, Some, inl, inr, refl, ap, ◌∙◌, arith}
+use Rattle.std.proofs.Common.{◌≡◌, ◌≤◌, ◌<◌, ℕ, max, List, [], Option, None, Some, inl, inr, refl, sym, ap, ◌∙◌, subst, arith}
+use Rattle.std.proofs.lemmas.Option.{same_Some}
 use Rattle.tree_outside.proofs.Beside.{Stays-refl}
 use Rattle.tree_outside.specs.Files.{Told}
 use Rattle.plain_tree.specs.Allowed.{AreLawfulParts as AreLawfulEditParts}
 use Rattle.plain_tree.specs.Edits.{edited, number_of}
+use Rattle.plain_tree.specs.Lawful.{IsName}
 use Rattle.plain_tree.specs.NodePairs.{Pair}
 use Rattle.plain_tree.specs.Tree.{Tree, trees, node_count}
 use Rattle.plain_tree.specs.declared.edit.Edit.{Edit}
 use Rattle.slt_grammar.specs.Grammars.{IsGrammar, size}
 use Rattle.slt_grammar.specs.Keyed.{rules_of}
+use Rattle.slt_grammar.specs.Ranks.{greatest_rank}
 use Rattle.slt_grammar.specs.declared.rules.Rule.{Rule}
 use Rattle.tree_updates.specs.Stores.{HasMarks, IsEdited, IsRefused, IsStoreFor}
 use Rattle.tree_updates.specs.declared.store.EditError.{EditError}
@@ -17,7 +20,7 @@ use Rattle.tree_updates.specs.declared.store.Store.{Store}
 use Rattle.xml_nodes.proofs.Bytes.{spells-fragment}
 use Rattle.xml_profile.proofs.ValueChars.{value_chars}
 use Rattle.store_core.specs.Acts.{Act, Load, LoadGrammar, Check, Query, ShowAll, Rename, Insert, Append, Delete, Value, Attr, Copy, file_read, fragment_given, name_given, node_asked, value_given}
-use Rattle.store_core.specs.Editing.{AsksEdit, Edits, IsEdit, IsSettledWhereDue, WantsEdit, one_more}
+use Rattle.store_core.specs.Editing.{AsksEdit, Edits, GivesNoName, IsDue, IsEdit, IsSettledWhereDue, WantsEdit, one_more}
 use Rattle.store_core.specs.Errors.{AsksBelow, GivesNoEdit, IsNoEdit, IsNoFragment, IsNoName, IsNoValue, refusal_of}
 use Rattle.store_core.specs.Machine.{Begins, Does, Refuses}
 use Rattle.store_core.specs.Refusals.{Cause, IsReady}
@@ -29,6 +32,10 @@ use Rattle.store_core.specs.declared.answer.Refusal.{Refusal}
 use Rattle.store_core.specs.declared.answer.Refusal.TheVariants as no
 use Rattle.store_words.specs.declared.words.Settings.{Settings}
 use Rattle.store_core.specs.declared.loaded.Loaded.{Loaded}
+
+-- what is within the settings' rank and one that is no greater than another is within that one
+pub ranks-below : (rank old made new : ℕ) → made ≤ old → new ≤ max rank made → new ≤ max rank old
+ranks-below rank old made new low within = omega arith
 
 -- a store that is held lawfully is one for its document
 pub store-held : (s : Store) (h : AreLawfulParts (parts_of s)) → IsCounted s → IsStoreFor s h.tree
@@ -81,10 +88,17 @@ fragment-not-read no.BadFragment act bytes gives why = (bytes, gives, why)
 fragment-not-read no.Memory act bytes gives why = tt
 fragment-not-read refusal act bytes gives why = absurd why
 
-pub value-not-read : (refusal : Refusal) (act : Act) (bytes : List ℕ) → value_given act ≡ Some bytes → IsNoValue refusal bytes → GivesNoEdit refusal act
-value-not-read no.BadValue act bytes gives why = (bytes, gives, why)
-value-not-read no.Memory act bytes gives why = tt
-value-not-read refusal act bytes gives why = absurd why
+pub value-not-read : (refusal : Refusal) (act : Act) (bytes : List ℕ) → (GivesNoName act → ⊥) → value_given act ≡ Some bytes → IsNoValue refusal bytes → GivesNoEdit refusal act
+value-not-read no.BadValue act bytes named gives why = (named, (bytes, gives, why))
+value-not-read no.Memory act bytes named gives why = tt
+value-not-read refusal act bytes named gives why = absurd why
+
+-- it gives no bad name where it gives none, and where it gives a Name
+pub gives-none : (act : Act) → name_given act ≡ None → GivesNoName act → ⊥
+gives-none act none (name, gives, why) = absurd (cc)
+
+pub gives-name : (act : Act) (name : List ℕ) → name_given act ≡ Some name → IsName name → GivesNoName act → ⊥
+gives-name act name gives is (other, given, why) = why (subst IsName (same_Some name other (sym gives ∙ given)) is)
 
 -- a command that gives what makes no edit comes to none
 pub given-not-asked : (refusal : Refusal) (act : Act) (count : ℕ) → AsksBelow act count → GivesNoEdit refusal act → IsNoEdit refusal act count
@@ -133,7 +147,7 @@ module _ (settings : Settings) (act : Act) (is : IsEdit act) (l : Loaded) (told 
       cause no.NoNode (number, asked, past) = (number, asked, record { parts = parts_of l.store; tree = t; held = refl; stand = i.stand; past = omega (arith, many, past) })
       cause no.BadName ((number, asked, low), none) = (inl (number, asked, record { parts = parts_of l.store; tree = t; held = refl; stand = i.stand; there = omega (arith, many, low) }), none)
       cause no.BadFragment ((number, asked, low), none) = ((number, asked, record { parts = parts_of l.store; tree = t; held = refl; stand = i.stand; there = omega (arith, many, low) }), none)
-      cause no.BadValue ((number, asked, low), none) = ((number, asked, record { parts = parts_of l.store; tree = t; held = refl; stand = i.stand; there = omega (arith, many, low) }), none)
+      cause no.BadValue ((number, asked, low), (named, none)) = ((number, asked, record { parts = parts_of l.store; tree = t; held = refl; stand = i.stand; there = omega (arith, many, low) }), named, none)
       cause no.Memory why = ready-to-edit act (held_of l) told count is
       cause refusal why = absurd why.1
 
@@ -143,10 +157,10 @@ module _ (settings : Settings) (act : Act) (is : IsEdit act) (l : Loaded) (told 
 
     -- the edit was made, and the grammar settled where that was due
     pub edit-done : (mid : Store) (new : Loaded) (answer : Answer) → IsEdited t e l.store mid → IsStoreFor new.store (edited t e) → new.store.names ≡ mid.names
-        → size (rules_of new.store.grammar.rules) ≤ size (rules_of mid.grammar.rules)
+        → size (rules_of new.store.grammar.rules) ≤ size (rules_of mid.grammar.rules) → ((IsDue settings (one_more l.edits) → ⊥) → rules_of new.store.grammar.rules ≡ rules_of mid.grammar.rules)
+        → greatest_rank (rules_of new.store.grammar.rules) ≤ max settings.rank (greatest_rank (rules_of mid.grammar.rules))
         → IsSettledWhereDue settings (one_more l.edits) (held_of new) (node_count (edited t e)) answer → Does settings act before (answer_line answer) (world (Some (held_of new)) told count)
-    edit-done mid new answer made store names small settled =
-        let most = made.size in
+    edit-done mid new answer made store names small kept ranks settled =
         let grown = made.names in
         does-edit settings act before (world (Some (held_of new)) told count) (answer_line answer) is (record {
           wants = wants;
@@ -155,7 +169,11 @@ module _ (settings : Settings) (act : Act) (is : IsEdit act) (l : Loaded) (told 
           state = refl;
           stand = store.stand;
           names = rw names grown;
-          size = omega (arith, small, most);
+          made = rules_of mid.grammar.rules;
+          few = made.size;
+          size = small;
+          kept = kept;
+          ranks = ranks-below settings.rank (greatest_rank (rules_of l.store.grammar.rules)) (greatest_rank (rules_of mid.grammar.rules)) (greatest_rank (rules_of new.store.grammar.rules)) made.ranks ranks;
           answer = answer;
           settled = settled;
           files = Stays-refl (told_files told);
@@ -185,5 +203,8 @@ module _ (settings : Settings) (act : Act) (is : IsEdit act) (l : Loaded) (told 
     edit-refused s error.Memory r = record {
       begins = begins-nothing act no.Memory before is;
       cause = ready-to-edit act (held_of l) told count is;
-      leaves = inr (refl, inl (record { wants = wants; names = s.names; grown = r.names; state = held-still l s s.names refl r.rules r.texts; files = Stays-refl (told_files told) }));
+      leaves = elim r.names [
+        | inl same ↦ inl (record { state = held-still l s l.store.names same r.rules r.texts; files = Stays-refl (told_files told) })
+        | inr grown ↦ inr (refl, inl (record { wants = wants; allowed = grown.0; names = s.names; grown = grown.1; state = held-still l s s.names refl r.rules r.texts; files = Stays-refl (told_files told) }))
+      ];
     }

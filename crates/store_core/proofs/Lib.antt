@@ -23,6 +23,7 @@ pub mod HitLines
 pub mod Comparisons
 pub mod Gathering
 pub mod Asked
+pub mod EditReads
 pub mod Checked
 pub mod RiseRooms
 pub mod ShownAll

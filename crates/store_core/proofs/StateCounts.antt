@@ -24,7 +24,7 @@ power-power n a zero = pow-zero (n ^ a) ∙ (sym (pow-zero n) ∙ ap (λ i. n ^ 
 power-power n a (suc b) =
     pow-succ' (n ^ a) b ∙ (ap (λ m. n ^ a * m) (power-power n a b) ∙ (sym (pow-add n a (b * a)) ∙ ap (λ i. n ^ i) (omega arith)))
 
-spread : (m n w : ℕ) → 2 * m * n * (1 + w) ≡ 2 * (n * m) + 2 * (w * (n * m))
+pub spread : (m n w : ℕ) → 2 * m * n * (1 + w) ≡ 2 * (n * m) + 2 * (w * (n * m))
 spread m n w = grind arith
 
 -- to read each node twice is within them
@@ -39,7 +39,7 @@ once-few G parts steps =
 abbrev IsUpBelow : ℕ → Up → Type 0
 IsUpBelow b u = (u.chain < b) × (u.code < b)
 
-abbrev IsDownBelow : ℕ → Down → Type 0
+abbrev pub IsDownBelow : ℕ → Down → Type 0
 IsDownBelow b d = (d.parent < b) × (d.above < b) × (d.before < b)
 
 up_code : ℕ → Up → ℕ
@@ -99,14 +99,14 @@ bit-one true false e = absurd (omega arith)
 bit-one false true e = absurd (omega arith)
 bit-one false false e = refl
 
-down_code : ℕ → Down → ℕ
+pub down_code : ℕ → Down → ℕ
 down_code b d = bit d.start + 2 * (d.parent + b * (d.above + b * d.before))
 
-down-lt : (b : ℕ) (d : Down) → IsDownBelow b d → down_code b d < 2 * (b * (b * b))
+pub down-lt : (b : ℕ) (d : Down) → IsDownBelow b d → down_code b d < 2 * (b * (b * b))
 unfolding down_code
 down-lt b d h = digit-lt 2 (b * (b * b)) (bit d.start) (d.parent + b * (d.above + b * d.before)) (bit-lt d.start) (digit-lt b (b * b) d.parent (d.above + b * d.before) h.0 (digit-lt b b d.above d.before h.1 h.2))
 
-down-one : (b : ℕ) (d e : Down) → IsDownBelow b d → IsDownBelow b e → down_code b d ≡ down_code b e → d ≡ e
+pub down-one : (b : ℕ) (d e : Down) → IsDownBelow b d → IsDownBelow b e → down_code b d ≡ down_code b e → d ≡ e
 unfolding down_code
 down-one b d e h k s =
     let p = digit-one 2 (bit d.start) (d.parent + b * (d.above + b * d.before)) (bit e.start) (e.parent + b * (e.above + b * e.before)) (bit-lt d.start) (bit-lt e.start) s in
@@ -163,14 +163,14 @@ made-most G f k nodes =
 
 -- ---- the bodies that runs read
 module _ (A : Algebra Up) (W : Downward Up Down) (G : List Rule) (g : IsGrammar G) (f k : ℕ) (few : HasFewStates A W f k) where
-  abbrev base : ℕ
+  abbrev pub base : ℕ
   base = 2 ^ f
 
-  abbrev deep : ℕ
+  abbrev pub deep : ℕ
   deep = 2 ^ k
 
   -- so many lists of states of arguments
-  abbrev lists : ℕ
+  abbrev pub lists : ℕ
   lists = (base * base) ^ greatest_rank G
 
   record IsRead (p : RuleStates Up) : Type 0 where
@@ -198,52 +198,52 @@ module _ (A : Algebra Up) (W : Downward Up Down) (G : List Rule) (g : IsGrammar 
       let more : (base * base) ^ length p.1 ≤ lists = pow-le-pow_right {n = base * base} (omega arith) {i = length p.1} {j = greatest_rank G} (omega (arith, a.many, rank-greatest G p.0)) in
       omega arith
 
-  lists-power : lists ≡ 4 ^ (greatest_rank G * f)
+  pub lists-power : lists ≡ 4 ^ (greatest_rank G * f)
   lists-power = ap (λ m. m ^ greatest_rank G) (sym (mul-pow 2 2 f)) ∙ power-power 4 f (greatest_rank G)
 
-  rise-few : (pairs : List (RuleStates Up)) (steps : ℕ) → ReadsOnce A G pairs steps → steps ≤ 2 * (lists * whole G)
+  pub rise-few : (pairs : List (RuleStates Up)) (steps : ℕ) → ReadsOnce A G pairs steps → steps ≤ 2 * (lists * whole G)
   rise-few pairs steps reads =
       let read : All IsRead pairs = All-weaker (λ (p : RuleStates Up). Uses Up A G p.0 p.1) IsRead (λ p u. used-read p.0 p.1 u) pairs reads.met in
       let sum = sum-apart (λ (p : RuleStates Up). ups_code base p.1) (λ q. length (body_at G q)) (λ p. p.0) IsRead (λ q. lists) read-told read-few (λ (R : Rule). length R.body) G no_rule lists (λ p. refl) (λ p. refl) pairs reads.distinct read (All-weaker IsRead (λ p. p.0 < length G) (λ p a. a.there) pairs read) in
       let bound = reads.bound in
       omega (arith, sum, bound)
 
-  -- so many down states
-  abbrev ways : ℕ
+  -- a run downward whose states numbers below a bound tell apart
+  module _ {D : Type 0} (V : Downward Up D) (Q : D → Type 0) (falls : KeepsDown V (IsUpOf f) Q) (number : D → ℕ) (many : ℕ) (below : (d : D) → Q d → number d < many) (apart : (d e : D) → Q d → Q e → number d ≡ number e → d ≡ e) where
+    record IsFallen (t : RuleStates Up × D) : Type 0 where
+      pub read : IsRead t.0
+      pub down : Q t.1
+
+    fallen-read : (r : ℕ) (args : List Up) (d : D) → Falls Up D A V G r args d → IsFallen ((r, args), d)
+    fallen-read r args d u =
+        let keeps : KeepsUp A (IsUpOf f) = record { bottom = few.bottom; node = λ symbol x y p q. few.node symbol x y } in
+        record { read = used-read r args (fallen-used A V G r args d u); down = fallen-kept A V (IsUpOf f) Q keeps falls G r args d u }
+
+    triple_code : RuleStates Up × D → ℕ
+    triple_code t = number t.1 + many * ups_code base t.0.1
+
+    fallen-told : (t u : RuleStates Up × D) → IsFallen t → IsFallen u → t.0.0 ≡ u.0.0 → triple_code t ≡ triple_code u → t ≡ u
+    unfolding triple_code
+    fallen-told t u a b e s =
+        let same = digit-one many (number t.1) (ups_code base t.0.1) (number u.1) (ups_code base u.0.1) (below t.1 a.down) (below u.1 b.down) s in
+        ap (λ (p : RuleStates Up). (p, t.1)) (read-told t.0 u.0 a.read b.read e same.1) ∙ ap (λ (d : D). (u.0, d)) (apart t.1 u.1 a.down b.down same.0)
+
+    fallen-few : (t : RuleStates Up × D) → IsFallen t → triple_code t < many * lists
+    unfolding triple_code
+    fallen-few t a = digit-lt many lists (number t.1) (ups_code base t.0.1) (below t.1 a.down) (read-few t.0 a.read)
+
+    pub fall-few : (triples : List (RuleStates Up × D)) (steps : ℕ) → FallsOnce A V G triples steps → steps ≤ 2 * (many * lists * whole G)
+    fall-few triples steps once =
+        let fallen : All IsFallen triples = All-weaker (λ (t : RuleStates Up × D). Falls Up D A V G t.0.0 t.0.1 t.1) IsFallen (λ t u. fallen-read t.0.0 t.0.1 t.1 u) triples once.met in
+        let sum = sum-apart triple_code (λ q. length (body_at G q)) (λ t. t.0.0) IsFallen (λ q. many * lists) fallen-told fallen-few (λ (R : Rule). length R.body) G no_rule (many * lists) (λ p. refl) (λ p. refl) triples once.distinct fallen (All-weaker IsFallen (λ t. t.0.0 < length G) (λ t a. a.read.there) triples fallen) in
+        let bound = once.bound in
+        omega (arith, sum, bound)
+
+  -- so many down states a selector has
+  abbrev pub ways : ℕ
   ways = 2 * (deep * (deep * deep))
 
-  record IsFallen (t : RuleStates Up × Down) : Type 0 where
-    pub read : IsRead t.0
-    pub down : IsDownBelow deep t.1
-
-  fallen-read : (r : ℕ) (args : List Up) (d : Down) → Falls Up Down A W G r args d → IsFallen ((r, args), d)
-  fallen-read r args d u =
-      let keeps : KeepsUp A (IsUpOf f) = record { bottom = few.bottom; node = λ symbol x y p q. few.node symbol x y } in
-      let falls : KeepsDown W (IsUpOf f) (AreMarksBelow k) = record { start = few.start; left = λ symbol d x y m p q. few.left symbol d x y; right = λ symbol d x y m p q. few.right symbol d x y } in
-      let down = fallen-kept A W (IsUpOf f) (AreMarksBelow k) keeps falls G r args d u in
-      record { read = used-read r args (fallen-used A W G r args d u); down = (down.parent, down.above, down.before) }
-
-  triple_code : RuleStates Up × Down → ℕ
-  triple_code t = down_code deep t.1 + ways * ups_code base t.0.1
-
-  fallen-told : (t u : RuleStates Up × Down) → IsFallen t → IsFallen u → t.0.0 ≡ u.0.0 → triple_code t ≡ triple_code u → t ≡ u
-  unfolding triple_code
-  fallen-told t u a b e s =
-      let same = digit-one ways (down_code deep t.1) (ups_code base t.0.1) (down_code deep u.1) (ups_code base u.0.1) (down-lt deep t.1 a.down) (down-lt deep u.1 b.down) s in
-      ap (λ (p : RuleStates Up). (p, t.1)) (read-told t.0 u.0 a.read b.read e same.1) ∙ ap (λ (d : Down). (u.0, d)) (down-one deep t.1 u.1 a.down b.down same.0)
-
-  fallen-few : (t : RuleStates Up × Down) → IsFallen t → triple_code t < ways * lists
-  unfolding triple_code
-  fallen-few t a = digit-lt ways lists (down_code deep t.1) (ups_code base t.0.1) (down-lt deep t.1 a.down) (read-few t.0 a.read)
-
-  fall-few : (triples : List (RuleStates Up × Down)) (steps : ℕ) → FallsOnce A W G triples steps → steps ≤ 2 * (ways * lists * whole G)
-  fall-few triples steps falls =
-      let fallen : All IsFallen triples = All-weaker (λ (t : RuleStates Up × Down). Falls Up Down A W G t.0.0 t.0.1 t.1) IsFallen (λ t u. fallen-read t.0.0 t.0.1 t.1 u) triples falls.met in
-      let sum = sum-apart triple_code (λ q. length (body_at G q)) (λ t. t.0.0) IsFallen (λ q. ways * lists) fallen-told fallen-few (λ (R : Rule). length R.body) G no_rule (ways * lists) (λ p. refl) (λ p. refl) triples falls.distinct fallen (All-weaker IsFallen (λ t. t.0.0 < length G) (λ t a. a.read.there) triples fallen) in
-      let bound = falls.bound in
-      omega (arith, sum, bound)
-
-  ways-power : ways ≤ 8 ^ (k + 1)
+  pub ways-power : 4 * ways ≡ 8 ^ (k + 1)
   ways-power =
       let four : 4 ^ k ≡ deep * deep = mul-pow 2 2 k in
       let eight : 8 ^ k ≡ 2 ^ k * 4 ^ k = mul-pow 2 4 k in
@@ -251,14 +251,20 @@ module _ (A : Algebra Up) (W : Downward Up Down) (G : List Rule) (g : IsGrammar 
       let next : 8 ^ (k + 1) ≡ 8 ^ k * 8 = pow-add 8 k 1 in
       omega (arith, four, eight, cube, next)
 
+  pub down-below : (d : Down) → AreMarksBelow k d → IsDownBelow deep d
+  down-below d m = (m.parent, m.above, m.before)
+
+  selector-falls : KeepsDown W (IsUpOf f) (AreMarksBelow k)
+  selector-falls = record { start = few.start; left = λ symbol d x y m p q. few.left symbol d x y; right = λ symbol d x y m p q. few.right symbol d x y }
+
   -- a run upward and a run downward over it read so few nodes
   pub both-few : (pairs : List (RuleStates Up)) (triples : List (RuleStates Up × Down)) (rises steps : ℕ) → ReadsOnce A G pairs rises → FallsOnce A W G triples steps → rises + steps ≤ most_reads G f k
   both-few pairs triples rises steps up down =
       let r = rise-few pairs rises up in
-      let d = fall-few triples steps down in
+      let d = fall-few W (AreMarksBelow k) selector-falls (down_code deep) ways (λ d m. down-lt deep d (down-below d m)) (λ d e m l same. down-one deep d e (down-below d m) (down-below e l) same) triples steps down in
       let n : ℕ = 4 ^ (greatest_rank G * f) in
       let w : ℕ = 8 ^ (k + 1) in
       let first : lists * whole G ≡ n * whole G = ap (λ m. m * whole G) lists-power in
-      let some : ways * (n * whole G) ≤ w * (n * whole G) = mul-le-mul_right (n * whole G) ways-power in
+      let some : ways * (n * whole G) ≤ w * (n * whole G) = mul-le-mul_right (n * whole G) (omega (arith, ways-power)) in
       let second : ways * lists * whole G ≡ ways * (n * whole G) = mul_assoc ways lists (whole G) ∙ ap (λ m. ways * m) first in
       omega (arith, r, d, first, some, second, spread (whole G) n w)

@@ -1,4 +1,4 @@
--- How many reads of grammar nodes queries take.
+-- How many reads of grammar nodes queries take, and edits of all nodes that they select.
 use Rattle.std.specs.Prelude.{◌≡◌, ◌≤◌, ℕ, ◌+◌, ◌*◌, ◌^◌, List, [], ◌∷◌, map, Some}
 use Rattle.slt_grammar.specs.Grammars.{whole}
 use Rattle.slt_grammar.specs.Ranks.{greatest_rank}
@@ -10,8 +10,8 @@ use Rattle.xpath_parser.specs.Limits.{inside, outside}
 use Rattle.xpath_parser.specs.Meant.{meant_paths}
 use Rattle.xpath_parser.specs.Spelled.{Spells}
 use Rattle.xpath_parser.specs.Trees.{Paths}
-use Rattle.store_core.specs.Acts.{Act, query_listed}
-use Rattle.store_core.specs.Selecting.{SpellsLarge, SpellsNoQuery}
+use Rattle.store_core.specs.Acts.{Act, query_edited, query_listed}
+use Rattle.store_core.specs.Selecting.{SpellsComparison, SpellsLarge, SpellsNoQuery}
 use Rattle.store_core.specs.Worlds.{Parts, State, parts_in}
 
 -- Two for each node of a rule's body, for each list of states of its arguments: once upward, and downward for each state there. Of
@@ -34,3 +34,15 @@ pub record ReadsFew (query : List ℕ) (parts : Parts) (before now : ℕ) : Type
 -- a command that lists or counts the nodes of a query takes so few reads
 abbrev pub AsksFew : Act → State → ℕ → ℕ → Type 0
 AsksFew act state before now = (query : List ℕ) (parts : Parts) → query_listed act ≡ Some query → parts_in state ≡ Some parts → ReadsFew query parts before now
+
+-- All nodes of the query were edited, or the edit was refused, with so few reads. Bytes that are no query, one above the limits, or one that
+-- compares, were refused without any.
+pub record EditsFew (query : List ℕ) (parts : Parts) (before now : ℕ) : Type 0 where
+  pub few : (paths : Paths) → Spells query paths → now ≤ before + 2 * most_reads parts.rules (inside paths) (outside paths)
+  pub none : SpellsNoQuery query → now ≡ before
+  pub large : SpellsLarge query → now ≡ before
+  pub compares : SpellsComparison query → now ≡ before
+
+-- a command that edits all nodes of a query takes so few reads
+abbrev pub AsksFewEdits : Act → State → ℕ → ℕ → Type 0
+AsksFewEdits act state before now = (query : List ℕ) (parts : Parts) → query_edited act ≡ Some query → parts_in state ≡ Some parts → EditsFew query parts before now

@@ -1,5 +1,5 @@
 // Edits of all nodes that a query selects.
-ghost use Rattle.std.specs.Prelude.{◌≡◌, ◌≤◌, ◌<◌, ◌^◌, ℕ, [], sum_by, Option, Some, IfErr, OnErr, OnOk};
+ghost use Rattle.std.specs.Prelude.{◌≡◌, ◌≤◌, ◌<◌, ◌+◌, ◌*◌, ◌^◌, ℕ, List, [], sum_by, Option, Some, IfErr, OnErr, OnOk};
 ghost use Rattle.tree_outside.specs.Files.{Told};
 ghost use Rattle.plain_tree.specs.Lawful.{IsName};
 ghost use Rattle.plain_tree.specs.Tree.{Tree};
@@ -9,12 +9,15 @@ ghost use Rattle.slt_grammar.specs.Segments.{listed};
 ghost use Rattle.digram_index.specs.Linked.{IsIndexOf};
 ghost use Rattle.segment_counts.specs.Counting.{AreCounts};
 ghost use Rattle.segment_counts.specs.Weights.{node_weight};
+ghost use Rattle.selecting_automaton.specs.Bounds.{HasFewStates};
+ghost use Rattle.selecting_automaton.specs.Words.{word_algebra, word_downward};
 ghost use Rattle.tree_updates.specs.Stores.{HasMarks, IsStoreFor};
-ghost use Rattle.store_core.specs.Acts.{DeleteAll, RenameAll};
+ghost use Rattle.store_core.specs.Acts.{DeleteAll, RenameAll, query_edited};
 ghost use Rattle.store_core.specs.BulkEditing.{Deletion, IsBulkEdit, Renaming};
 ghost use Rattle.store_core.specs.BulkStores.{AppliesToAll};
 ghost use Rattle.store_core.specs.CommandOf.{act_of};
 ghost use Rattle.store_core.specs.Machine.{Comes};
+ghost use Rattle.store_core.specs.Reads.{EditsFew, most_reads};
 ghost use Rattle.store_core.specs.StoreOf.{IsCounted, held_of, parts_of};
 ghost use Rattle.store_core.specs.Worlds.{AreLawfulParts, world};
 
@@ -33,6 +36,7 @@ use std::sync::ledger::Ledger;
 use store_words::Settings;
 use tree_updates::Store;
 use xml_nodes::is_name;
+use xpath_parser::spells_one;
 
 /// Makes the edit that a command asks for of all nodes that its query selects, and settles the grammar where that is due, for a rank of at
 /// most 8.
@@ -53,6 +57,7 @@ pub(crate) fn edit_selected<L: Ledger>(
     ensures few { loaded.new.edits < 2 ^ 64 }
     ensures comes { (told : Option Told) (count : ℕ)
         → Comes settings (act_of command.entry) (world (Some (held_of loaded.old)) told count) [] result (world (Some (held_of loaded.new)) told count) }
+    ensures reads { (query : List ℕ) → query_edited (act_of command.entry) ≡ Some query → EditsFew query (parts_of loaded.old.store) steps.old steps.new }
 {
     match command {
         Command::RenameAll { name, query } => {
@@ -80,7 +85,10 @@ fn rename_selected<L: Ledger>(
     ensures few { loaded.new.edits < 2 ^ 64 }
     ensures comes { (told : Option Told) (count : ℕ)
         → Comes settings (RenameAll name.now query.now) (world (Some (held_of loaded.old)) told count) [] result (world (Some (held_of loaded.new)) told count) }
+    ensures reads { EditsFew query.now (parts_of loaded.old.store) steps.old steps.new }
 {
+    // The call tells that the text spells one query alone.
+    spells_one();
     let selector = plain_selector_of(alloc, query, &loaded.store.names)?;
     check_name(name)?;
     rename_hits(alloc, &mut loaded.store, &selector, name, steps)?;
@@ -103,7 +111,10 @@ fn delete_selected<L: Ledger>(
     ensures few { loaded.new.edits < 2 ^ 64 }
     ensures comes { (told : Option Told) (count : ℕ)
         → Comes settings (DeleteAll query.now) (world (Some (held_of loaded.old)) told count) [] result (world (Some (held_of loaded.new)) told count) }
+    ensures reads { EditsFew query.now (parts_of loaded.old.store) steps.old steps.new }
 {
+    // The call tells that the text spells one query alone.
+    spells_one();
     let selector = plain_selector_of(alloc, query, &loaded.store.names)?;
     delete_hits(alloc, &mut loaded.store, &selector, steps)?;
     Ok(settle_where_due(alloc, loaded, settings))
@@ -134,6 +145,8 @@ fn rename_hits<L: Ledger>(
     requires name { IsName name.now }
     ensures applies { (t : Tree) → IsStoreFor store.old t → AppliesToAll (Renaming name.now) selector.now t store.old result store.new }
     ensures marks { HasMarks store.new }
+    ensures reads { (parts steps_outside : ℕ) → HasFewStates (word_algebra selector.now) (word_downward selector.now) parts steps_outside
+        → steps.new ≤ steps.old + 2 * most_reads (rules_of store.old.grammar.rules) parts steps_outside }
 {
     // The call tells what is true of every grammar.
     let _rules = store.grammar.rules();
@@ -160,7 +173,11 @@ fn delete_hits<L: Ledger>(
     requires store { (t : Tree) × IsStoreFor store.old t }
     ensures applies { (t : Tree) → IsStoreFor store.old t → AppliesToAll Deletion selector.now t store.old result store.new }
     ensures marks { HasMarks store.new }
+    ensures reads { (parts steps_outside : ℕ) → HasFewStates (word_algebra selector.now) (word_downward selector.now) parts steps_outside
+        → steps.new ≤ steps.old + 2 * most_reads (rules_of store.old.grammar.rules) parts steps_outside }
 {
+    // The call tells what is true of every grammar.
+    let _rules = store.grammar.rules();
     store.marks.clear();
     let Rewritten { grammar, texts } = delete_all(
         alloc,

@@ -33,7 +33,7 @@ impl Session {
     ghost use Rattle.store_core.specs.Acts as act;
     ghost use Rattle.store_core.specs.CommandOf.{act_of};
     ghost use Rattle.store_core.specs.Machine.{Comes, Prints};
-    ghost use Rattle.store_core.specs.Reads.{AsksFew};
+    ghost use Rattle.store_core.specs.Reads.{AsksFew, AsksFewEdits};
     ghost use Rattle.store_core.specs.Worlds.{IsIdle, IsLawfulState, world};
     ghost use Rattle.store_core.specs.BulkEditing.{IsBulkEdit};
     ghost use Rattle.store_core.specs.Editing.{IsEdit};
@@ -188,6 +188,7 @@ impl Session {
         requires edit { IsBulkEdit (act_of command) }
         ensures lawful { IsLawfulState self.old × IsLawfulState self.new }
         ensures comes { (told : Option Told) (count : ℕ) → Comes settings (act_of command.entry) (world self.old told count) [] result (world self.new told count) }
+        ensures reads { AsksFewEdits (act_of command.entry) self.old steps.old steps.new }
     {
         match &mut self.loaded {
             None => Err(Refusal::NoDocument),

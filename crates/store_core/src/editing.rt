@@ -1,5 +1,5 @@
 // Edits of the document that is loaded.
-ghost use Rattle.std.specs.Prelude.{◌≡◌, ◌≤◌, ◌<◌, ◌^◌, ◌↔◌, ℕ, List, [], Option, Some, IfOk, IfErr, IsTrue, OnOk};
+ghost use Rattle.std.specs.Prelude.{◌≡◌, ◌≤◌, ◌<◌, ◌^◌, ◌↔◌, ℕ, max, List, [], Option, Some, IfOk, IfErr, IsTrue, OnOk};
 ghost use Rattle.tree_outside.specs.Files.{Told};
 ghost use Rattle.plain_tree.specs.Edits.{number_of};
 ghost use Rattle.plain_tree.specs.Lawful.{IsName};
@@ -7,6 +7,7 @@ ghost use Rattle.plain_tree.specs.Tree.{Tree, trees, node_count};
 ghost use Rattle.xml_nodes.specs.Spelling.{SpellsList, SpellsValue};
 ghost use Rattle.slt_grammar.specs.Grammars.{IsGrammar, size};
 ghost use Rattle.slt_grammar.specs.Keyed.{rules_of};
+ghost use Rattle.slt_grammar.specs.Ranks.{greatest_rank};
 ghost use Rattle.tree_updates.specs.Stores.{HasMarks, IsStoreFor};
 ghost use Rattle.store_core.specs.Acts.{node_asked};
 ghost use Rattle.store_core.specs.CommandOf.{act_of};
@@ -187,6 +188,7 @@ pub(crate) fn settle_where_due(alloc: Global, loaded: &mut Loaded, settings: Set
     ensures names { loaded.new.store.names ≡ loaded.old.store.names }
     ensures size { size (rules_of loaded.new.store.grammar.rules) ≤ size (rules_of loaded.old.store.grammar.rules) }
     ensures kept { (IsDue settings (one_more loaded.old.edits) → ⊥) → rules_of loaded.new.store.grammar.rules ≡ rules_of loaded.old.store.grammar.rules }
+    ensures ranks { greatest_rank (rules_of loaded.new.store.grammar.rules) ≤ max settings.rank (greatest_rank (rules_of loaded.old.store.grammar.rules)) }
     ensures few { loaded.new.edits < 2 ^ 64 }
     ensures marks { HasMarks loaded.new.store }
     ensures settled { (t : Tree) → IsStoreFor loaded.old.store t → IsSettledWhereDue settings (one_more loaded.old.edits) (held_of loaded.new) (node_count t) result }

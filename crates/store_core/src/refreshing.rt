@@ -1,9 +1,10 @@
 // Grammars that edits have worn.
-ghost use Rattle.std.specs.Prelude.{◌≡◌, ◌≤◌, IfOk};
+ghost use Rattle.std.specs.Prelude.{◌≡◌, ◌≤◌, max, IfOk};
 ghost use Rattle.plain_tree.specs.Tree.{Tree};
 ghost use Rattle.slt_grammar.specs.Digrams.{IsSettled};
 ghost use Rattle.slt_grammar.specs.Grammars.{IsGrammar, IsSwept, size};
 ghost use Rattle.slt_grammar.specs.Keyed.{rules_of};
+ghost use Rattle.slt_grammar.specs.Ranks.{greatest_rank};
 ghost use Rattle.digram_index.specs.Linked.{IsIndexOf};
 ghost use Rattle.tree_updates.specs.Stores.{HasMarks, IsStoreFor};
 ghost use Rattle.store_core.specs.Repairing.{SettlesTo};
@@ -28,6 +29,7 @@ pub(crate) fn refresh(alloc: Global, store: &mut Store, rank: usize)
     ensures grammar { IsGrammar (rules_of store.new.grammar.rules) }
     ensures names { store.new.names ≡ store.old.names }
     ensures size { size (rules_of store.new.grammar.rules) ≤ size (rules_of store.old.grammar.rules) }
+    ensures ranks { greatest_rank (rules_of store.new.grammar.rules) ≤ max rank (greatest_rank (rules_of store.old.grammar.rules)) }
     ensures marks { HasMarks store.new }
 {
     // The call tells what is true of every grammar.
@@ -55,6 +57,7 @@ fn settled_anew(alloc: Global, grammar: &Grammar, rank: usize) -> Result<Settled
     requires swept { IsSwept (rules_of grammar.now.rules) }
     ensures settles { IfOk result (λ s. SettlesTo rank (rules_of grammar.now.rules) (rules_of s.grammar.rules)) }
     ensures swept { IfOk result (λ s. IsSwept (rules_of s.grammar.rules)) }
+    ensures ranks { IfOk result (λ s. greatest_rank (rules_of s.grammar.rules) ≤ max rank (greatest_rank (rules_of grammar.now.rules))) }
     ensures index { IfOk result (λ s. IsIndexOf s.grammar s.index) }
 {
     let grammar = smaller_copy(alloc, grammar, rank)?;
@@ -69,6 +72,7 @@ fn smaller_copy(alloc: Global, grammar: &Grammar, rank: usize) -> Result<Grammar
     requires swept { IsSwept (rules_of grammar.now.rules) }
     ensures settles { IfOk result (λ copy. SettlesTo rank (rules_of grammar.now.rules) (rules_of copy.rules)) }
     ensures swept { IfOk result (λ copy. IsSwept (rules_of copy.rules)) }
+    ensures ranks { IfOk result (λ copy. greatest_rank (rules_of copy.rules) ≤ max rank (greatest_rank (rules_of grammar.now.rules))) }
 {
     let mut deep = grammar.copy()?;
     settle_deeply(alloc, &mut deep, rank)?;

@@ -103,6 +103,7 @@ pub(crate) fn settle_store(alloc: Global, store: &mut Store, rank: usize) -> Res
     ensures grammar { IsGrammar (rules_of store.new.grammar.rules) }
     ensures names { store.new.names ≡ store.old.names }
     ensures size { size (rules_of store.new.grammar.rules) ≤ size (rules_of store.old.grammar.rules) }
+    ensures ranks { greatest_rank (rules_of store.new.grammar.rules) ≤ max rank (greatest_rank (rules_of store.old.grammar.rules)) }
     ensures marks { HasMarks store.new }
 {
     settle_in_place(alloc, store, rank)?;
@@ -121,6 +122,7 @@ fn settle_in_place(alloc: Global, store: &mut Store, rank: usize) -> Result<(), 
     ensures grammar { IsGrammar (rules_of store.new.grammar.rules) }
     ensures names { store.new.names ≡ store.old.names }
     ensures size { size (rules_of store.new.grammar.rules) ≤ size (rules_of store.old.grammar.rules) }
+    ensures ranks { greatest_rank (rules_of store.new.grammar.rules) ≤ max rank (greatest_rank (rules_of store.old.grammar.rules)) }
     ensures marks { HasMarks store.new }
 {
     // The calls tell what is true of every grammar.

@@ -1,10 +1,11 @@
 // Settling the grammar that is held across the borders of rules.
-ghost use Rattle.std.specs.Prelude.{◌≡◌, ◌≤◌, ◌<◌, ◌^◌, ℕ, Option, Some, IfOk, IfSome, OnErr};
+ghost use Rattle.std.specs.Prelude.{◌≡◌, ◌≤◌, ◌<◌, ◌^◌, ℕ, max, Option, Some, IfOk, IfSome, OnErr};
 ghost use Rattle.tree_outside.specs.Files.{Told};
 ghost use Rattle.slt_grammar.specs.Automata.{nodes_in};
 ghost use Rattle.slt_grammar.specs.Digrams.{IsSettled};
 ghost use Rattle.slt_grammar.specs.Grammars.{value};
 ghost use Rattle.slt_grammar.specs.Keyed.{rules_of};
+ghost use Rattle.slt_grammar.specs.Ranks.{greatest_rank};
 ghost use Rattle.digram_index.specs.Linked.{IsIndexOf};
 ghost use Rattle.border_repair.specs.Digrams.{IsCandidate, occurrences};
 ghost use Rattle.store_core.specs.Machine.{RepairsWide};
@@ -80,6 +81,7 @@ fn settled_across(
     requires rank { rank ≤ 8 }
     requires digram { IfSome digram (λ d. IsCandidate rank d × (0 < occurrences d (rules_of grammar.now.rules))) }
     ensures settles { IfOk result (λ s. SettlesTo rank (rules_of grammar.now.rules) (rules_of s.grammar.rules)) }
+    ensures ranks { IfOk result (λ s. greatest_rank (rules_of s.grammar.rules) ≤ max rank (greatest_rank (rules_of grammar.now.rules))) }
     ensures index { IfOk result (λ s. IsIndexOf s.grammar s.index) }
 {
     let mut settled = settled_copy(alloc, grammar, rank)?;
@@ -101,8 +103,10 @@ fn improve(
     requires rank { rank ≤ 8 }
     requires digram { IsCandidate rank digram × (0 < occurrences digram (rules_of grammar.now.rules)) }
     requires settles { SettlesTo rank (rules_of grammar.now.rules) (rules_of settled.old.grammar.rules) }
+    requires ranks { greatest_rank (rules_of settled.old.grammar.rules) ≤ max rank (greatest_rank (rules_of grammar.now.rules)) }
     requires index { IsIndexOf settled.old.grammar settled.old.index }
     ensures settles { SettlesTo rank (rules_of grammar.now.rules) (rules_of settled.new.grammar.rules) }
+    ensures ranks { greatest_rank (rules_of settled.new.grammar.rules) ≤ max rank (greatest_rank (rules_of grammar.now.rules)) }
     ensures index { IsIndexOf settled.new.grammar settled.new.index }
 {
     let wide = settled_with_rule(alloc, grammar, digram, rank)?;
@@ -123,6 +127,7 @@ fn settled_with_rule(
     requires digram { IsCandidate rank digram × (0 < occurrences digram (rules_of grammar.now.rules)) }
     ensures settled { IfOk result (λ s. IsSettled (rules_of s.grammar.rules) rank) }
     ensures value { IfOk result (λ s. value (rules_of s.grammar.rules) ≡ value (rules_of grammar.now.rules)) }
+    ensures ranks { IfOk result (λ s. greatest_rank (rules_of s.grammar.rules) ≤ max rank (greatest_rank (rules_of grammar.now.rules))) }
     ensures index { IfOk result (λ s. IsIndexOf s.grammar s.index) }
 {
     let mut copy = grammar.copy()?;

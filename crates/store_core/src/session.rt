@@ -53,7 +53,7 @@ impl Session {
     ghost use Rattle.store_core.specs.Acts.{AsksFewRecords};
     ghost use Rattle.store_core.specs.CommandOf.{act_of};
     ghost use Rattle.store_core.specs.Machine.{Prints, Step};
-    ghost use Rattle.store_core.specs.Reads.{AsksFew};
+    ghost use Rattle.store_core.specs.Reads.{AsksFew, AsksFewEdits};
     ghost use Rattle.store_core.specs.Worlds.{IsIdle, IsLawfulState, parts_in, world};
     ghost use Rattle.store_core.specs.StoreOf.{IsCounted, parts_of};
     ghost use Rattle.std.specs.Option.{option_map};
@@ -80,8 +80,8 @@ impl Session {
     /// `SinkFailed` comes only where the sink failed; session and shelf are then as after the command, and the sink got a front of the
     /// text. Where the shelf tells that no file was open and none pending, that is so after the command too.
     ///
-    /// `query` and `count` take few reads on this counter (`reads`). No clause says of others what they read, nor that the last line is one
-    /// write of the sink.
+    /// `query` and `count` take few reads on this counter (`reads`), and so do edits of all nodes of a query (`edit_reads`). No clause says of
+    /// others what they read, nor that the last line is one write of the sink.
     pub fn command<K: Sink, F: Shelf, L: Ledger>(
         &mut self,
         alloc: Global,
@@ -102,6 +102,7 @@ impl Session {
         ensures idle { IsIdle (F.told shelf.old) → IsIdle (F.told shelf.new) }
         ensures cause { HasCause (K.faults sink.old) (K.faults sink.new) result }
         ensures reads { AsksFew (act_of command.entry) self.old steps.old steps.new }
+        ensures edit_reads { AsksFewEdits (act_of command.entry) self.old steps.old steps.new }
     {
         let outcome = self.outcome(alloc, command, settings, sink, shelf, steps)?;
         write_line(outcome, sink)?;
@@ -127,6 +128,7 @@ impl Session {
         ensures kept { Keeps (K.kept sink.old) (K.kept sink.new) }
         ensures cause { HasCause (K.faults sink.old) (K.faults sink.new) result }
         ensures reads { AsksFew (act_of command.entry) self.old steps.old steps.new }
+        ensures edit_reads { AsksFewEdits (act_of command.entry) self.old steps.old steps.new }
     {
         match command {
             Command::Load { name } => Ok(self.load(alloc, name, settings, shelf)),

@@ -2,10 +2,12 @@ use Rattle.std.proofs.Common.{ap, inl, refl}
 use Rattle.std.proofs.lemmas.Result.{err_from_is_err_and}
 use Rattle.slt_grammar.specs.Keyed.{Keyed, rules_of}
 use Rattle.bulk_rewrite.specs.declared.renaming_all.BulkError.TheVariants.{Memory}
+use Rattle.selecting_automaton.specs.Words.{word_algebra, word_downward}
 use Rattle.tree_updates.proofs.AppliedMarks.{marked, store-marked}
 use Rattle.store_core.specs.BulkEditing.{Deletion, edited_all}
 use Rattle.store_core.specs.BulkStores.{hits_in}
 use Rattle.store_core.proofs.BulkEdits.{all-deleted-store, cleared-marks, deletion-refused, edited-marked, few-edited, few-weighed, left-as-it-was, left-marked}
+use Rattle.store_core.proofs.EditReads.{deleted-few}
 use Rattle.store_core.proofs.bulk_editing.delete_hits.Goals as goal
 
 pub delete_all-requires : goal.delete_all-requires
@@ -44,7 +46,7 @@ returns-clause-applies g c =
     let s = c.args.store.now in
     let m = c.clear.new.self in
     edited-marked Deletion c.args.selector.now s t m _
-    (all-deleted-store (marked s m) t (store-marked s m t i) c.args.selector.now (rules_of c.in_ok-grammar.field-0.grammar.rules) made.swept c.put_rules.new.store (ap (λ (x : Keyed). rules_of x.rules) put.rules) put.counts put.index
+    (all-deleted-store (marked s m) t (store-marked s m t i) c.args.selector.now (rules_of c.in_ok-grammar.field-0.grammar.rules) made.swept c.put_rules.new.store (ap (λ (x : Keyed). rules_of x.rules) put.rules) put.counts put.index made.ranks
     c.in_ok-grammar.field-0.texts (made.deleted t i.stand) made.few put.names)
 
 pub returns-in_err-put_rules-clause-marks : goal.returns-in_err-put_rules-clause-marks
@@ -54,3 +56,15 @@ pub returns-clause-marks : goal.returns-clause-marks
 returns-clause-marks g c =
     let s = c.put_rules.new.store in
     cleared-marks (record s { texts = c.in_ok-grammar.field-0.texts }) c.clear.new.self c.put_rules.ensures.marks c.clear.ensures
+
+pub returns-in_err-grammar-clause-reads : goal.returns-in_err-grammar-clause-reads
+returns-in_err-grammar-clause-reads g c = λ parts outer few.
+    deleted-few (word_algebra c.args.selector.now) (word_downward c.args.selector.now) (rules_of c.args.store.now.grammar.rules) c.rules-rules.ensures.grammar parts outer few c.args.store.now.names c.args.steps.now c.delete_all.new.steps c.delete_all.ensures.reads c.delete_all.ensures.counted
+
+pub returns-in_err-put_rules-clause-reads : goal.returns-in_err-put_rules-clause-reads
+returns-in_err-put_rules-clause-reads g c = λ parts outer few.
+    deleted-few (word_algebra c.args.selector.now) (word_downward c.args.selector.now) (rules_of c.args.store.now.grammar.rules) c.rules-rules.ensures.grammar parts outer few c.args.store.now.names c.args.steps.now c.delete_all.new.steps c.delete_all.ensures.reads c.delete_all.ensures.counted
+
+pub returns-clause-reads : goal.returns-clause-reads
+returns-clause-reads g c = λ parts outer few.
+    deleted-few (word_algebra c.args.selector.now) (word_downward c.args.selector.now) (rules_of c.args.store.now.grammar.rules) c.rules-rules.ensures.grammar parts outer few c.args.store.now.names c.args.steps.now c.delete_all.new.steps c.delete_all.ensures.reads c.delete_all.ensures.counted

@@ -4,7 +4,9 @@ use Rattle.slt_grammar.specs.Grammars.{IsGrammar}
 use Rattle.store_core.specs.Acts.{DeleteAll}
 use Rattle.store_core.specs.BulkEditing.{Deletion, edited_all}
 use Rattle.store_core.specs.BulkStores.{hits_in}
+use Rattle.store_core.specs.StoreOf.{parts_of}
 use Rattle.store_core.proofs.BulkEdits.{all-done, all-refused, no-query}
+use Rattle.store_core.proofs.EditReads.{edit-reads}
 use Rattle.store_core.proofs.Edited.{counted-store, held-store, store-held}
 use Rattle.store_core.proofs.bulk_editing.delete_selected.Goals as goal
 
@@ -61,4 +63,12 @@ returns-clause-comes g c = λ told count.
     let t = edited_all Deletion (hits_in c.in_ok-selector.selector c.args.loaded.now.store) h.tree in
     let s = c.settle_where_due.ensures in
     all-done c.args.settings (DeleteAll c.args.query.now) Deletion c.args.query.now (refl, refl) c.args.loaded.now told count h.tree i c.in_ok-selector.selector c.in_ok-selector.ensures.selector
-    c.delete_hits.new.store c.settle_where_due.new.loaded c.settle_where_due.result made (s.store t made.store) s.names s.size s.kept (s.settled t made.store)
+    c.delete_hits.new.store c.settle_where_due.new.loaded c.settle_where_due.result made (s.store t made.store) s.names s.size s.kept s.ranks (s.settled t made.store)
+
+pub returns-in_err-delete_hits-clause-reads : goal.returns-in_err-delete_hits-clause-reads
+returns-in_err-delete_hits-clause-reads g c =
+    edit-reads c.args.query.now (parts_of c.args.loaded.now.store) c.in_ok-selector.selector c.args.steps.now c.delete_hits.new.steps c.spells_one.ensures c.in_ok-selector.ensures.selector c.delete_hits.ensures.reads
+
+pub returns-clause-reads : goal.returns-clause-reads
+returns-clause-reads g c =
+    edit-reads c.args.query.now (parts_of c.args.loaded.now.store) c.in_ok-selector.selector c.args.steps.now c.delete_hits.new.steps c.spells_one.ensures c.in_ok-selector.ensures.selector c.delete_hits.ensures.reads

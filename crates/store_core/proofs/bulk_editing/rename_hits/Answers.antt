@@ -2,10 +2,12 @@ use Rattle.std.proofs.Common.{ap}
 use Rattle.std.proofs.lemmas.Result.{err_from_is_err_and}
 use Rattle.slt_grammar.specs.Keyed.{Keyed, rules_of}
 use Rattle.bulk_rewrite.specs.declared.renaming_all.BulkError.TheVariants.{Memory}
+use Rattle.selecting_automaton.specs.Words.{word_algebra, word_downward}
 use Rattle.tree_updates.proofs.AppliedMarks.{marked, store-marked}
 use Rattle.store_core.specs.BulkEditing.{Renaming, edited_all}
 use Rattle.store_core.specs.BulkStores.{hits_in}
 use Rattle.store_core.proofs.BulkEdits.{all-renamed-store, cleared-marks, edited-marked, few-edited, few-weighed, left-by-all, left-marked, left-named, renaming-refused}
+use Rattle.store_core.proofs.EditReads.{renamed-few}
 use Rattle.store_core.proofs.bulk_editing.rename_hits.Goals as goal
 
 pub rename_all-requires-clause-stands : goal.rename_all-requires-clause-stands
@@ -47,7 +49,7 @@ returns-clause-applies g c =
     λ t i.
     let m = c.clear.new.self in
     edited-marked (Renaming c.args.name.now) c.args.selector.now s t m c.put_rules.new.store
-    (all-renamed-store (marked s m) t (store-marked s m t i) c.args.selector.now (rules_of c.in_ok-grammar.grammar.rules) made.swept c.put_rules.new.store (ap (λ (x : Keyed). rules_of x.rules) put.rules) put.counts put.index
+    (all-renamed-store (marked s m) t (store-marked s m t i) c.args.selector.now (rules_of c.in_ok-grammar.grammar.rules) made.swept c.put_rules.new.store (ap (λ (x : Keyed). rules_of x.rules) put.rules) put.counts put.index made.ranks
     c.args.name.now c.rename_all.new.names (made.renamed s.texts.texts t i.stand) made.few put.names put.texts)
 
 pub returns-in_err-put_rules-clause-marks : goal.returns-in_err-put_rules-clause-marks
@@ -55,3 +57,15 @@ returns-in_err-put_rules-clause-marks g c = cleared-marks c.put_rules.new.store 
 
 pub returns-clause-marks : goal.returns-clause-marks
 returns-clause-marks g c = cleared-marks c.put_rules.new.store c.clear.new.self c.put_rules.ensures.marks c.clear.ensures
+
+pub returns-in_err-grammar-clause-reads : goal.returns-in_err-grammar-clause-reads
+returns-in_err-grammar-clause-reads g c = λ parts outer few.
+    renamed-few (word_algebra c.args.selector.now) (word_downward c.args.selector.now) (rules_of c.args.store.now.grammar.rules) c.rules-rules.ensures.grammar parts outer few c.args.steps.now c.rename_all.new.steps c.rename_all.ensures.reads c.rename_all.ensures.counted
+
+pub returns-in_err-put_rules-clause-reads : goal.returns-in_err-put_rules-clause-reads
+returns-in_err-put_rules-clause-reads g c = λ parts outer few.
+    renamed-few (word_algebra c.args.selector.now) (word_downward c.args.selector.now) (rules_of c.args.store.now.grammar.rules) c.rules-rules.ensures.grammar parts outer few c.args.steps.now c.rename_all.new.steps c.rename_all.ensures.reads c.rename_all.ensures.counted
+
+pub returns-clause-reads : goal.returns-clause-reads
+returns-clause-reads g c = λ parts outer few.
+    renamed-few (word_algebra c.args.selector.now) (word_downward c.args.selector.now) (rules_of c.args.store.now.grammar.rules) c.rules-rules.ensures.grammar parts outer few c.args.steps.now c.rename_all.new.steps c.rename_all.ensures.reads c.rename_all.ensures.counted

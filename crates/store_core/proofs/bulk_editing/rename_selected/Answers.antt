@@ -4,7 +4,9 @@ use Rattle.slt_grammar.specs.Grammars.{IsGrammar}
 use Rattle.store_core.specs.Acts.{RenameAll}
 use Rattle.store_core.specs.BulkEditing.{Renaming, edited_all}
 use Rattle.store_core.specs.BulkStores.{hits_in}
+use Rattle.store_core.specs.StoreOf.{parts_of}
 use Rattle.store_core.proofs.BulkEdits.{all-done, all-refused, no-name, no-query}
+use Rattle.store_core.proofs.EditReads.{edit-reads}
 use Rattle.store_core.proofs.Edited.{counted-store, held-store, store-held}
 use Rattle.store_core.proofs.bulk_editing.rename_selected.Goals as goal
 
@@ -67,4 +69,12 @@ returns-clause-comes g c = λ told count.
     let t = edited_all (Renaming c.args.name.now) (hits_in c.in_ok-selector.selector c.args.loaded.now.store) h.tree in
     let s = c.settle_where_due.ensures in
     all-done c.args.settings (RenameAll c.args.name.now c.args.query.now) (Renaming c.args.name.now) c.args.query.now (c.in_ok-check_name.ensures.name, refl, refl) c.args.loaded.now told count h.tree i c.in_ok-selector.selector c.in_ok-selector.ensures.selector
-    c.rename_hits.new.store c.settle_where_due.new.loaded c.settle_where_due.result made (s.store t made.store) s.names s.size s.kept (s.settled t made.store)
+    c.rename_hits.new.store c.settle_where_due.new.loaded c.settle_where_due.result made (s.store t made.store) s.names s.size s.kept s.ranks (s.settled t made.store)
+
+pub returns-in_err-rename_hits-clause-reads : goal.returns-in_err-rename_hits-clause-reads
+returns-in_err-rename_hits-clause-reads g c =
+    edit-reads c.args.query.now (parts_of c.args.loaded.now.store) c.in_ok-selector.selector c.args.steps.now c.rename_hits.new.steps c.spells_one.ensures c.in_ok-selector.ensures.selector c.rename_hits.ensures.reads
+
+pub returns-clause-reads : goal.returns-clause-reads
+returns-clause-reads g c =
+    edit-reads c.args.query.now (parts_of c.args.loaded.now.store) c.in_ok-selector.selector c.args.steps.now c.rename_hits.new.steps c.spells_one.ensures c.in_ok-selector.ensures.selector c.rename_hits.ensures.reads

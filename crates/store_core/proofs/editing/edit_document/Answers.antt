@@ -51,4 +51,4 @@ returns-clause-comes g c = λ told count.
     let t = edited h.tree c.in_ok-edit.edit in
     let s = c.settle_where_due.ensures in
     edit-done c.args.settings (act_of c.args.command) c.requires.edit c.args.loaded.now told count h.tree i c.in_ok-edit.edit c.in_ok-edit.ensures.asked c.nodes_of-count.result (c.nodes_of-count.ensures h.tree i) c.in_ok-edit.ensures.there
-    c.apply.new.store c.settle_where_due.new.loaded c.settle_where_due.result made (s.store t made.store) s.names s.size (s.settled t made.store)
+    c.apply.new.store c.settle_where_due.new.loaded c.settle_where_due.result made (s.store t made.store) s.names s.size s.kept s.ranks (s.settled t made.store)

@@ -1,7 +1,6 @@
-use Rattle.std.proofs.Common.{◌≡◌, ◌≤◌, ◌++◌, ℕ, List, length, take, sym, ap, subst, ◌∙◌, arith}
+use Rattle.std.proofs.Common.{◌≡◌, ◌++◌, ℕ, List, take, sym, subst, arith}
 use Rattle.tree_outside.specs.Shelf.{TakesFile}
-use Rattle.store_core.proofs.Feeds.{read_front}
-use Rattle.store_core.proofs.ReadSteps.{OnlyReads-refl, TakesFile-none, TakesFile-append}
+use Rattle.store_core.proofs.ReadSteps.{TakesFile-none, TakesFile-append}
 use Rattle.store_core.proofs.file_reading.read_bytes.Goals as goal
 
 pub loop-piece-init : goal.loop-piece-init

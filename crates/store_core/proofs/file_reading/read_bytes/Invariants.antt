@@ -1,4 +1,4 @@
-use Rattle.std.proofs.Common.{◌≡◌, ◌-◌, ◌≤◌, ◌^◌, length, vec_len}
+use Rattle.std.proofs.Common.{◌-◌, ◌≤◌, ◌^◌, length}
 use Rattle.tree_outside.specs.Shelf.{TakesFile}
 use Rattle.store_core.proofs.file_reading.read_bytes.Given as goal
 

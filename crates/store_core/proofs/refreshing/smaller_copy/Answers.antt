@@ -1,4 +1,4 @@
-use Rattle.std.proofs.Common.{◌≡◌, ap, ◌∙◌, subst, sym, arith}
+use Rattle.std.proofs.Common.{ap, ◌∙◌, subst, sym, arith}
 use Rattle.slt_grammar.specs.Digrams.{IsSettled}
 use Rattle.slt_grammar.specs.Grammars.{size, value}
 use Rattle.slt_grammar.specs.declared.rules.Rule.{Rule}

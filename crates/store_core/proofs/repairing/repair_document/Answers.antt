@@ -1,4 +1,4 @@
-use Rattle.std.proofs.Common.{◌≡◌, length, Some, refl, ap, ◌∙◌}
+use Rattle.std.proofs.Common.{length, Some, refl, ap, ◌∙◌}
 use Rattle.tree_outside.proofs.Beside.{Stays-refl}
 use Rattle.slt_grammar.specs.Keyed.{rules_of}
 use Rattle.store_core.specs.StoreOf.{parts_of}

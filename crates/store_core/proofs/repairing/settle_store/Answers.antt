@@ -1,4 +1,3 @@
-use Rattle.std.proofs.Common.{◌≡◌, ◌∙◌, arith}
 use Rattle.store_core.proofs.repairing.settle_store.Goals as goal
 
 pub refresh-requires-clause-store : goal.refresh-requires-clause-store

@@ -1,4 +1,4 @@
-use Rattle.std.proofs.Common.{◌≡◌, length, Some, refl, ap, ◌∙◌}
+use Rattle.std.proofs.Common.{length, Some, refl, ap, ◌∙◌}
 use Rattle.tree_outside.proofs.Beside.{Stays-refl}
 use Rattle.slt_grammar.specs.Keyed.{rules_of}
 use Rattle.store_core.specs.StoreOf.{parts_of}
@@ -29,6 +29,7 @@ returns-clause-repairs c = λ told count.
       state = ap Some c.in_ok-rules.ensures.replaced;
       still = stands-same (rules_of store.grammar.rules) rules store.names store.texts.texts held.tree settles.same held.stand;
       settled = settles.settled;
+      ranks = c.in_ok-settled.ensures.ranks;
       smaller = settles.nodes;
       heaviest = c.in_ok-heaviest.ensures.weight;
       files = Stays-refl (told_files told);

@@ -1,0 +1,7 @@
+use Rattle.layer_promises.proofs.outside.shelf_append_told.Goals as goal
+
+pub returns-clause-content : goal.returns-clause-content
+returns-clause-content g c = c.append.ensures.content
+
+pub returns-clause-cause : goal.returns-clause-cause
+returns-clause-cause g c = c.append.ensures.cause
